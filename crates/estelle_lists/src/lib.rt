@@ -1,0 +1,11 @@
+//! The list and box types of the whole repository: contracts see a list as its items and a box as
+//! its value, so that trees and values made of them are plain data.
+#![tactic(auto)]
+
+mod sequence;
+
+pub use sequence::Sequence;
+pub use sqlite_items::{Boxed, Items};
+
+#[cfg(test)]
+mod tests;
