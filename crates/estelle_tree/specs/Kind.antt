@@ -1,5 +1,5 @@
 -- The terminals of the grammar, and which one a token is.
-use Rattle.std.specs.Prelude.{ℕ, if◌then◌else◌, List, [], ◌∷◌, map}
+use Rattle.std.specs.Prelude.{ℕ, Bool, true, false, if◌then◌else◌, List, [], ◌∷◌, map}
 use Rattle.std.specs.Str.{bytes_eq}
 use Rattle.estelle_tree.specs.declared.token.Token.{Token}
 use Rattle.estelle_tree.specs.declared.token.Token.TheVariants as token
@@ -38,6 +38,14 @@ lookup (k ∷ ks) word = if bytes_eq k.0 word then k.1 else lookup ks word
 -- a reserved word is a terminal of its own, and any other word is a name
 unfoldable pub kind_of_word : List ℕ → Kind
 kind_of_word = lookup (map (λ k. (k.0.now, k.1)) RESERVED)
+
+abbrev pub is_name : Kind → Bool
+is_name kind.Name = true
+is_name _ = false
+
+-- a word that is not reserved
+unfoldable pub is_identifier : List ℕ → Bool
+is_identifier word = is_name (kind_of_word word)
 
 abbrev pub kind_of : Token → Kind
 kind_of (token.Word w) = kind_of_word w

@@ -4,7 +4,7 @@ ghost use Rattle.std.specs.Prelude.{◌≡◌, map};
 ghost use Rattle.std.specs.Str.{bytes_eq};
 ghost use Rattle.estelle_tree.specs.Kind as spec;
 
-use crate::{Symbol, Token};
+use crate::{Symbol, Token, Word};
 
 /// A terminal of the grammar.
 #[derive(Clone, Copy, Debug, PartialEq, Eq)]
@@ -247,6 +247,14 @@ fn kind_of_symbol(symbol: Symbol) -> Kind
         Symbol::Colon => Kind::Colon,
         Symbol::Becomes => Kind::Becomes,
     }
+}
+
+/// Whether a word is an identifier: it is not reserved.
+#[tactic(auto, unfolding(crate::specs::Kind::is_identifier))]
+pub fn is_identifier(word: &Word) -> bool
+    ensures { result ≡ spec.is_identifier word.now }
+{
+    matches!(kind_of_word(word.items()), Kind::Name)
 }
 
 /// The terminal that a token is.

@@ -9,7 +9,7 @@ mod token;
 mod word;
 
 pub use estelle_lists::{Boxed, Items, Sequence};
-pub use kind::{Kind, RESERVED, kind_of};
+pub use kind::{Kind, RESERVED, is_identifier, kind_of};
 pub use path::Path;
 pub use span::Span;
 pub use text::Text;
