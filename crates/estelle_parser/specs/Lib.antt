@@ -1,0 +1,5 @@
+pub mod Bytes
+pub mod Lexed
+pub mod Spelled
+pub mod Reading
+pub mod Gives
