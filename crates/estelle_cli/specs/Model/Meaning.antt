@@ -1,0 +1,68 @@
+-- What expressions, guards and blocks mean, where the variables have these values (ISO 7185, 6.7 and 6.8).
+use Rattle.std.specs.Prelude.{ℤ, pos, neg_ℤ, ◌+ℤ◌, int_lt, int_le, Bool, true, false, ◌&&◌, List, slice_set, slice_index_or, Option, Some, None, Result, Ok, Err, if◌then◌else◌}
+use Rattle.std.specs.Str.{bytes_eq}
+use Rattle.estelle_parser.specs.declared.tree.Atom.{Atom}
+use Rattle.estelle_parser.specs.declared.tree.Atom.TheVariants.{Number, Name}
+use Rattle.estelle_parser.specs.declared.tree.Sum.{Sum}
+use Rattle.estelle_parser.specs.declared.tree.Less.{Less}
+use Rattle.estelle_parser.specs.declared.tree.Block.{Block}
+use Rattle.estelle_cli.specs.declared.model.Value.{Value}
+use Rattle.estelle_cli.specs.declared.model.Value.TheVariants as value
+use Rattle.estelle_cli.specs.declared.model.Fault.{Fault}
+use Rattle.estelle_cli.specs.declared.model.Fault.TheVariants as fault
+use Rattle.estelle_cli.specs.declared.model.Guard.{Guard}
+use Rattle.estelle_cli.specs.declared.model.Guard.TheVariants.{Off, On, Faulted}
+use Rattle.estelle_cli.specs.Model.Subject.{Subject}
+
+infixl 10 ◌>>=◌
+abbrev pub ◌>>=◌ : {A B : Type 0} → Result A Fault → (A → Result B Fault) → Result B Fault
+(Ok x) >>= f = f x
+(Err e) >>= f = Err e
+
+abbrev pub maxint : ℤ
+maxint = pos 9223372036854775807
+
+-- a value of the type `integer`
+abbrev pub is_integer : ℤ → Bool
+is_integer z = int_le (neg_ℤ maxint) z && int_le z maxint
+
+abbrev pub add : ℤ → ℤ → Result ℤ Fault
+add a b = if is_integer (a +ℤ b) then Ok (a +ℤ b) else Err fault.Overflow
+
+abbrev pub read : Value → Result ℤ Fault
+read value.Unset = Err fault.Unset
+read (value.Int n) = Ok n
+
+-- a number, the variable's value, or maxint
+abbrev pub operand : Subject → List Value → Atom → Result ℤ Fault
+operand s variables (Number n) = Ok n
+operand s variables (Name word) = if bytes_eq word s.specification.variable then read (slice_index_or variables 0 value.Unset) else Ok maxint
+
+abbrev pub plus : Subject → List Value → ℤ → Option Atom → Result ℤ Fault
+plus s variables a None = Ok a
+plus s variables a (Some o) = operand s variables o >>= λ b. add a b
+
+-- operands are evaluated from left to right
+abbrev pub sum : Subject → List Value → Sum → Result ℤ Fault
+sum s variables e = operand s variables e.first >>= λ a. plus s variables a e.second
+
+abbrev pub less : Subject → List Value → Less → Result Bool Fault
+less s variables l = sum s variables l.left >>= λ a. sum s variables l.right >>= λ b. Ok (int_lt a b)
+
+-- without a delay
+abbrev pub at_once : Guard
+at_once = On 0 (Some 0)
+
+abbrev pub tested : Result Bool Fault → Guard
+tested (Ok true) = at_once
+tested (Ok false) = Off
+tested (Err kind) = Faulted kind
+
+-- a `provided` clause, or none
+abbrev pub provided : Subject → List Value → Option Less → Guard
+provided s variables None = at_once
+provided s variables (Some l) = tested (less s variables l)
+
+-- the variables after a block
+abbrev pub block : Subject → List Value → Block → Result (List Value) Fault
+block s variables b = sum s variables b.value >>= λ n. Ok (slice_set variables 0 (value.Int n))

@@ -1,0 +1,4 @@
+//! The program: it reads a specification, runs it, and writes the trace of its run.
+#![tactic(auto)]
+
+pub mod model;
