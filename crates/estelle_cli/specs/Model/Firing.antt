@@ -1,5 +1,5 @@
 -- Guards, firings and the start.
-use Rattle.std.specs.Prelude.{ℕ, Bool, true, ◌||◌, ◌==◌, nat_eq, List, [], ◌∷◌, length, Option, Some, None, Result, Ok, Err, if◌then◌else◌}
+use Rattle.std.specs.Prelude.{ℕ, Bool, true, ◌||◌, ◌==◌, nat_eq, List, [], length, Option, Some, None, Result, Ok, Err, if◌then◌else◌}
 use Rattle.std.specs.List.{list_any}
 use Rattle.std.specs.FinMap as map
 use Rattle.estelle_cli.specs.declared.model.Value.{Value}
@@ -19,7 +19,7 @@ is_in_state f (Some state) = length f.from == 0 || list_any (nat_eq state) f.fro
 
 abbrev pub guard_of : Subject → Instance → Option FlatTransition → Guard
 guard_of s i None = Off
-guard_of s i (Some f) = if is_in_state f i.state then provided s i.variables f.provided else Off
+guard_of s i (Some f) = if is_in_state f i.state then provided s.specification i.variables f.provided else Off
 
 abbrev pub guard_at : Subject → ℕ → Option Instance → Guard
 guard_at s n None = Off
@@ -52,7 +52,7 @@ done g m i to (Err kind) = Failed kind
 
 abbrev pub fire_of : Subject → Situation → List ℕ → Instance → Option FlatTransition → Firing
 fire_of s g m i None = Undefined
-fire_of s g m i (Some f) = done g m i f.to (block s i.variables f.block)
+fire_of s g m i (Some f) = done g m i f.to (block s.specification i.variables f.block)
 
 abbrev pub fire_at : Subject → Situation → List ℕ → ℕ → Option Instance → Firing
 fire_at s g m n None = Undefined
@@ -82,7 +82,7 @@ bare s = record {
 
 abbrev pub initialize : Subject → Option Initialization → Firing
 initialize s None = Undefined
-initialize s (Some init) = done (bare s) [] (new_root s) init.to (block s (new_root s).variables init.block)
+initialize s (Some init) = done (bare s) [] (new_root s) init.to (block s.specification (new_root s).variables init.block)
 
 -- the specification is initialized
 abbrev pub start : Subject → Firing

@@ -6,13 +6,13 @@ use Rattle.estelle_parser.specs.declared.tree.Atom.TheVariants.{Number, Name}
 use Rattle.estelle_parser.specs.declared.tree.Sum.{Sum}
 use Rattle.estelle_parser.specs.declared.tree.Less.{Less}
 use Rattle.estelle_parser.specs.declared.tree.Block.{Block}
+use Rattle.estelle_parser.specs.declared.tree.Spec.{Spec}
 use Rattle.estelle_cli.specs.declared.model.Value.{Value}
 use Rattle.estelle_cli.specs.declared.model.Value.TheVariants as value
 use Rattle.estelle_cli.specs.declared.model.Fault.{Fault}
 use Rattle.estelle_cli.specs.declared.model.Fault.TheVariants as fault
 use Rattle.estelle_cli.specs.declared.model.Guard.{Guard}
 use Rattle.estelle_cli.specs.declared.model.Guard.TheVariants.{Off, On, Faulted}
-use Rattle.estelle_cli.specs.Model.Subject.{Subject}
 
 infixl 10 ◌>>=◌
 abbrev pub ◌>>=◌ : {A B : Type 0} → Result A Fault → (A → Result B Fault) → Result B Fault
@@ -34,20 +34,20 @@ read value.Unset = Err fault.Unset
 read (value.Int n) = Ok n
 
 -- a number, the variable's value, or maxint
-abbrev pub operand : Subject → List Value → Atom → Result ℤ Fault
-operand s variables (Number n) = Ok n
-operand s variables (Name word) = if bytes_eq word s.specification.variable then read (slice_index_or variables 0 value.Unset) else Ok maxint
+abbrev pub operand : Spec → List Value → Atom → Result ℤ Fault
+operand t variables (Number n) = Ok n
+operand t variables (Name word) = if bytes_eq word t.variable then read (slice_index_or variables 0 value.Unset) else Ok maxint
 
-abbrev pub plus : Subject → List Value → ℤ → Option Atom → Result ℤ Fault
-plus s variables a None = Ok a
-plus s variables a (Some o) = operand s variables o >>= λ b. add a b
+abbrev pub plus : Spec → List Value → ℤ → Option Atom → Result ℤ Fault
+plus t variables a None = Ok a
+plus t variables a (Some o) = operand t variables o >>= λ b. add a b
 
 -- operands are evaluated from left to right
-abbrev pub sum : Subject → List Value → Sum → Result ℤ Fault
-sum s variables e = operand s variables e.first >>= λ a. plus s variables a e.second
+abbrev pub sum : Spec → List Value → Sum → Result ℤ Fault
+sum t variables e = operand t variables e.first >>= λ a. plus t variables a e.second
 
-abbrev pub less : Subject → List Value → Less → Result Bool Fault
-less s variables l = sum s variables l.left >>= λ a. sum s variables l.right >>= λ b. Ok (int_lt a b)
+abbrev pub less : Spec → List Value → Less → Result Bool Fault
+less t variables l = sum t variables l.left >>= λ a. sum t variables l.right >>= λ b. Ok (int_lt a b)
 
 -- without a delay
 abbrev pub at_once : Guard
@@ -59,10 +59,10 @@ tested (Ok false) = Off
 tested (Err kind) = Faulted kind
 
 -- a `provided` clause, or none
-abbrev pub provided : Subject → List Value → Option Less → Guard
-provided s variables None = at_once
-provided s variables (Some l) = tested (less s variables l)
+abbrev pub provided : Spec → List Value → Option Less → Guard
+provided t variables None = at_once
+provided t variables (Some l) = tested (less t variables l)
 
 -- the variables after a block
-abbrev pub block : Subject → List Value → Block → Result (List Value) Fault
-block s variables b = sum s variables b.value >>= λ n. Ok (slice_set variables 0 (value.Int n))
+abbrev pub block : Spec → List Value → Block → Result (List Value) Fault
+block t variables b = sum t variables b.value >>= λ n. Ok (slice_set variables 0 (value.Int n))

@@ -1,6 +1,6 @@
 -- Which transitions a system may select: a parent before its children, and among its own transitions
 -- one that no other has priority over.
-use Rattle.std.specs.Prelude.{◌≡◌, ◌≢◌, ℕ, ℤ, ◌<ℤ◌, List, [], ◌∷◌, ◌++◌, filter, Option, Some, None, Contains, is_some}
+use Rattle.std.specs.Prelude.{◌≢◌, ℕ, ℤ, ◌<ℤ◌, List, [], ◌∷◌, ◌++◌, filter, Option, Some, None, Contains, is_some}
 use Rattle.std.specs.List.{range_with_len, flat_map}
 use Rattle.std.specs.FinMap as map
 use Rattle.estelle_cli.specs.declared.model.Pair.{Pair}

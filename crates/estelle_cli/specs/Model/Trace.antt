@@ -49,8 +49,19 @@ abbrev pub fate_text : Bool → List ℕ
 fate_text true = codes "lost "
 fate_text false = codes "out "
 
-unfoldable pub out_line : Out → List ℕ
-out_line o = fate_text o.lost ++ (path_text o.path ++ (codes "." ++ (o.ip ++ (codes " " ++ (o.name ++ (values_text o.values ++ line_end))))))
+-- the interaction point, as `/1.p`
+abbrev pub point_text : Out → List ℕ
+point_text o = path_text o.path ++ (codes "." ++ o.ip)
+
+-- the interaction with its values, as `m(1,2)`
+abbrev pub interaction_text : Out → List ℕ
+interaction_text o = o.name ++ values_text o.values
+
+unfoldable pub out_text : Out → List ℕ
+out_text o = point_text o ++ (codes " " ++ interaction_text o)
+
+abbrev pub out_line : Out → List ℕ
+out_line o = fate_text o.lost ++ (out_text o ++ line_end)
 
 abbrev pub drop_line : ℕ → List ℕ
 drop_line number = codes "drop " ++ (decimal number ++ line_end)

@@ -1,0 +1,246 @@
+//! The text of a run.
+
+ghost use Rattle.std.specs.Prelude.{◌≡◌, ◌++◌, OnOk, IfOk};
+ghost use Rattle.std.specs.Fmt.{decimal};
+ghost use Rattle.estelle_cli.specs.Model.Trace as trace;
+
+use crate::model::{End, Event, Fault, Out, Pair, Run, Value};
+use estelle_tree::{Path, Sequence, Text};
+use std::alloc::{AllocError, Global};
+
+fn put(out: &mut Vec<u8>, text: &[u8]) -> Result<(), AllocError>
+    ensures { OnOk result (out.new.items ≡ out.old.items ++ text.now) }
+{
+    out.extend_from_slice(text)
+}
+
+fn put_number(alloc: Global, out: &mut Vec<u8>, number: u64) -> Result<(), AllocError>
+    ensures { OnOk result (out.new.items ≡ out.old.items ++ decimal number) }
+{
+    let text = number.to_string(alloc)?;
+    out.extend_from_slice(text.as_bytes())
+}
+
+fn put_numbers(alloc: Global, out: &mut Vec<u8>, numbers: &[u64]) -> Result<(), AllocError>
+    ensures { OnOk result (out.new.items ≡ out.old.items ++ trace.numbers_text numbers.now) }
+{
+    for number in numbers {
+        out.push(b'/')?;
+        put_number(alloc, out, *number)?;
+    }
+    Ok(())
+}
+
+#[tactic(auto, unfolding(crate::specs::Model::Trace::path_text))]
+fn put_path(alloc: Global, out: &mut Vec<u8>, path: &Path) -> Result<(), AllocError>
+    ensures { OnOk result (out.new.items ≡ out.old.items ++ trace.path_text path.now) }
+{
+    match path.items() {
+        [] => put(out, b"/"),
+        numbers => put_numbers(alloc, out, numbers),
+    }
+}
+
+fn put_pair(alloc: Global, out: &mut Vec<u8>, pair: &Pair) -> Result<(), AllocError>
+    ensures { OnOk result (out.new.items ≡ out.old.items ++ trace.pair_text pair.now) }
+{
+    put_path(alloc, out, &pair.path)?;
+    put(out, b":")?;
+    put_number(alloc, out, u64::from(pair.trans))
+}
+
+#[tactic(auto, unfolding(crate::specs::Model::Trace::takes_text))]
+fn put_takes(alloc: Global, out: &mut Vec<u8>, takes: &[Pair]) -> Result<(), AllocError>
+    ensures { OnOk result (out.new.items ≡ out.old.items ++ trace.takes_text takes.now) }
+{
+    match takes {
+        [] => put(out, b"-"),
+        [first, others @ ..] => {
+            put_pair(alloc, out, first)?;
+            for pair in others {
+                out.push(b' ')?;
+                put_pair(alloc, out, pair)?;
+            }
+            Ok(())
+        }
+    }
+}
+
+fn put_value(alloc: Global, out: &mut Vec<u8>, value: Value) -> Result<(), AllocError>
+    ensures { OnOk result (out.new.items ≡ out.old.items ++ trace.value_text value) }
+{
+    match value {
+        Value::Unset => put(out, b"?"),
+        Value::Int(number) => {
+            let text = number.to_string(alloc)?;
+            put(out, text.as_bytes())
+        }
+    }
+}
+
+#[tactic(auto, unfolding(crate::specs::Model::Trace::values_text))]
+fn put_values(alloc: Global, out: &mut Vec<u8>, values: &[Value]) -> Result<(), AllocError>
+    ensures { OnOk result (out.new.items ≡ out.old.items ++ trace.values_text values.now) }
+{
+    match values {
+        [] => Ok(()),
+        [first, others @ ..] => {
+            put(out, b"(")?;
+            put_value(alloc, out, *first)?;
+            for value in others {
+                out.push(b',')?;
+                put_value(alloc, out, *value)?;
+            }
+            put(out, b")")
+        }
+    }
+}
+
+fn put_fate(out: &mut Vec<u8>, lost: bool) -> Result<(), AllocError>
+    ensures { OnOk result (out.new.items ≡ out.old.items ++ trace.fate_text lost) }
+{
+    if lost {
+        put(out, b"lost ")
+    } else {
+        put(out, b"out ")
+    }
+}
+
+fn put_point(alloc: Global, into: &mut Vec<u8>, out: &Out) -> Result<(), AllocError>
+    ensures { OnOk result (into.new.items ≡ into.old.items ++ trace.point_text out.now) }
+{
+    put_path(alloc, into, &out.path)?;
+    put(into, b".")?;
+    put(into, out.ip.items())
+}
+
+fn put_interaction(alloc: Global, into: &mut Vec<u8>, out: &Out) -> Result<(), AllocError>
+    ensures { OnOk result (into.new.items ≡ into.old.items ++ trace.interaction_text out.now) }
+{
+    put(into, out.name.items())?;
+    put_values(alloc, into, out.values.items())
+}
+
+#[tactic(auto, unfolding(crate::specs::Model::Trace::out_text))]
+fn put_out_text(alloc: Global, into: &mut Vec<u8>, out: &Out) -> Result<(), AllocError>
+    ensures { OnOk result (into.new.items ≡ into.old.items ++ trace.out_text out.now) }
+{
+    put_point(alloc, into, out)?;
+    put(into, b" ")?;
+    put_interaction(alloc, into, out)
+}
+
+fn put_out(alloc: Global, into: &mut Vec<u8>, out: &Out) -> Result<(), AllocError>
+    ensures { OnOk result (into.new.items ≡ into.old.items ++ trace.out_line out.now) }
+{
+    put_fate(into, out.lost)?;
+    put_out_text(alloc, into, out)?;
+    put(into, b"\n")
+}
+
+fn put_drop(alloc: Global, out: &mut Vec<u8>, number: u64) -> Result<(), AllocError>
+    ensures { OnOk result (out.new.items ≡ out.old.items ++ trace.drop_line number) }
+{
+    put(out, b"drop ")?;
+    put_number(alloc, out, number)?;
+    put(out, b"\n")
+}
+
+fn put_outcome(
+    alloc: Global,
+    into: &mut Vec<u8>,
+    outs: &[Out],
+    drops: &[u64],
+) -> Result<(), AllocError>
+    ensures { OnOk result (into.new.items ≡ into.old.items ++ trace.outcome_lines outs.now drops.now) }
+{
+    for out in outs {
+        put_out(alloc, into, out)?;
+    }
+    for number in drops {
+        put_drop(alloc, into, *number)?;
+    }
+    Ok(())
+}
+
+/// The fault's name.
+pub fn kind_text(kind: Fault) -> &'static [u8]
+    ensures { result.now ≡ trace.kind_text kind }
+{
+    match kind {
+        Fault::Overflow => b"Overflow",
+        Fault::Unset => b"Unset",
+    }
+}
+
+#[tactic(auto, unfolding(crate::specs::Model::Trace::event_lines))]
+fn put_event(alloc: Global, out: &mut Vec<u8>, event: &Event) -> Result<(), AllocError>
+    ensures { OnOk result (out.new.items ≡ out.old.items ++ trace.event_lines event.now) }
+{
+    match event {
+        Event::Start { outs, drops } => {
+            put(out, b"start\n")?;
+            put_outcome(alloc, out, outs.items(), drops.items())
+        }
+        Event::Select { system, now, takes } => {
+            put(out, b"select ")?;
+            put_path(alloc, out, system)?;
+            put(out, b" now ")?;
+            put_number(alloc, out, *now)?;
+            put(out, b" takes ")?;
+            put_takes(alloc, out, takes.items())?;
+            put(out, b"\n")
+        }
+        Event::Fire {
+            path,
+            trans,
+            outs,
+            drops,
+        } => {
+            put(out, b"fire ")?;
+            put_path(alloc, out, path)?;
+            put(out, b" ")?;
+            put_number(alloc, out, u64::from(*trans))?;
+            put(out, b"\n")?;
+            put_outcome(alloc, out, outs.items(), drops.items())
+        }
+        Event::Fault { path, trans, kind } => {
+            put(out, b"fault ")?;
+            put_path(alloc, out, path)?;
+            put(out, b" ")?;
+            put_number(alloc, out, u64::from(*trans))?;
+            put(out, b" ")?;
+            put(out, kind_text(*kind))?;
+            put(out, b"\n")
+        }
+    }
+}
+
+#[tactic(auto, unfolding(crate::specs::Model::Trace::end_line))]
+fn put_end(out: &mut Vec<u8>, end: End) -> Result<(), AllocError>
+    ensures { OnOk result (out.new.items ≡ out.old.items ++ trace.end_line end) }
+{
+    match end {
+        End::Dead => put(out, b"end deadlock\n"),
+        End::Turns => put(out, b"end turns\n"),
+        End::Clock => put(out, b"end clock\n"),
+        End::Faulted(kind) => {
+            put(out, b"end fault ")?;
+            put(out, kind_text(kind))?;
+            put(out, b"\n")
+        }
+    }
+}
+
+/// The trace of a run that ends so.
+pub fn write(alloc: Global, run: &Run, end: End) -> Result<Text, AllocError>
+    ensures { IfOk result (λ t. t ≡ trace.text run.now.events end) }
+{
+    let mut out = Vec::new(alloc);
+    put(&mut out, b"estelle trace 1\n")?;
+    for event in run.events.items() {
+        put_event(alloc, &mut out, event)?;
+    }
+    put_end(&mut out, end)?;
+    Ok(Text::of(out))
+}
