@@ -1,0 +1,3 @@
+pub mod Going
+pub mod Planning
+pub mod Steps

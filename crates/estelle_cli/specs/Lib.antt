@@ -1,2 +1,3 @@
 pub mod Model
 pub mod World
+pub mod Worlds

@@ -4,3 +4,4 @@
 mod evaluate;
 pub mod model;
 mod trace;
+mod world;

@@ -64,12 +64,12 @@ abbrev pub priority_of : Option FlatTransition → Option ℤ
 priority_of None = None
 priority_of (Some f) = f.priority
 
-abbrev pub body_of : Option Instance → ℕ
-body_of None = 0
-body_of (Some i) = i.body
+abbrev pub priority_at : Subject → ℕ → Option Instance → Option ℤ
+priority_at s n None = None
+priority_at s n (Some i) = priority_of (transition s i.body n)
 
 abbrev pub priority : Subject → Situation → List ℕ → ℕ → Option ℤ
-priority s g m n = priority_of (transition s (body_of (map.get g.instances m)) n)
+priority s g m n = priority_at s n (map.get g.instances m)
 
 -- a smaller number, or a number where there is none
 abbrev pub IsHigher : Option ℤ → Option ℤ → Type 0
