@@ -1,0 +1,3 @@
+/// A device has failed. Its count of faults rose in that call.
+#[derive(Clone, Copy, Debug, PartialEq, Eq)]
+pub struct Failed;
