@@ -1,3 +1,4 @@
 pub mod Going
 pub mod Planning
 pub mod Steps
+pub mod InputLemmas

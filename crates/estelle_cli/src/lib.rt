@@ -1,7 +1,16 @@
 //! The program: it reads a specification, runs it, and writes the trace of its run.
 #![tactic(auto)]
 
+mod command;
 mod evaluate;
+mod input;
 pub mod model;
+mod outcome;
 mod trace;
+mod words;
 mod world;
+
+pub use command::{Command, Settings};
+pub use outcome::Status;
+pub use words::settings;
+pub use world::Limits;

@@ -1,0 +1,163 @@
+-- What a call of the program answers, and why.
+use Rattle.std.specs.Prelude.{◌≡◌, ℕ, List, [], ◌∷◌, ◌++◌, Option, Some, None, IfSome, codes}
+use Rattle.std.specs.Io.KnownBytes.{Appends, IsAtEnd}
+use Rattle.outside.specs.Counts.{Rose}
+use Rattle.outside.specs.Bytes.{AppendsFront}
+use Rattle.estelle_parser.specs.declared.tree.Spec.{Spec}
+use Rattle.estelle_cli.specs.declared.model.Event.{Event}
+use Rattle.estelle_cli.specs.declared.model.End.{End}
+use Rattle.estelle_cli.specs.declared.model.End.TheVariants as end
+use Rattle.estelle_cli.specs.declared.model.Fault.{Fault}
+use Rattle.estelle_cli.specs.declared.world.Limits.{Limits}
+use Rattle.estelle_cli.specs.declared.command.Settings.{Settings}
+use Rattle.estelle_cli.specs.declared.outcome.Refusal.{Refusal}
+use Rattle.estelle_cli.specs.declared.outcome.Refusal.TheVariants.{TooLong, NotBuilt}
+use Rattle.estelle_cli.specs.declared.outcome.Outcome.{Outcome}
+use Rattle.estelle_cli.specs.declared.outcome.Outcome.TheVariants as outcome
+use Rattle.estelle_cli.specs.declared.outcome.Status.{Status}
+use Rattle.estelle_cli.specs.declared.outcome.Status.TheVariants as status
+use Rattle.estelle_cli.specs.Model.Subject.{subject}
+use Rattle.estelle_cli.specs.Model.Runs.{IsRun}
+use Rattle.estelle_cli.specs.Model.Ends.{Stops}
+use Rattle.estelle_cli.specs.Model.Schedule.{IsScheduled}
+use Rattle.estelle_cli.specs.Model.Trace.{text, kind_text, line_end}
+use Rattle.estelle_cli.specs.Words.{limits_of}
+use Rattle.estelle_cli.specs.Input.{Reads, Refuses}
+
+-- ---- what is written to out
+
+-- A text is the trace of a run of the input's specification that stops with this end: the run's first event is its
+-- start, each later one applies to the situation before it, and all are those that the schedule chooses.
+pub record IsTrace (limits : Limits) (left : Option (List ℕ)) (e : End) (written : List ℕ) : Type 0 where
+  pub specification : Spec
+  pub events : List Event
+  pub input : IfSome left (λ bytes. Reads bytes specification)
+  pub run : IsRun (subject specification limits.budget) events
+  pub stops : Stops (subject specification limits.budget) events limits.turns e
+  pub scheduled : IsScheduled (subject specification limits.budget) limits.turns events e
+  pub lines : written ≡ text events e
+
+-- out has grown by just such a trace
+pub record WritesTrace (limits : Limits) (left : Option (List ℕ)) (e : End) (held held' : Option (List ℕ)) : Type 0 where
+  pub written : List ℕ
+  pub trace : IsTrace limits left e written
+  pub appends : Appends held held' written
+
+-- out has grown by a prefix of such a trace
+pub record WritesPrefix (limits : Limits) (left : Option (List ℕ)) (held held' : Option (List ℕ)) : Type 0 where
+  pub end : End
+  pub written : List ℕ
+  pub trace : IsTrace limits left end written
+  pub appends : AppendsFront held held' written
+
+-- an end that no fault made
+abbrev pub IsGood : End → Type 0
+IsGood end.Dead = Unit {0}
+IsGood end.Turns = Unit {0}
+IsGood end.Clock = ⊥
+IsGood (end.Faulted kind) = ⊥
+
+-- nothing went to out
+pub record IsQuiet (held held' : Option (List ℕ)) (faults faults' : ℕ) : Type 0 where
+  pub nothing : held' ≡ held
+  pub untried : faults' ≡ faults
+
+-- ---- what is written to err
+
+abbrev pub line : List ℕ → List ℕ
+line words = codes "estelle: " ++ (words ++ line_end)
+
+abbrev pub usage_line : List ℕ
+usage_line = line (codes "usage")
+
+abbrev pub refusal_line : Refusal → List ℕ
+refusal_line TooLong = line (codes "too long")
+refusal_line NotBuilt = line (codes "form not built")
+
+abbrev pub read_fault_line : List ℕ
+read_fault_line = line (codes "read fault")
+
+abbrev pub write_fault_line : List ℕ
+write_fault_line = line (codes "write fault")
+
+abbrev pub memory_line : List ℕ
+memory_line = line (codes "no memory")
+
+abbrev pub fault_line : Fault → List ℕ
+fault_line kind = line (codes "fault " ++ kind_text kind)
+
+-- err has taken a prefix of the line, and the whole line where its count did not rise
+pub record Reports (held held' : Option (List ℕ)) (faults faults' : ℕ) (words : List ℕ) : Type 0 where
+  pub prefix : AppendsFront held held' words
+  pub whole : (Rose faults faults' → ⊥) → Appends held held' words
+
+-- ---- by the status
+
+-- the run came to its end, and its trace was written
+abbrev pub IsFinished : Status → Type 0
+IsFinished status.Done = Unit {0}
+IsFinished status.PascalFault = Unit {0}
+IsFinished status.Refused = ⊥
+IsFinished status.Usage = ⊥
+IsFinished status.ReadFault = ⊥
+IsFinished status.WriteFault = ⊥
+IsFinished status.ClockFault = ⊥
+IsFinished status.Memory = ⊥
+
+-- there was no trace to write
+abbrev pub HasNoTrace : Status → Type 0
+HasNoTrace status.Done = ⊥
+HasNoTrace status.PascalFault = ⊥
+HasNoTrace status.WriteFault = ⊥
+HasNoTrace status.Refused = Unit {0}
+HasNoTrace status.Usage = Unit {0}
+HasNoTrace status.ReadFault = Unit {0}
+HasNoTrace status.ClockFault = Unit {0}
+HasNoTrace status.Memory = Unit {0}
+
+-- what may be answered where the input is to be refused: the refusal, or what comes before it
+abbrev pub MayRefuse : Status → Type 0
+MayRefuse status.Refused = Unit {0}
+MayRefuse status.ReadFault = Unit {0}
+MayRefuse status.Memory = Unit {0}
+MayRefuse status.Done = ⊥
+MayRefuse status.Usage = ⊥
+MayRefuse status.WriteFault = ⊥
+MayRefuse status.ClockFault = ⊥
+MayRefuse status.PascalFault = ⊥
+
+-- what may be answered where nothing fails: a finished run, or want of memory
+abbrev pub MayFinish : Status → Type 0
+MayFinish status.Done = Unit {0}
+MayFinish status.PascalFault = Unit {0}
+MayFinish status.Memory = Unit {0}
+MayFinish status.Refused = ⊥
+MayFinish status.Usage = ⊥
+MayFinish status.ReadFault = ⊥
+MayFinish status.WriteFault = ⊥
+MayFinish status.ClockFault = ⊥
+
+-- ---- inside
+
+-- how the writing of a trace with this end came out
+abbrev pub Emits : List ℕ → End → Option (List ℕ) → Option (List ℕ) → ℕ → ℕ → Outcome → Type 0
+Emits written e held held' faults faults' outcome.Done = IsGood e × Appends held held' written
+Emits written e held held' faults faults' (outcome.PascalFault kind) = (e ≡ end.Faulted kind) × Appends held held' written
+Emits written e held held' faults faults' outcome.WriteFault = Rose faults faults' × AppendsFront held held' written
+Emits written e held held' faults faults' (outcome.Refused refusal) = ⊥
+Emits written e held held' faults faults' outcome.ReadFault = ⊥
+Emits written e held held' faults faults' outcome.Memory = ⊥
+
+-- why a call ended so: by what the source had left and has, what out held and holds, and their counts
+abbrev pub Explains : Limits → Option (List ℕ) → Option (List ℕ) → ℕ → ℕ → Option (List ℕ) → Option (List ℕ) → ℕ → ℕ → Outcome → Type 0
+Explains limits left left' reads reads' held held' writes writes' outcome.Done =
+    (e : End) × IsGood e × WritesTrace limits left e held held' × IsAtEnd left'
+Explains limits left left' reads reads' held held' writes writes' (outcome.PascalFault kind) =
+    WritesTrace limits left (end.Faulted kind) held held' × IsAtEnd left'
+Explains limits left left' reads reads' held held' writes writes' (outcome.Refused refusal) =
+    IfSome left (Refuses refusal) × IsQuiet held held' writes writes'
+Explains limits left left' reads reads' held held' writes writes' outcome.ReadFault =
+    Rose reads reads' × IsQuiet held held' writes writes'
+Explains limits left left' reads reads' held held' writes writes' outcome.WriteFault =
+    Rose writes writes' × WritesPrefix limits left held held'
+Explains limits left left' reads reads' held held' writes writes' outcome.Memory = IsQuiet held held' writes writes'

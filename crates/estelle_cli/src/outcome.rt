@@ -1,0 +1,74 @@
+//! How a call of the program ends.
+
+ghost use Rattle.std.specs.Prelude.{◌≡◌};
+ghost use Rattle.estelle_cli.specs.declared.outcome.Stop.TheVariants.{Memory};
+ghost use Rattle.estelle_cli.specs.Statuses.{code_of};
+
+use crate::model::Fault;
+use std::alloc::AllocError;
+
+/// Why an input is refused.
+#[derive(Clone, Copy, Debug, PartialEq, Eq)]
+pub enum Refusal {
+    TooLong,
+    /// It is not the text of a small specification.
+    NotBuilt,
+}
+
+/// Why an input was not read as a specification, or a specification not run.
+#[derive(Clone, Copy, Debug, PartialEq, Eq)]
+pub enum Stop {
+    Refused(Refusal),
+    ReadFault,
+    Memory,
+}
+
+impl From<AllocError> for Stop {
+    ghost from_gives = { λ _ e. e ≡ Memory };
+
+    fn from(_error: AllocError) -> Stop {
+        Stop::Memory
+    }
+}
+
+/// How a call with meaningful words ended, with what its line says.
+#[derive(Clone, Copy, Debug, PartialEq, Eq)]
+pub enum Outcome {
+    Done,
+    PascalFault(Fault),
+    Refused(Refusal),
+    ReadFault,
+    WriteFault,
+    Memory,
+}
+
+/// How a call of the program ended.
+#[derive(Clone, Copy, Debug, PartialEq, Eq)]
+pub enum Status {
+    Done,
+    Refused,
+    Usage,
+    ReadFault,
+    WriteFault,
+    ClockFault,
+    Memory,
+    PascalFault,
+}
+
+impl Status {
+    /// The status with which the process ends.
+    pub fn code(self) -> u8
+        ensures { result ≡ code_of self }
+    {
+        match self {
+            Status::Done => 0,
+            Status::Refused => 1,
+            Status::Usage => 2,
+            Status::ReadFault => 3,
+            Status::WriteFault => 4,
+            Status::ClockFault => 5,
+            Status::Memory => 6,
+            Status::PascalFault => 7,
+        }
+    }
+}
