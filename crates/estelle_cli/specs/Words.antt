@@ -24,3 +24,11 @@ texts words = map (λ w. w.now) words
 
 abbrev pub limits_of : Settings → Limits
 limits_of set = record { turns = set.turns; budget = set.budget }
+
+abbrev pub limits_or_none : Option Settings → Limits
+limits_or_none None = record { turns = 0; budget = 0 }
+limits_or_none (Some set) = limits_of set
+
+-- the limits that the words set, where they have a meaning
+abbrev pub limits_meant : List (List ℕ) → Limits
+limits_meant words = limits_or_none (meaning words)

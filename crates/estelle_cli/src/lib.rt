@@ -6,11 +6,13 @@ mod evaluate;
 mod input;
 pub mod model;
 mod outcome;
+mod program;
 mod trace;
 mod words;
 mod world;
 
 pub use command::{Command, Settings};
 pub use outcome::Status;
+pub use program::estelle_plain;
 pub use words::settings;
 pub use world::Limits;
