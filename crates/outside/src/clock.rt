@@ -4,7 +4,7 @@ ghost use Rattle.outside.specs.Counts.{HasCause};
 
 use crate::Failed;
 
-/// What is asked for the time, in whole seconds.
+/// What is asked for the time. A moment is a number of units of time.
 pub trait Clock {
     /// The moment, where the clock tells.
     ghost moment: { Self → Option ℕ };
@@ -23,7 +23,8 @@ pub trait Clock {
     /// than that. After a failure the moment is as it was.
     fn wait(&mut self, until: u64) -> Result<u64, Failed>
         ensures until { IfOk result (λ m. until ≤ m) }
-        ensures told { IfOk result (λ m. IfSome (moment self.old) (λ now. (m ≡ max now until) × (moment self.new ≡ Some m))) }
+        ensures told { IfOk result (λ m. IfSome (moment self.old) (λ now. m ≡ max now until)) }
+        ensures moved { IfOk result (λ m. IfSome (moment self.old) (λ now. moment self.new ≡ Some m)) }
         ensures err { OnErr result (moment self.new ≡ moment self.old) }
         ensures cause { HasCause (faults self.old) (faults self.new) result };
 

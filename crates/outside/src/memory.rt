@@ -29,13 +29,15 @@ impl Source for MemorySource {
     fn read(&mut self, buf: &mut [u8]) -> Result<usize, Failed>
         requires { 0 < length buf.old }
         ensures bound { ReadsAtMost result buf.new }
-        ensures bytes { ReadConsumes (Some (drop self.old.at self.old.bytes.items)) (Some (drop self.new.at self.new.bytes.items)) result buf.new }
+        ensures bytes { ReadConsumes (Some (drop self.old.at self.old.bytes.items))
+            (Some (drop self.new.at self.new.bytes.items)) result buf.new }
         ensures cause { HasCause self.old.faults self.new.faults result }
 
         // It fails at the listed calls, and else gives a whole piece where so much is left.
         ensures calls { self.new.calls ≡ next_count self.old.calls }
         ensures listed { IsErr result ↔ Contains self.old.failing.items self.new.calls }
-        ensures piece { IfOk result (λ n. n ≡ min (min (vec_len self.old.bytes - self.old.at) self.old.piece) (length buf.old)) }
+        ensures piece { IfOk result (λ n.
+            n ≡ min (min (vec_len self.old.bytes - self.old.at) self.old.piece) (length buf.old)) }
         ensures count { CountsFault self.old.faults self.new.faults result }
         ensures bytes_kept { self.new.bytes ≡ self.old.bytes }
         ensures piece_kept { self.new.piece ≡ self.old.piece }
@@ -75,14 +77,18 @@ impl Sink for MemorySink {
     fn write(&mut self, bytes: &[u8]) -> Result<usize, Failed>
         requires { 0 < length bytes.now }
         ensures bound { IfOk result (λ n. (0 < n) × (n ≤ length bytes.now)) }
-        ensures bytes { WriteAppends (Some self.old.held.items) (Some self.new.held.items) result bytes.now }
+        ensures bytes { WriteAppends (Some self.old.held.items) (Some self.new.held.items)
+            result bytes.now }
         ensures cause { HasCause self.old.faults self.new.faults result }
 
         // It fails at the listed calls and where room is short, and else takes a whole piece.
         ensures calls { self.new.calls ≡ next_count self.old.calls }
         ensures listed { Contains self.old.failing.items self.new.calls → IsErr result }
-        ensures full { self.old.room < vec_len self.old.held + min (length bytes.now) self.old.piece → IsErr result }
-        ensures ok { ¬ Contains self.old.failing.items self.new.calls → vec_len self.old.held + min (length bytes.now) self.old.piece ≤ self.old.room → IsOk result }
+        ensures full { self.old.room < vec_len self.old.held + min (length bytes.now) self.old.piece
+            → IsErr result }
+        ensures ok { ¬ Contains self.old.failing.items self.new.calls
+            → vec_len self.old.held + min (length bytes.now) self.old.piece ≤ self.old.room
+            → IsOk result }
         ensures piece { IfOk result (λ n. n ≡ min (length bytes.now) self.old.piece) }
         ensures count { CountsFault self.old.faults self.new.faults result }
         ensures piece_kept { self.new.piece ≡ self.old.piece }

@@ -14,6 +14,7 @@ pub struct StdSource<R> {
 }
 
 impl<R: Read> StdSource<R> {
+    /// Reads nothing yet.
     pub fn new(reader: R) -> StdSource<R>
         ensures left { ⟦<StdSource<R> as Source>⟧.left result ≡ R.remaining reader }
         ensures faults { ⟦<StdSource<R> as Source>⟧.faults result ≡ 0 }
@@ -23,16 +24,19 @@ impl<R: Read> StdSource<R> {
 }
 
 impl<R: Read> Source for StdSource<R> {
-    ghost left = { λ source. R.remaining source.reader };
+    ghost use Rattle.outside.specs.Standard.{reader_of, source_faults};
 
-    ghost faults = { λ source. source.faults };
+    ghost left = { λ source. R.remaining (reader_of source) };
+
+    ghost faults = { source_faults };
 
     fn read(&mut self, buf: &mut [u8]) -> Result<usize, Failed>
         requires { 0 < length buf.old }
         ensures bound { ReadsAtMost result buf.new }
-        ensures bytes { ReadConsumes (R.remaining self.old.reader) (R.remaining self.new.reader) result buf.new }
-        ensures cause { HasCause self.old.faults self.new.faults result }
-        ensures count { CountsFault self.old.faults self.new.faults result }
+        ensures bytes { ReadConsumes (R.remaining (reader_of self.old)) (R.remaining (reader_of self.new))
+            result buf.new }
+        ensures cause { HasCause (source_faults self.old) (source_faults self.new) result }
+        ensures count { CountsFault (source_faults self.old) (source_faults self.new) result }
     {
         match self.reader.read(buf) {
             Ok(count) => Ok(count),
@@ -52,6 +56,7 @@ pub struct StdSink<W> {
 }
 
 impl<W: Write> StdSink<W> {
+    /// Writes nothing yet.
     pub fn new(writer: W) -> StdSink<W>
         ensures held { ⟦<StdSink<W> as Sink>⟧.held result ≡ W.contents writer }
         ensures faults { ⟦<StdSink<W> as Sink>⟧.faults result ≡ 0 }
@@ -61,16 +66,19 @@ impl<W: Write> StdSink<W> {
 }
 
 impl<W: Write> Sink for StdSink<W> {
-    ghost held = { λ sink. W.contents sink.writer };
+    ghost use Rattle.outside.specs.Standard.{writer_of, sink_faults};
 
-    ghost faults = { λ sink. sink.faults };
+    ghost held = { λ sink. W.contents (writer_of sink) };
+
+    ghost faults = { sink_faults };
 
     fn write(&mut self, bytes: &[u8]) -> Result<usize, Failed>
         requires { 0 < length bytes.now }
         ensures bound { IfOk result (λ n. (0 < n) × (n ≤ length bytes.now)) }
-        ensures bytes { WriteAppends (W.contents self.old.writer) (W.contents self.new.writer) result bytes.now }
-        ensures cause { HasCause self.old.faults self.new.faults result }
-        ensures count { CountsFault self.old.faults self.new.faults result }
+        ensures bytes { WriteAppends (W.contents (writer_of self.old)) (W.contents (writer_of self.new))
+            result bytes.now }
+        ensures cause { HasCause (sink_faults self.old) (sink_faults self.new) result }
+        ensures count { CountsFault (sink_faults self.old) (sink_faults self.new) result }
     {
         match self.writer.write(bytes) {
             Ok(0) | Err(_) => {

@@ -1,7 +1,6 @@
-ghost use Rattle.std.specs.Prelude.{◌≡◌, ◌<◌, ◌≤◌, ◌-◌, Some, None, Ok, IfOk, drop, length, min, vec_len};
+ghost use Rattle.std.specs.Prelude.{◌≡◌, ◌<◌, ◌≤◌, ◌-◌, Some, None, Ok, drop, length, min, vec_len};
 ghost use Rattle.std.specs.Io.{ReadsAtMost};
-ghost use Rattle.std.specs.Io.KnownBytes.{ReadConsumes, WriteAppends};
-ghost use Rattle.outside.specs.Counts.{HasCause};
+ghost use Rattle.std.specs.Io.KnownBytes.{ReadConsumes};
 
 use crate::source::copy_front;
 use crate::{Failed, Sink, Source};
@@ -23,7 +22,8 @@ impl Source for SureSource {
     fn read(&mut self, buf: &mut [u8]) -> Result<usize, Failed>
         requires { 0 < length buf.old }
         ensures bound { ReadsAtMost result buf.new }
-        ensures bytes { ReadConsumes (Some (drop self.old.at self.old.bytes.items)) (Some (drop self.new.at self.new.bytes.items)) result buf.new }
+        ensures bytes { ReadConsumes (Some (drop self.old.at self.old.bytes.items))
+            (Some (drop self.new.at self.new.bytes.items)) result buf.new }
         ensures ok { result ≡ Ok (min (vec_len self.old.bytes - self.old.at) (length buf.old)) }
         ensures kept { self.new.bytes ≡ self.old.bytes }
     {

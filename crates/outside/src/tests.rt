@@ -82,12 +82,12 @@ fn sinks_in_memory(rt: HostRuntime) -> Result<(), Fail> {
 
 /// A reader whose first call fails, and then the bytes.
 #[derive(Drop)]
-struct Interrupted {
+struct FailsOnce {
     bytes: &'static [u8],
     failed: bool,
 }
 
-impl Read for Interrupted {
+impl Read for FailsOnce {
     fn read(&mut self, buf: &mut [u8]) -> io::Result<usize> {
         if !self.failed {
             self.failed = true;
@@ -104,7 +104,7 @@ fn readers_of_std(rt: HostRuntime) -> Result<(), Fail> {
         drained(rt.alloc(), &mut source)?.as_slice(),
         b"hello".as_slice()
     );
-    let mut source = StdSource::new(Interrupted {
+    let mut source = StdSource::new(FailsOnce {
         bytes: b"hello",
         failed: false,
     });
@@ -156,7 +156,7 @@ fn sent<T: Send>(value: T) -> T {
 }
 
 #[test]
-fn the_machine_s_clock(rt: HostRuntime) {
+fn clock_of_the_machine(rt: HostRuntime) {
     let mut clock = sent(MachineClock::new(rt));
     assert_eq!(rt; clock.now(1_000_000), Ok(1_000_000));
     let waited = clock.wait(2_000_000).unwrap_or(0);

@@ -1,0 +1,20 @@
+-- What the adapters of std's readers and writers keep.
+use Rattle.std.specs.Prelude.{ℕ}
+use Rattle.outside.specs.declared.standard.StdSource.{StdSource}
+use Rattle.outside.specs.declared.standard.StdSink.{StdSink}
+
+-- the reader that a source reads from
+abbrev pub reader_of : {R : Type 0} → StdSource R → R
+reader_of source = source.reader
+
+-- how many of its reads failed
+abbrev pub source_faults : {R : Type 0} → StdSource R → ℕ
+source_faults source = source.faults
+
+-- the writer that a sink writes to
+abbrev pub writer_of : {W : Type 0} → StdSink W → W
+writer_of sink = sink.writer
+
+-- how many of its writes failed or took nothing
+abbrev pub sink_faults : {W : Type 0} → StdSink W → ℕ
+sink_faults sink = sink.faults
