@@ -1,0 +1,57 @@
+//! The program `estelle`: the words behind its name, the standard streams, and the status with which
+//! the process ends.
+#![tactic(auto)]
+
+use estelle_cli::{Status, estelle_plain};
+use outside::{MachineClock, StdSink, StdSource, write_all};
+use std::alloc::AllocError;
+use std::io::ErrorKind;
+use std::process::ExitCode;
+use std::{env, io};
+
+/// The words behind the program's name. Where one is no UTF-8 text there are none, which has no
+/// meaning either.
+fn words(rt: &HostRuntime) -> io::Result<Vec<String>> {
+    let mut words = Vec::new(rt.alloc());
+    match env::args(rt) {
+        Ok(arguments) => {
+            for argument in arguments.skip(1) {
+                words.push(argument)?;
+            }
+        }
+        Err(error) if error.kind() == ErrorKind::InvalidData => {}
+        Err(error) => return Err(error),
+    }
+    Ok(words)
+}
+
+fn run(rt: &HostRuntime, words: &[String]) -> Result<Status, AllocError> {
+    let mut texts = Vec::new(rt.alloc());
+    for word in words {
+        texts.push(word.as_str())?;
+    }
+    let mut source = StdSource::new(rt.stdin());
+    let mut out = StdSink::new(rt.stdout());
+    let mut err = StdSink::new(rt.stderr());
+    let clock = MachineClock::new(rt);
+    let (status, _) = estelle_plain(rt.alloc(), &texts, &mut source, &mut out, &mut err, clock);
+    Ok(status)
+}
+
+/// Want of memory before the program could begin.
+fn no_memory(rt: &HostRuntime) -> Status {
+    let mut err = StdSink::new(rt.stderr());
+    let _ = write_all(&mut err, b"estelle: no memory\n");
+    Status::Memory
+}
+
+fn main(rt: HostRuntime) -> ExitCode {
+    let status = match words(&rt) {
+        Ok(words) => match run(&rt, &words) {
+            Ok(status) => status,
+            Err(_) => no_memory(&rt),
+        },
+        Err(_) => no_memory(&rt),
+    };
+    ExitCode::from(status.code())
+}
