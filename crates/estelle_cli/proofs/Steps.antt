@@ -18,11 +18,11 @@ use Rattle.estelle_cli.specs.declared.model.End.TheVariants as end
 use Rattle.estelle_cli.specs.declared.model.Guard.{Guard}
 use Rattle.estelle_cli.specs.declared.model.Guard.TheVariants.{Off, On, Faulted}
 use Rattle.estelle_cli.specs.Model.Orders.{path_cmp, IsBefore}
-use Rattle.estelle_cli.specs.Model.Subject.{Subject, subject, Attribute, Systemprocess}
+use Rattle.estelle_cli.specs.Model.Subject.{Subject, subject, Systemprocess}
 use Rattle.estelle_cli.specs.Model.Meaning.{provided, block}
 use Rattle.estelle_cli.specs.Model.Situation.{Situation, Instance}
 use Rattle.estelle_cli.specs.Model.Firing.{Firing, Ran, Failed, bare, new_root, start, done, fire, fire_at, guard, guard_at, put_instance}
-use Rattle.estelle_cli.specs.Model.Selection.{Selects, own, process, Eligible, children, births_of, IsOn, IsSystem, IsSystemAttribute, IsProcess, IsHigher, attribute_of, attribute_at, priority, priority_at}
+use Rattle.estelle_cli.specs.Model.Selection.{Selects, own, process, children, births_of, IsOn, IsSystem, IsSystemAttribute, IsProcess, IsHigher, attribute_of, attribute_at, priority, priority_at}
 use Rattle.estelle_cli.specs.Model.Runs.{IsRun, Begins, situation, started, next, fired, renew, without, Applies, IsIdle, IsFaulted, IsFirstFault, HasRun}
 use Rattle.estelle_cli.specs.Model.Ends.{IsNoFault, IsFault, last_event, fires, IsDead}
 use Rattle.estelle_cli.specs.Model.Schedule.{ArePlanned, IsNext, IsDue, IsFirstDue, NoneDue, IsFirstOffer, Chosen, awaits}

@@ -1,5 +1,5 @@
 -- What a call of the program answers, and why.
-use Rattle.std.specs.Prelude.{◌≡◌, ℕ, List, [], ◌∷◌, ◌++◌, Option, Some, None, IfSome, codes}
+use Rattle.std.specs.Prelude.{◌≡◌, ℕ, List, ◌++◌, Option, IfSome, codes}
 use Rattle.std.specs.Io.KnownBytes.{Appends, IsAtEnd}
 use Rattle.outside.specs.Counts.{Rose}
 use Rattle.outside.specs.Bytes.{AppendsFront}
@@ -9,7 +9,6 @@ use Rattle.estelle_cli.specs.declared.model.End.{End}
 use Rattle.estelle_cli.specs.declared.model.End.TheVariants as end
 use Rattle.estelle_cli.specs.declared.model.Fault.{Fault}
 use Rattle.estelle_cli.specs.declared.world.Limits.{Limits}
-use Rattle.estelle_cli.specs.declared.command.Settings.{Settings}
 use Rattle.estelle_cli.specs.declared.outcome.Refusal.{Refusal}
 use Rattle.estelle_cli.specs.declared.outcome.Refusal.TheVariants.{TooLong, NotBuilt}
 use Rattle.estelle_cli.specs.declared.outcome.Outcome.{Outcome}
@@ -21,7 +20,6 @@ use Rattle.estelle_cli.specs.Model.Runs.{IsRun}
 use Rattle.estelle_cli.specs.Model.Ends.{Stops}
 use Rattle.estelle_cli.specs.Model.Schedule.{IsScheduled}
 use Rattle.estelle_cli.specs.Model.Trace.{text, kind_text, line_end}
-use Rattle.estelle_cli.specs.Words.{limits_of}
 use Rattle.estelle_cli.specs.Input.{Reads, Refuses}
 
 -- ---- what is written to out

@@ -1,5 +1,5 @@
 -- Which inputs are specifications, and which are refused.
-use Rattle.std.specs.Prelude.{◌≡◌, ℕ, ◌<◌, ◌≤◌, List, length, Option, IfSome}
+use Rattle.std.specs.Prelude.{ℕ, ◌<◌, ◌≤◌, List, length, Option, IfSome}
 use Rattle.std.specs.Io.KnownBytes.{Consumes}
 use Rattle.outside.specs.Counts.{Rose}
 use Rattle.estelle_parser.specs.declared.tree.Spec.{Spec}

@@ -10,7 +10,7 @@ use Rattle.estelle_cli.specs.declared.model.End.{End}
 use Rattle.estelle_cli.specs.declared.model.End.TheVariants.{Dead, Turns, Faulted, Clock}
 use Rattle.estelle_cli.specs.declared.model.Guard.{Guard}
 use Rattle.estelle_cli.specs.declared.model.Guard.TheVariants.{Off}
-use Rattle.estelle_cli.specs.Model.Subject.{Subject, subject}
+use Rattle.estelle_cli.specs.Model.Subject.{subject}
 use Rattle.estelle_cli.specs.Model.Meaning.{◌>>=◌, provided}
 use Rattle.estelle_cli.specs.Model.Situation.{Situation, Instance}
 use Rattle.estelle_cli.specs.Model.Selection.{IsOn}

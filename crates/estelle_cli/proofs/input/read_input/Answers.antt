@@ -1,4 +1,4 @@
-use Rattle.std.proofs.Common.{◌++◌, length, take, length-append, length-take, arith}
+use Rattle.std.proofs.Common.{◌++◌, take, length-append, length-take, arith}
 use Rattle.outside.proofs.Bytes.{Consumes-then}
 use Rattle.estelle_cli.proofs.input.read_input.Goals as goal
 
