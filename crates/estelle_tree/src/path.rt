@@ -4,7 +4,7 @@ use std::alloc::{AllocError, Global};
 use std::marker::Model;
 
 /// The birth numbers on the way from the root to an instance.
-#[derive(Drop)]
+#[derive(Debug, Drop)]
 pub struct Path {
     numbers: Vec<u64>,
 }
