@@ -1,2 +1,4 @@
 pub mod Kind
 pub mod Spans
+pub mod Input
+pub mod Spelling
