@@ -2,3 +2,5 @@ pub mod Kind
 pub mod Spans
 pub mod Input
 pub mod Spelling
+pub mod Types
+pub mod Expressions
