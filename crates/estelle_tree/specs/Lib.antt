@@ -4,3 +4,4 @@ pub mod Input
 pub mod Spelling
 pub mod Types
 pub mod Expressions
+pub mod Statements
