@@ -5,3 +5,5 @@ pub mod Spelling
 pub mod Types
 pub mod Expressions
 pub mod Statements
+pub mod Declarations
+pub mod Clauses
