@@ -1,5 +1,6 @@
 -- Which list of tokens a specification's tree spells.
-use Rattle.std.specs.Prelude.{ℕ, ◌-◌, ◌≤◌, ◌^◌, ◌||◌, ◌==◌, IsTrue, pos, ◌≤ℤ◌, List, [], ◌∷◌, All, ⊤}
+use Rattle.std.specs.Prelude.{ℕ, ◌-◌, ◌≤◌, ◌^◌, Bool, false, ◌&&◌, ◌||◌, ◌==◌, IsTrue, pos, ◌≤ℤ◌, List, [], ◌∷◌, All, ⊤}
+use Rattle.std.specs.List.{list_all}
 use Rattle.std.specs.Char.{is_ascii_digit, is_ascii_lowercase}
 use Rattle.estelle_tree.specs.declared.token.Token.{Token}
 use Rattle.estelle_tree.specs.declared.token.Token.TheVariants as token
@@ -9,7 +10,7 @@ use Rattle.estelle_tree.specs.Input.{input}
 use Rattle.estelle_tree.specs.Specification.{IsSpec}
 
 -- so many levels of nesting may stand in one another
-abbrev pub max_nesting : ℕ
+unfoldable pub max_nesting : ℕ
 max_nesting = 200
 
 -- how many more may open where a piece stands at this nesting
@@ -17,13 +18,13 @@ abbrev pub room_at : ℕ → ℕ
 room_at depth = max_nesting - depth
 
 -- a letter, then letters, digits and `_`, in lower case
-abbrev pub IsWordForm : List ℕ → Type 0
-IsWordForm [] = ⊥
-IsWordForm (b ∷ bs) = IsTrue (is_ascii_lowercase b) × All (λ b. IsTrue (is_ascii_lowercase b || is_ascii_digit b || b == 95)) bs
+abbrev pub is_word_form : List ℕ → Bool
+is_word_form [] = false
+is_word_form (b ∷ bs) = is_ascii_lowercase b && list_all (λ b. is_ascii_lowercase b || is_ascii_digit b || b == 95) bs
 
 -- what a token can be: a number is not negative, and a character is printable
 abbrev pub IsToken : Token → Type 0
-IsToken (token.Word w) = IsWordForm w
+IsToken (token.Word w) = IsTrue (is_word_form w)
 IsToken (token.Number n) = (pos 0 ≤ℤ n) × (n ≤ℤ pos (2 ^ 63 - 1))
 IsToken (token.Char c) = (32 ≤ c) × (c ≤ 126)
 IsToken (token.Symbol s) = ⊤
