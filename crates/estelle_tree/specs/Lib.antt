@@ -1,1 +1,11 @@
 pub mod Kind
+pub mod Spans
+pub mod Input
+pub mod Spelling
+pub mod Types
+pub mod Expressions
+pub mod Statements
+pub mod Declarations
+pub mod Clauses
+pub mod Specification
+pub mod Spells
