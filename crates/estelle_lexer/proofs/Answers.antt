@@ -8,8 +8,8 @@ use Rattle.estelle_lexer.specs.declared.error.LexError.{LexError}
 use Rattle.estelle_lexer.specs.declared.error.LexError.TheVariants.{At, Memory}
 use Rattle.estelle_lexer.specs.declared.list.Tokens.{Tokens}
 use Rattle.estelle_lexer.specs.Lex.{Lexing, lex}
-use Rattle.estelle_lexer.specs.Tokens.{Found, IsRefused, Gives, Refuses}
-use Rattle.estelle_lexer.proofs.Lexes.{Tells, lex_tells, lexed_found, error_found, lexed_spans}
+use Rattle.estelle_lexer.specs.Tokens.{Found, IsRefused, Gives, Refuses, IsBelow}
+use Rattle.estelle_lexer.proofs.Lexes.{Tells, lex_tells, lexed_found, error_found, lexed_spans, span_count, error_below}
 
 module _ (bytes : List ℕ) where
   tells : Tells false 0 [] bytes (lex bytes)
@@ -79,8 +79,23 @@ module _ (bytes : List ℕ) where
         go (Ok t) h = (lexed_spans h).0
         go (Err e) h = tt
 
-    pub answer_within : IfOk r (λ t. t.rest ≤ length bytes)
-    answer_within = go r answer_lexed
+    pub answer_count : IfOk r (λ t. length t.items ≤ t.rest)
+    answer_count = go r answer_lexed
+      where
+        go : (r : Result Tokens LexError) → IfOk r (λ t. IsLexed bytes t.items t.rest) → IfOk r (λ t. length t.items ≤ t.rest)
+        go (Ok t) h = let n = span_count 0 t.rest t.items (lexed_spans h).0 in omega arith
+        go (Err e) h = tt
+
+    pub answer_below : IfErr r (IsBelow (length bytes))
+    answer_below = go r answer_refused
+      where
+        go : (r : Result Tokens LexError) → IfErr r (IsRefused bytes) → IfErr r (IsBelow (length bytes))
+        go (Ok t) h = tt
+        go (Err Memory) h = tt
+        go (Err (At place)) h = let n = error_below h in omega arith
+
+    pub answer_rest : IfOk r (λ t. t.rest ≤ length bytes)
+    answer_rest = go r answer_lexed
       where
         go : (r : Result Tokens LexError) → IfOk r (λ t. IsLexed bytes t.items t.rest) → IfOk r (λ t. t.rest ≤ length bytes)
         go (Ok t) h = let s = (lexed_spans h).1 in omega arith
@@ -104,5 +119,5 @@ module _ (bytes : List ℕ) where
       go (Ok r) e = inl (r.0, r.1, ok_tells r.0 r.1 e)
       go (Err place) e = inr (place, err_tells place e)
 
-  pub spans_follow : (items : List Placed) (rest : ℕ) → IsLexed bytes items rest → FollowOneAnother 0 items rest × (rest ≤ length bytes)
-  spans_follow items rest h = let s = lexed_spans h in (s.0, (let within = s.1 in omega arith))
+  pub spans_follow : (items : List Placed) (rest : ℕ) → IsLexed bytes items rest → FollowOneAnother 0 items rest × (length items ≤ rest) × (rest ≤ length bytes)
+  spans_follow items rest h = let s = lexed_spans h in (s.0, (let count = span_count 0 rest items s.0 in omega arith), (let within = s.1 in omega arith))

@@ -101,6 +101,11 @@ other_found (FirstOther.separator at run after place is more) (suc n) fits =
     let less = shorter run after (separator_some is) in
     separator_step n at run after is ∙ other_found more n (omega arith)
 
+other_below : {at : ℕ} {text : List ℕ} {place : ℕ} → FirstOther at text place → place < at + length text
+other_below (FirstOther.here at [] some none) = absurd (some refl)
+other_below (FirstOther.here at (b ∷ text) some none) = omega arith
+other_below (FirstOther.separator at run after place is more) = let h = other_below more in omega (arith, length-append run after)
+
 -- ---- the answer
 
 module _ (text : List ℕ) (at : ℕ) (r : Option ℕ) (same : r ≡ other_from (length text) at text) where
@@ -121,6 +126,13 @@ module _ (text : List ℕ) (at : ℕ) (r : Option ℕ) (same : r ≡ other_from 
 
   pub answer_other : (place : ℕ) → (r ≡ Some place → FirstOther at text place) × (FirstOther at text place → r ≡ Some place)
   answer_other place = (λ e. subst (Finds at text) e answer_finds, λ h. same ∙ other_found h (length text) (omega arith))
+
+  pub answer_within : IfSome r (λ place. place < at + length text)
+  answer_within = go r answer_finds
+    where
+      go : (o : Option ℕ) → Finds at text o → IfSome o (λ place. place < at + length text)
+      go None h = tt
+      go (Some place) h = other_below h
 
 -- ---- the loop
 
@@ -146,3 +158,7 @@ pub slice_all : (at : ℕ) (bytes : List ℕ) (r : Option ℕ) → (let text = t
 slice_all at bytes r e =
     let whole : take (length bytes - at) (drop at bytes) ≡ drop at bytes = take_all (length bytes - at) (drop at bytes) (omega (arith, length-drop at bytes)) in
     e ∙ ap (λ t. other_from (length t) at t) whole
+
+pub place_within : (at : ℕ) (bytes : List ℕ) (r : Option ℕ) → at ≤ length bytes → IfSome r (λ place. place < at + length (drop at bytes)) → IfSome r (λ place. place < length bytes)
+place_within at bytes None low h = tt
+place_within at bytes (Some place) low h = omega (arith, length-drop at bytes)

@@ -231,3 +231,14 @@ lexed_spans (Lexed.item after_end at t run after tokens rest is goes_on more) =
 lexed_spans (Lexed.last after_end at t run after is stop) =
     let some = token_some t run after is in
     ((omega arith, omega arith, omega arith), omega (arith, length-append run after))
+
+-- no more tokens than bytes
+pub span_count : (from to : ℕ) (tokens : List Placed) → FollowOneAnother from tokens to → from + length tokens ≤ to
+span_count from to [] h = omega arith
+span_count from to (t ∷ tokens) h = let more = span_count t.span.end to tokens h.2 in omega (arith, h.0, h.1)
+
+pub error_below : {after_end : Bool} {at : ℕ} {text : List ℕ} {place : ℕ} → LexicalError after_end at text place → place < at + length text
+error_below (LexicalError.here after_end at [] h) = absurd (h.some refl)
+error_below (LexicalError.here after_end at (b ∷ text) h) = omega arith
+error_below (LexicalError.separator after_end at run after place is more) = let h = error_below more in omega (arith, length-append run after)
+error_below (LexicalError.item after_end at t run after place is goes_on more) = let h = error_below more in omega (arith, length-append run after)

@@ -1,5 +1,5 @@
 -- What the lexer answers.
-use Rattle.std.specs.Prelude.{◌≡◌, ℕ, List, Result, Ok, Err}
+use Rattle.std.specs.Prelude.{◌≡◌, ◌<◌, ℕ, List, Result, Ok, Err}
 use Rattle.estelle_tree.specs.declared.token.Placed.{Placed}
 use Rattle.estelle_tree.specs.Lexed.{IsLexicalErrorAt}
 use Rattle.estelle_lexer.specs.declared.error.LexError.{LexError}
@@ -11,6 +11,11 @@ use Rattle.estelle_lexer.specs.Lex.{Lexing}
 abbrev pub IsRefused : List ℕ → LexError → Type 0
 IsRefused bytes Memory = Unit {0}
 IsRefused bytes (At place) = IsLexicalErrorAt bytes place
+
+-- the place of the error is below this one
+abbrev pub IsBelow : ℕ → LexError → Type 0
+IsBelow limit Memory = Unit {0}
+IsBelow limit (At place) = place < limit
 
 -- these tokens and this place, or want of memory
 abbrev pub Gives : List Placed → ℕ → Result Tokens LexError → Type 0

@@ -43,6 +43,7 @@ pub fn blank_to_end(bytes: &[u8], at: u32) -> Option<u32>
     requires within { at ≤ length bytes.now }
     ensures blank { IsNone result ↔ IsBlankFrom bytes.now at }
     ensures other { (place : ℕ) → (result ≡ Some place) ↔ IsFirstOther bytes.now at place }
+    ensures within { IfSome result (λ place. place < length bytes.now) }
 {
     let text = &bytes[at as usize..];
     other_from(text, at)

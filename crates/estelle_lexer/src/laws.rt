@@ -25,5 +25,5 @@ pub fn tokens_or_error()
 /// The spans of a text's tokens are not empty, and follow one another within the text.
 pub fn spans_follow_one_another()
     ensures { (bytes : List ℕ) (items : List Placed) (rest : ℕ) → IsLexed bytes items rest
-        → FollowOneAnother 0 items rest × (rest ≤ length bytes) }
+        → FollowOneAnother 0 items rest × (length items ≤ rest) × (rest ≤ length bytes) }
 {}

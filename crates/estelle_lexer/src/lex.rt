@@ -5,7 +5,7 @@ ghost use Rattle.estelle_tree.specs.declared.token.Placed.{Placed};
 ghost use Rattle.estelle_tree.specs.Lexed as lexed;
 ghost use Rattle.estelle_tree.specs.Lexed.{IsLexed, IsLexicalErrorAt, FollowOneAnother};
 ghost use Rattle.estelle_lexer.specs.Lex as spec;
-ghost use Rattle.estelle_lexer.specs.Tokens.{Found, IsRefused, Gives, Refuses};
+ghost use Rattle.estelle_lexer.specs.Tokens.{Found, IsRefused, Gives, Refuses, IsBelow};
 
 use crate::error::LexError;
 use crate::front::{Piece, front};
@@ -99,8 +99,11 @@ pub fn tokens(alloc: Global, bytes: &[u8]) -> Result<Tokens, LexError>
         → Gives items rest result }
     ensures only_place { (place : ℕ) → IsLexicalErrorAt bytes.now place → Refuses place result }
 
+    // Where the tokens lie.
     ensures spans { IfOk result (λ found. FollowOneAnother 0 found.items found.rest) }
-    ensures within { IfOk result (λ found. found.rest ≤ length bytes.now) }
+    ensures count { IfOk result (λ found. length found.items ≤ found.rest) }
+    ensures rest { IfOk result (λ found. found.rest ≤ length bytes.now) }
+    ensures place { IfErr result (IsBelow (length bytes.now)) }
 {
     lex(alloc, bytes)
 }

@@ -1,5 +1,5 @@
 -- How a text is cut into tokens (ISO 7185, 6.1), by cases on what stands first in it, each time the longest.
--- `run` is what is taken from the front of the text, and `after` is what follows it.
+-- `run` are the bytes that are taken from the front of the text, and `after` is what follows them.
 use Rattle.std.specs.Prelude.{◌≡◌, ◌≢◌, ℕ, ◌+◌, ◌-◌, ◌*◌, ◌^◌, ◌<◌, ◌≤◌, Bool, true, false, ◌&&◌, ◌||◌, ◌==◌, List, [], ◌∷◌, ◌++◌, length, map, fold, drop, ℤ, pos, ◌⊎◌, codes}
 use Rattle.std.specs.List.{list_all}
 use Rattle.std.specs.Char.{is_ascii_digit, is_ascii_alphabetic, to_ascii_lowercase}
@@ -16,7 +16,7 @@ use Rattle.estelle_tree.specs.declared.token.Symbol.TheVariants as symbol
 abbrev pub is_blank : ℕ → Bool
 is_blank b = b == 32 || b == 9 || b == 10 || b == 13
 
--- a text is not empty, and its first byte passes the test
+-- there is a first byte, and it passes the test
 abbrev pub first_is : (ℕ → Bool) → List ℕ → Bool
 first_is p [] = false
 first_is p (b ∷ text) = p b
@@ -78,30 +78,30 @@ NoneFollows [] after = Unit {0}
 NoneFollows (c ∷ others) after = (first_is (λ b. b == c) after ≡ false) × NoneFollows others after
 
 -- these bytes, where none of the others follows
-abbrev pub IsMark : List ℕ → List ℕ → List ℕ → List ℕ → Type 0
-IsMark bytes others run after = (run ≡ bytes) × NoneFollows others after
+abbrev pub IsLexeme : List ℕ → List ℕ → List ℕ → List ℕ → Type 0
+IsLexeme bytes others run after = (run ≡ bytes) × NoneFollows others after
 
 -- the special symbols (6.1.2, and 6.1.9 for the brackets): the longest that stands there, and `(*` is none
 abbrev pub IsSymbolToken : Symbol → List ℕ → List ℕ → Type 0
-IsSymbolToken symbol.Plus = IsMark (codes "+") []
-IsSymbolToken symbol.Minus = IsMark (codes "-") []
-IsSymbolToken symbol.Star = IsMark (codes "*") []
-IsSymbolToken symbol.Equal = IsMark (codes "=") []
-IsSymbolToken symbol.NotEqual = IsMark (codes "<>") []
-IsSymbolToken symbol.Less = IsMark (codes "<") (codes ">=")
-IsSymbolToken symbol.AtMost = IsMark (codes "<=") []
-IsSymbolToken symbol.Greater = IsMark (codes ">") (codes "=")
-IsSymbolToken symbol.AtLeast = IsMark (codes ">=") []
-IsSymbolToken symbol.OpenParenthesis = IsMark (codes "(") (codes "*.")
-IsSymbolToken symbol.CloseParenthesis = IsMark (codes ")") []
-IsSymbolToken symbol.OpenBracket = λ run after. IsMark (codes "[") [] run after ⊎ IsMark (codes "(.") [] run after
-IsSymbolToken symbol.CloseBracket = λ run after. IsMark (codes "]") [] run after ⊎ IsMark (codes ".)") [] run after
-IsSymbolToken symbol.Dot = IsMark (codes ".") (codes ".)")
-IsSymbolToken symbol.Dots = IsMark (codes "..") []
-IsSymbolToken symbol.Comma = IsMark (codes ",") []
-IsSymbolToken symbol.Semicolon = IsMark (codes ";") []
-IsSymbolToken symbol.Colon = IsMark (codes ":") (codes "=")
-IsSymbolToken symbol.Becomes = IsMark (codes ":=") []
+IsSymbolToken symbol.Plus = IsLexeme (codes "+") []
+IsSymbolToken symbol.Minus = IsLexeme (codes "-") []
+IsSymbolToken symbol.Star = IsLexeme (codes "*") []
+IsSymbolToken symbol.Equal = IsLexeme (codes "=") []
+IsSymbolToken symbol.NotEqual = IsLexeme (codes "<>") []
+IsSymbolToken symbol.Less = IsLexeme (codes "<") (codes ">=")
+IsSymbolToken symbol.AtMost = IsLexeme (codes "<=") []
+IsSymbolToken symbol.Greater = IsLexeme (codes ">") (codes "=")
+IsSymbolToken symbol.AtLeast = IsLexeme (codes ">=") []
+IsSymbolToken symbol.OpenParenthesis = IsLexeme (codes "(") (codes "*.")
+IsSymbolToken symbol.CloseParenthesis = IsLexeme (codes ")") []
+IsSymbolToken symbol.OpenBracket = λ run after. IsLexeme (codes "[") [] run after ⊎ IsLexeme (codes "(.") [] run after
+IsSymbolToken symbol.CloseBracket = λ run after. IsLexeme (codes "]") [] run after ⊎ IsLexeme (codes ".)") [] run after
+IsSymbolToken symbol.Dot = IsLexeme (codes ".") (codes ".)")
+IsSymbolToken symbol.Dots = IsLexeme (codes "..") []
+IsSymbolToken symbol.Comma = IsLexeme (codes ",") []
+IsSymbolToken symbol.Semicolon = IsLexeme (codes ";") []
+IsSymbolToken symbol.Colon = IsLexeme (codes ":") (codes "=")
+IsSymbolToken symbol.Becomes = IsLexeme (codes ":=") []
 
 -- the bytes are this token, where what is given follows them
 abbrev pub IsToken : Token → List ℕ → List ℕ → Type 0
@@ -144,7 +144,7 @@ pub record NothingBegins (text : List ℕ) : Type 0 where
   pub no_separator : (run after : List ℕ) → text ≡ run ++ after → IsSeparator run → ⊥
   pub no_token : (t : Token) (run after : List ℕ) → text ≡ run ++ after → IsToken t run after → ⊥
 
--- The text is cut into separators and tokens as far as the second place, and there nothing begins.
+-- The text that begins at the first place is cut into separators and tokens as far as the second, and there nothing begins.
 pub data LexicalError : Bool → ℕ → List ℕ → ℕ → Type 0 where
   here : (after_end : Bool) (at : ℕ) (text : List ℕ) → NothingBegins text → LexicalError after_end at text at
   separator : (after_end : Bool) (at : ℕ) (run after : List ℕ) (place : ℕ)
@@ -159,7 +159,8 @@ pub data IsBlank : List ℕ → Type 0 where
   none : IsBlank []
   separator : (run after : List ℕ) → IsSeparator run → IsBlank after → IsBlank (run ++ after)
 
--- After separators something else stands at the second place, or a comment that is not closed begins there.
+-- Of the text that begins at the first place only separators stand before the second, and there something else stands,
+-- or a comment begins that is not closed.
 pub data FirstOther : ℕ → List ℕ → ℕ → Type 0 where
   here : (at : ℕ) (text : List ℕ) → text ≢ [] → ((run after : List ℕ) → text ≡ run ++ after → IsSeparator run → ⊥) → FirstOther at text at
   separator : (at : ℕ) (run after : List ℕ) (place : ℕ)
@@ -168,7 +169,7 @@ pub data FirstOther : ℕ → List ℕ → ℕ → Type 0 where
 
 -- ---- whole inputs
 
--- the input is cut into these tokens, and the place after the last of them is this one
+-- the input is cut into these tokens; the place is the one after the `.` that follows `end`, or the input's length
 abbrev pub IsLexed : List ℕ → List Placed → ℕ → Type 0
 IsLexed bytes tokens rest = Lexed false 0 bytes tokens rest
 
@@ -180,11 +181,11 @@ IsLexicalErrorAt bytes place = LexicalError false 0 bytes place
 abbrev pub IsBlankFrom : List ℕ → ℕ → Type 0
 IsBlankFrom bytes at = IsBlank (drop at bytes)
 
--- the first byte from a place on that belongs to no blank or comment
+-- the second place has the first byte, from the first place on, that belongs to no blank or closed comment
 abbrev pub IsFirstOther : List ℕ → ℕ → ℕ → Type 0
 IsFirstOther bytes at place = FirstOther at (drop at bytes) place
 
--- No token is empty, each begins where or after the one before it ends, the first not before and the last not behind these places.
+-- Between two places stand tokens none of which is empty, and none of which begins before the end of the one before it.
 abbrev pub FollowOneAnother : ℕ → List Placed → ℕ → Type 0
 FollowOneAnother from [] to = from ≤ to
 FollowOneAnother from (t ∷ tokens) to = (from ≤ t.span.start) × (t.span.start < t.span.end) × FollowOneAnother t.span.end tokens to

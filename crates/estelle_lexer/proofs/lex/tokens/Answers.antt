@@ -1,4 +1,4 @@
-use Rattle.estelle_lexer.proofs.Answers.{answer_lexed, answer_refused, answer_list, answer_place, answer_spans, answer_within}
+use Rattle.estelle_lexer.proofs.Answers.{answer_lexed, answer_refused, answer_list, answer_place, answer_spans, answer_count, answer_rest, answer_below}
 use Rattle.estelle_lexer.proofs.lex.tokens.Goals as goal
 
 pub returns-clause-lexed : goal.returns-clause-lexed
@@ -16,5 +16,11 @@ returns-clause-only_place c = answer_place c.args.bytes.now c.lex.result c.lex.e
 pub returns-clause-spans : goal.returns-clause-spans
 returns-clause-spans c = answer_spans c.args.bytes.now c.lex.result c.lex.ensures
 
-pub returns-clause-within : goal.returns-clause-within
-returns-clause-within c = answer_within c.args.bytes.now c.lex.result c.lex.ensures
+pub returns-clause-count : goal.returns-clause-count
+returns-clause-count c = answer_count c.args.bytes.now c.lex.result c.lex.ensures
+
+pub returns-clause-rest : goal.returns-clause-rest
+returns-clause-rest c = answer_rest c.args.bytes.now c.lex.result c.lex.ensures
+
+pub returns-clause-place : goal.returns-clause-place
+returns-clause-place c = answer_below c.args.bytes.now c.lex.result c.lex.ensures
