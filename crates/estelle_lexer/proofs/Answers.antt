@@ -7,8 +7,8 @@ use Rattle.estelle_tree.specs.Lexed.{IsLexed, IsLexicalErrorAt, FollowOneAnother
 use Rattle.estelle_lexer.specs.declared.error.LexError.{LexError}
 use Rattle.estelle_lexer.specs.declared.error.LexError.TheVariants.{At, Memory}
 use Rattle.estelle_lexer.specs.declared.list.Tokens.{Tokens}
-use Rattle.estelle_lexer.specs.Lex.{Lexing, lex}
-use Rattle.estelle_lexer.specs.Tokens.{Found, IsRefused, Gives, Refuses, IsBelow}
+use Rattle.estelle_lexer.specs.Lex.{Lexing, lex, Found}
+use Rattle.estelle_lexer.specs.Tokens.{IsRefused, Gives, Refuses, IsBelow}
 use Rattle.estelle_lexer.proofs.Lexes.{Tells, lex_tells, lexed_found, error_found, lexed_spans, span_count, error_below}
 
 module _ (bytes : List ℕ) where

@@ -1,5 +1,5 @@
 -- The tokens of a text, taken from left to right.
-use Rattle.std.specs.Prelude.{ℕ, zero, suc, ◌+◌, ◌-◌, Bool, false, ◌&&◌, if◌then◌else◌, List, [], ◌∷◌, ◌++◌, length, map, take, Option, Some, None, Result, Ok, Err}
+use Rattle.std.specs.Prelude.{◌≡◌, ℕ, zero, suc, ◌+◌, ◌-◌, Bool, false, ◌&&◌, if◌then◌else◌, List, [], ◌∷◌, ◌++◌, length, map, take, Option, Some, None, Result, Ok, Err}
 use Rattle.std.specs.Char.{to_ascii_lowercase}
 use Rattle.estelle_tree.specs.declared.token.Placed.{Placed}
 use Rattle.estelle_tree.specs.declared.token.Token.{Token}
@@ -7,6 +7,9 @@ use Rattle.estelle_tree.specs.declared.token.Token.TheVariants as token
 use Rattle.estelle_tree.specs.Lexed.{is_end, is_dot, placed}
 use Rattle.estelle_lexer.specs.declared.front.Piece.{Piece}
 use Rattle.estelle_lexer.specs.declared.front.Piece.TheVariants as piece
+use Rattle.estelle_lexer.specs.declared.error.LexError.{LexError}
+use Rattle.estelle_lexer.specs.declared.error.LexError.TheVariants.{At, Memory}
+use Rattle.estelle_lexer.specs.declared.list.Tokens.{Tokens}
 use Rattle.estelle_lexer.specs.Front.{Cut, cut}
 
 -- the token of a piece with these bytes
@@ -47,3 +50,9 @@ lex_from (suc n) after_end at found (b ∷ text) = step (lex_from n) after_end a
 
 unfoldable pub lex : List ℕ → Lexing
 lex text = lex_from (length text) false 0 [] text
+
+-- the answer is this result, unless memory ran out
+abbrev pub Found : Result Tokens LexError → Lexing → Type 0
+Found (Ok found) lexing = lexing ≡ Ok (found.items, found.rest)
+Found (Err Memory) lexing = Unit {0}
+Found (Err (At place)) lexing = lexing ≡ Err place

@@ -5,7 +5,6 @@ use Rattle.estelle_tree.specs.Lexed.{IsLexicalErrorAt}
 use Rattle.estelle_lexer.specs.declared.error.LexError.{LexError}
 use Rattle.estelle_lexer.specs.declared.error.LexError.TheVariants.{At, Memory}
 use Rattle.estelle_lexer.specs.declared.list.Tokens.{Tokens}
-use Rattle.estelle_lexer.specs.Lex.{Lexing}
 
 -- the place of the error is the first at which nothing begins, unless memory ran out
 abbrev pub IsRefused : List ℕ → LexError → Type 0
@@ -28,9 +27,3 @@ abbrev pub Refuses : ℕ → Result Tokens LexError → Type 0
 Refuses place (Ok found) = ⊥
 Refuses place (Err Memory) = Unit {0}
 Refuses place (Err (At at)) = at ≡ place
-
--- the answer is this result, unless memory ran out
-abbrev pub Found : Result Tokens LexError → Lexing → Type 0
-Found (Ok found) lexing = lexing ≡ Ok (found.items, found.rest)
-Found (Err Memory) lexing = Unit {0}
-Found (Err (At place)) lexing = lexing ≡ Err place

@@ -152,6 +152,7 @@ fn cut_symbol(b: u8, rest: &[u8]) -> Option<(Piece, &[u8])>
     }
 }
 
+/// As `front`, which says besides that the text gets shorter.
 #[tactic(auto, unfolding(crate::specs::Front::cut))]
 fn cut(text: &[u8]) -> Option<(Piece, &[u8])>
     ensures { spec.seen result ≡ spec.cut text.now }

@@ -5,7 +5,7 @@ ghost use Rattle.estelle_tree.specs.declared.token.Placed.{Placed};
 ghost use Rattle.estelle_tree.specs.Lexed as lexed;
 ghost use Rattle.estelle_tree.specs.Lexed.{IsLexed, IsLexicalErrorAt, FollowOneAnother};
 ghost use Rattle.estelle_lexer.specs.Lex as spec;
-ghost use Rattle.estelle_lexer.specs.Tokens.{Found, IsRefused, Gives, Refuses, IsBelow};
+ghost use Rattle.estelle_lexer.specs.Tokens.{IsRefused, Gives, Refuses, IsBelow};
 
 use crate::error::LexError;
 use crate::front::{Piece, front};
@@ -48,9 +48,10 @@ fn token_of(alloc: Global, piece: Piece, run: &[u8]) -> Result<Option<Token>, Al
     }
 }
 
+/// The tokens, one turn for each separator and token.
 fn lex(alloc: Global, bytes: &[u8]) -> Result<Tokens, LexError>
     requires { length bytes.now < 2 ^ 31 }
-    ensures { Found result (spec.lex bytes.now) }
+    ensures { spec.Found result (spec.lex bytes.now) }
 {
     let total = bytes.len();
     let mut text = bytes;

@@ -55,7 +55,7 @@ pub record IsWordToken (word run after : List ℕ) : Type 0 where
 unfoldable pub decimal : List ℕ → ℕ
 decimal = fold (λ n b. 10 * n + (b - 48)) 0
 
--- each number is below this one
+-- one more than the largest number, `maxint`
 abbrev pub number_limit : ℕ
 number_limit = 2 ^ 63
 
