@@ -181,7 +181,7 @@ char_holds (c ∷ d ∷ text) = go (c == 39) refl
   where
     quote : (t : Bool) → (d == 39 && next_is 39 text) ≡ t → c ≡ 39 → Holds (39 ∷ c ∷ d ∷ text) (if t then Some (piece.Char 39, tail text) else None)
     quote false e is = tt
-    quote true e is = let t = both (d == 39) (next_is 39 text) e in (39 ∷ 39 ∷ 39 ∷ 39 ∷ [], ap (λ c. 39 ∷ c ∷ d ∷ text) is ∙ ap (λ t. 39 ∷ 39 ∷ t) (two_eq d 39 39 text t.0 t.1), IsCharToken.quote)
+    quote true e is = let t = both (d == 39) (next_is 39 text) e in (39 ∷ 39 ∷ 39 ∷ 39 ∷ [], ap (λ c. 39 ∷ c ∷ d ∷ text) is ∙ ap (λ t. 39 ∷ 39 ∷ t) (two_eq d 39 39 text t.0 t.1), IsCharToken.image)
 
     plain : (t : Bool) → (d == 39 && nat_le 32 c && nat_le c 126) ≡ t → (c == 39) ≡ false → Holds (39 ∷ c ∷ d ∷ text) (if t then Some (piece.Char c, text) else None)
     plain false e other = tt
@@ -302,7 +302,7 @@ number_cut n (b ∷ run) after h =
 
 pub char_cut : (c : ℕ) (run after : List ℕ) → IsCharToken c run → cut (run ++ after) ≡ Some (piece.Char c, after)
 unfolding cut
-char_cut c run after IsCharToken.quote = refl
+char_cut c run after IsCharToken.image = refl
 char_cut c run after (IsCharToken.printable b other low high) =
     let c1 : (b == 39) ≡ false = grind (arith, nat_tests) in
     let c2 : nat_le 32 b ≡ true = grind (arith, nat_tests) in

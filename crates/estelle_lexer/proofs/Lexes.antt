@@ -48,7 +48,7 @@ separator_some (IsSeparator.brace body h) = omega arith
 separator_some (IsSeparator.star body h) = omega arith
 
 char_some : (c : ℕ) {run : List ℕ} → IsCharToken c run → 0 < length run
-char_some c IsCharToken.quote = omega arith
+char_some c IsCharToken.image = omega arith
 char_some c (IsCharToken.printable b other low high) = omega arith
 
 symbol_some : (s : Symbol) (run after : List ℕ) → IsSymbolToken s run after → 0 < length run

@@ -28,15 +28,15 @@ closes_comment (b ∷ text) = b == 125 || (b == 42 && first_is (λ c. c == 41) t
 
 -- what follows the opening mark of a comment: any bytes, and then the first `}` or `*)`
 pub data IsCommentBody : List ℕ → Type 0 where
-  brace : IsCommentBody (125 ∷ [])
-  star : IsCommentBody (42 ∷ 41 ∷ [])
+  brace : IsCommentBody (codes "}")
+  star : IsCommentBody (codes "*)")
   more : (b : ℕ) (body : List ℕ) → closes_comment (b ∷ body) ≡ false → IsCommentBody body → IsCommentBody (b ∷ body)
 
 -- a blank or a comment; the opening mark of a comment is `{` or `(*`, whichever the closing one is
 pub data IsSeparator : List ℕ → Type 0 where
   blank : (b : ℕ) → is_blank b ≡ true → IsSeparator (b ∷ [])
-  brace : (body : List ℕ) → IsCommentBody body → IsSeparator (123 ∷ body)
-  star : (body : List ℕ) → IsCommentBody body → IsSeparator (40 ∷ 42 ∷ body)
+  brace : (body : List ℕ) → IsCommentBody body → IsSeparator (codes "{" ++ body)
+  star : (body : List ℕ) → IsCommentBody body → IsSeparator (codes "(*" ++ body)
 
 -- ---- tokens
 
@@ -67,10 +67,13 @@ pub record IsNumberToken (n : ℤ) (run after : List ℕ) : Type 0 where
   pub fits : decimal run < number_limit
   pub value : n ≡ pos (decimal run)
 
--- a printable character between quotes, and the quote itself written twice between them (6.1.7)
+abbrev pub apostrophe : ℕ
+apostrophe = 39
+
+-- one printable character between apostrophes; an apostrophe itself is written twice there (6.1.7)
 pub data IsCharToken : ℕ → List ℕ → Type 0 where
-  quote : IsCharToken 39 (39 ∷ 39 ∷ 39 ∷ 39 ∷ [])
-  printable : (c : ℕ) → c ≢ 39 → 32 ≤ c → c ≤ 126 → IsCharToken c (39 ∷ c ∷ 39 ∷ [])
+  image : IsCharToken apostrophe (codes "''''")
+  printable : (c : ℕ) → c ≢ apostrophe → 32 ≤ c → c ≤ 126 → IsCharToken c (codes "'" ++ c ∷ codes "'")
 
 -- none of the bytes follows
 abbrev pub NoneFollows : List ℕ → List ℕ → Type 0
