@@ -1,4 +1,4 @@
-//! Texts of which nothing is wanted.
+//! What stands behind the tokens of a text.
 
 ghost use Rattle.std.specs.Prelude.{◌≡◌, ◌<◌, ◌≤◌, ◌+◌, ◌^◌, ◌↔◌, length, ℕ, Some, IsNone, IfSome};
 ghost use Rattle.estelle_tree.specs.Lexed.{IsBlankFrom, IsFirstOther};
@@ -18,6 +18,7 @@ fn separator(text: &[u8]) -> Option<&[u8]>
     }
 }
 
+/// The first place from this one on at which no blank or comment begins.
 fn other_from(mut text: &[u8], mut at: u32) -> Option<u32>
     requires { at + length text.now < 2 ^ 31 }
     ensures { result ≡ spec.other_from (length text.entry.now) at text.entry.now }

@@ -1,7 +1,8 @@
 //! Cuts a text into tokens (ISO 7185, 6.1), and tells places by line and column.
 //!
 //! It stands on the definition of lexing in `estelle_tree`. It promises that the tokens are exactly
-//! those of the text, and that a refusal names the first byte at which nothing begins.
+//! those of the text, that a refusal names the first byte at which nothing begins, and that only want
+//! of memory is answered besides.
 #![tactic(auto)]
 
 mod blank;
