@@ -9,3 +9,4 @@ pub mod Declarations
 pub mod Clauses
 pub mod Specification
 pub mod Spells
+pub mod Lexed
