@@ -1,0 +1,4 @@
+pub mod Begin
+pub mod Sound
+pub mod Complete
+pub mod Definitions
