@@ -135,7 +135,7 @@ named_by _ = ordinal_name
 
 abbrev pub ordinal_by : Kind → Kind → Parser Ordinal
 ordinal_by k.OpenParenthesis _ = enumeration
-ordinal_by k.Name behind = named_by behind
+ordinal_by k.Name second_kind = named_by second_kind
 ordinal_by _ _ = subrange
 
 -- Ord = NAME | "(" Names ")" | Const ".." Const

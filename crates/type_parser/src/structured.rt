@@ -204,6 +204,7 @@ fn type_below(alloc: Global, tokens: &mut Cursor<'_>, room: u8) -> Result<TypeEx
 
 /// A type in which at most so many levels of nesting open (ISO 7185, 6.4.1). A deeper one is refused
 /// at the word that opens a level too many.
+#[tactic(auto, unfolding(crate::specs::Types::type_below))]
 pub fn type_expr(alloc: Global, tokens: &mut Cursor<'_>, room: u8) -> Result<TypeExpr, ReadError>
     ensures { Reads (spec.type_expr room tokens.old) result tokens.new }
 {
