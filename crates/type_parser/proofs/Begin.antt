@@ -75,18 +75,18 @@ pub separated_begins : {A : Type 0} (kind' : Kind) (begins : Kind → Bool) (P :
 separated_begins kind' begins P starts i j [] h = absurd h
 separated_begins kind' begins P starts i j (x ∷ xs) h = starts i h.0 x h.1
 
-pub enclosed_shrinks : {A : Type 0} (from to : Kind) (P : Spelling A) → Shrinks P → Shrinks (Enclosed from to P)
-enclosed_shrinks from to P shrinks i j x h =
-    let one = takes_shrinks from i h.at h.opens in
+pub enclosed_shrinks : {A : Type 0} (opener closer : Kind) (P : Spelling A) → Shrinks P → Shrinks (Enclosed opener closer P)
+enclosed_shrinks opener closer P shrinks i j x h =
+    let one = takes_shrinks opener i h.at h.opens in
     let two = shrinks h.at h.mid x h.inside in
-    let three = takes_shrinks to h.mid j h.closes in
+    let three = takes_shrinks closer h.mid j h.closes in
     omega arith
 
-pub enclosed_advances : {A : Type 0} (from to : Kind) (P : Spelling A) → (k.Nothing ≡ from → ⊥) → Shrinks P → Advances (Enclosed from to P)
-enclosed_advances from to P is_token shrinks i j x h =
-    let one = takes_advances from is_token i h.at h.opens in
+pub enclosed_advances : {A : Type 0} (opener closer : Kind) (P : Spelling A) → (k.Nothing ≡ opener → ⊥) → Shrinks P → Advances (Enclosed opener closer P)
+enclosed_advances opener closer P is_token shrinks i j x h =
+    let one = takes_advances opener is_token i h.at h.opens in
     let two = shrinks h.at h.mid x h.inside in
-    let three = takes_shrinks to h.mid j h.closes in
+    let three = takes_shrinks closer h.mid j h.closes in
     omega arith
 
 pub joined_advances : {A B : Type 0} (kind' : Kind) (P : Spelling A) (Q : Spelling B) → Advances P → Shrinks Q → (i j : Input) (x : A) (y : B) → Joined kind' P Q x y i j → left j < left i

@@ -78,7 +78,7 @@ no_dots k.Dots end = absurd (end refl)
 no_dots _ end = refl
 
 -- a constant that begins with a name is that name
-named_alone : (c : Const) (i j : Input) → IsConst c i j → kind i ≡ k.Name → next i ≡ j
+pub named_alone : (c : Const) (i j : Input) → IsConst c i j → kind i ≡ k.Name → next i ≡ j
 named_alone (const.Number None value span) i j h e = let no : k.Number ≡ k.Name = sym (ap kind h.0.sign ∙ number_kind h.0.at j value h.0.item) ∙ e in absurd (cc)
 named_alone (const.Number (Some sign.Plus) value span) i j h e = let no : k.Plus ≡ k.Name = sym h.0.sign.kind ∙ e in absurd (cc)
 named_alone (const.Number (Some sign.Minus) value span) i j h e = let no : k.Minus ≡ k.Name = sym h.0.sign.kind ∙ e in absurd (cc)
@@ -95,16 +95,27 @@ bound_first k.Char _ begins dots = refl
 bound_first k.Name _ begins dots = rw (dots refl)
 bound_first _ _ begins dots = absurd (cc)
 
-pub ordinal_complete : Complete ordinal IsOrdinal EndsOrdinal
-unfolding ordinal ordinal_name
-ordinal_complete i j (an_ordinal.Name n) h end = rw (h.free, h.next, no_dots (kind j) end, name_complete i j n h tt)
-ordinal_complete i j (an_ordinal.Enumeration ns span) h end = rw (h.0.opens.kind, enumeration_complete ns i j h.0, ← h.1)
-ordinal_complete i j (an_ordinal.Subrange low high span) h end =
+-- the forms of an ordinal type that nothing can go on with
+abbrev pub is_closed : Ordinal → Bool
+is_closed (an_ordinal.Name n) = false
+is_closed _ = true
+
+pub closed_complete : (o : Ordinal) → is_closed o ≡ true → (i j : Input) → IsOrdinal o i j → ordinal i ≡ Ok (o, j)
+unfolding ordinal
+closed_complete (an_ordinal.Name n) closed i j h = absurd (cc)
+closed_complete (an_ordinal.Enumeration ns span) closed i j h = rw (h.0.opens.kind, enumeration_complete ns i j h.0, ← h.1)
+closed_complete (an_ordinal.Subrange low high span) closed i j h =
     rw (
       bound_first (kind i) (kind (next i)) (constant_begins i h.0.mid low h.0.first) (λ e. ap kind (named_alone low i h.0.mid h.0.first e) ∙ h.0.mark.kind),
       subrange_complete low high i j h.0,
       ← h.1,
     )
+
+pub ordinal_complete : Complete ordinal IsOrdinal EndsOrdinal
+unfolding ordinal ordinal_name
+ordinal_complete i j (an_ordinal.Name n) h end = rw (h.free, h.next, no_dots (kind j) end, name_complete i j n h tt)
+ordinal_complete i j (an_ordinal.Enumeration ns span) h end = closed_complete (an_ordinal.Enumeration ns span) refl i j h
+ordinal_complete i j (an_ordinal.Subrange low high span) h end = closed_complete (an_ordinal.Subrange low high span) refl i j h
 
 -- ---- types, over those one level down
 
@@ -113,6 +124,9 @@ EndsFields j = (kind j ≡ k.Semicolon → ⊥) × (begins_name (kind j) ≡ fal
 
 pub eaten : (kind' : Kind) (i j : Input) (b : Bool) → eat kind' i ≡ Ok (b, j) → (sees kind' i ≡ b) × (after kind' i ≡ j)
 eaten kind' i j b h = let same = ok_pair (sees kind' i) b (after kind' i) j h in (ap (λ p. p.0) same, ap (λ p. p.1) same)
+
+pub packed_first : (packed : Bool) (i at : Input) (kind' : Kind) → Flag k.Packed packed i at → kind at ≡ kind' → (kind' ≡ k.Packed → ⊥) → (sees k.Packed i ≡ packed) × (after k.Packed i ≡ at)
+packed_first packed i at kind' flag is other = eaten k.Packed i at packed (eat_complete k.Packed i at packed flag (λ e. other (sym is ∙ e)))
 
 some_room : (room : ℕ) → 0 < room → (room == 0) ≡ false
 some_room room fits = ne_eqb room 0 (λ e. omega arith)
@@ -142,7 +156,7 @@ module _ (below : Parser TypeExpr) (T : Spelling TypeExpr) (complete : Complete 
   sections_end false m j h end = (λ e. end.2 (sym (ap kind h) ∙ e), rw (h, unseen k.Semicolon j end.0))
   sections_end true m j h end = (λ e. let no : k.Semicolon ≡ k.Dots = sym h.kind ∙ e in cc, rw (sees_takes k.Semicolon m j h, h.next, end.1))
 
-  fields_over_complete : Complete (fields_over below) (AreFields T) EndsFields
+  pub fields_over_complete : Complete (fields_over below) (AreFields T) EndsFields
   unfolding fields_over between
   fields_over_complete i j fs h end =
       let sections = separated_if_complete (typed_over below) (AreTyped T) EndsOrdinal typed_over_complete (shrinking (AreTyped T) (typed_over_advances T advances))
@@ -152,9 +166,6 @@ module _ (below : Parser TypeExpr) (T : Spelling TypeExpr) (complete : Complete 
       rw (sections, last.0, last.1, ← h.span, roll-out-Fields fs)
 
   module _ (room : ℕ) where
-    packed_first : (packed : Bool) (i at : Input) (kind' : Kind) → Flag k.Packed packed i at → kind at ≡ kind' → (kind' ≡ k.Packed → ⊥) → (sees k.Packed i ≡ packed) × (after k.Packed i ≡ at)
-    packed_first packed i at kind' flag is other = eaten k.Packed i at packed (eat_complete k.Packed i at packed flag (λ e. other (sym is ∙ e)))
-
     layer_complete : (t : TypeExprLayer) (i j : Input) → IsTypeLayer room T t i j → EndsOrdinal j → type_over room below i ≡ Ok (roll-TypeExpr t, j)
     unfolding type_over ordinal_type array_over record_over set_type between
     layer_complete (TypeExpr-F.Ordinal o) i j h end =

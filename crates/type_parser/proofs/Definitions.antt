@@ -205,7 +205,7 @@ formals_complete i j fs h end =
       ← h.span,
     )
 
-no_dots : (j : Input) → kind j ≡ k.Semicolon → EndsOrdinal j
+pub no_dots : (j : Input) → kind j ≡ k.Semicolon → EndsOrdinal j
 no_dots j e dots = let no : k.Semicolon ≡ k.Dots = sym e ∙ dots in cc
 
 pub block_decl_complete : (room : ℕ) → Complete (block_decl room) (IsBlockDecl room) (EndsPart begins_name)

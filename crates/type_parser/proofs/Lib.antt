@@ -2,3 +2,4 @@ pub mod Begin
 pub mod Sound
 pub mod Complete
 pub mod Definitions
+pub mod AtMostOne

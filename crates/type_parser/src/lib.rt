@@ -6,6 +6,7 @@
 mod definition;
 mod scalar;
 mod structured;
+mod unique;
 
 pub use definition::{
     BlockDeclForm, ConstDefForm, FormalForm, FormalsForm, TypeDefForm, block_decl, const_def,
@@ -13,3 +14,4 @@ pub use definition::{
 };
 pub use scalar::{ConstantForm, NameForm, NamesForm, OrdinalForm, constant, names, ordinal};
 pub use structured::{TypeForm, TypedNamesForm, type_expr, typed_names};
+pub use unique::{one_block_decl, one_constant, one_ordinal, one_type};
