@@ -24,7 +24,7 @@ use Rattle.estelle_tree.specs.declared.tree.expression.Selector.TheVariants.{out
 use Rattle.estelle_tree.specs.declared.tree.expression.Factor.{Factor, out-Factor}
 use Rattle.estelle_tree.specs.declared.tree.expression.Factor.TheVariants as form
 use Rattle.estelle_tree.specs.declared.tree.expression.Factor.TheVariants.{outs-Number, outs-Char, outs-Variable, outs-Call, outs-Paren, outs-Not, outs-Set}
-use Rattle.estelle_tree.specs.declared.tree.expression.Factor.TheViews.{out-roll-Term, out-roll-Simple, out-roll-Expr, out-roll-Elem, out-roll-Args, out-roll-Variable}
+use Rattle.estelle_tree.specs.declared.tree.expression.Factor.TheViews.{out-roll-Simple, out-roll-Expr, out-roll-Elem, out-roll-Args}
 use Rattle.estelle_tree.specs.Input.{Input, kind, start, next, between}
 use Rattle.estelle_tree.specs.Spans.{FactorLayer, SelectorLayer}
 use Rattle.estelle_tree.specs.Spelling.{Spelling, Takes, Optional, Behind, Separated, Enclosed}
@@ -72,7 +72,7 @@ module _ (factor : Parser Factor) (F : Spelling Factor) (sound : Sound factor F)
   term_sound i j t h =
       through (factor i) _ _ h (λ x a is h.
       through (repeated (marked multiplying_of factor) [] a) _ _ h (λ xs b are h.
-      answered (TermOf F) i j b (roll-Term (record { first = x; others = xs; span = between i b })) t (record { mid = a; first = rw out-roll-Term (sound i a x is); others = rw out-roll-Term (repeated_sound (marked multiplying_of factor) (λ (x : Multiplying × Factor). Behind (of_multiplying x.0) F x.1) (marked_sound multiplying_of of_multiplying multiplying_back factor F sound) a b xs are); span = rw out-roll-Term }) h))
+      answered (TermOf F) i j b (roll-Term (record { first = x; others = xs; span = between i b })) t (record { mid = a; first = (sound i a x is); others = (repeated_sound (marked multiplying_of factor) (λ (x : Multiplying × Factor). Behind (of_multiplying x.0) F x.1) (marked_sound multiplying_of of_multiplying multiplying_back factor F sound) a b xs are); span = refl }) h))
 
   simple_sound : Sound (simple_over factor) (SimpleOf F)
   unfolding simple_over between
@@ -156,9 +156,9 @@ module _ (room : ℕ) (below : Parser Factor) (F : Spelling Factor) (sound : Sou
 
   variable_after_sound : (i a j : Input) (n : Name) (v : Variable) → IsName n i a → variable_after room below (start i) n a ≡ Ok (v, j) → VariableOf room F v i j
   unfolding variable_after between
-  variable_after_sound i a j n v named h =
+  variable_after_sound i a j n v is_name h =
       through (repeated (selector_over room below) [] a) _ _ h (λ xs b are h.
-      answered (VariableOf room F) i j b (roll-Variable (record { name = n; selectors = xs; span = between i b })) v (record { mid = a; name = rw out-roll-Variable named; selectors = rw out-roll-Variable (repeated_sound (selector_over room below) (SelectorOf room F) selector_sound a b xs are); span = rw out-roll-Variable }) h)
+      answered (VariableOf room F) i j b (roll-Variable (record { name = n; selectors = xs; span = between i b })) v (record { mid = a; name = is_name; selectors = (repeated_sound (selector_over room below) (SelectorOf room F) selector_sound a b xs are); span = refl }) h)
 
   variable_over_sound : Sound (variable_over room below) (VariableOf room F)
   unfolding variable_over
@@ -173,16 +173,16 @@ module _ (room : ℕ) (below : Parser Factor) (F : Spelling Factor) (sound : Sou
 
   call_sound : (i a j : Input) (n : Name) (f : Factor) → IsName n i a → kind a ≡ k.OpenParenthesis → call_after room below (start i) n a ≡ Ok (f, j) → Is f i j
   unfolding call_after between
-  call_sound i a j n f named e h =
+  call_sound i a j n f is_name e h =
       through (nest room a) _ _ h (λ u b starts h.
       through (args_over below b) _ _ h (λ xs c are h.
       through (expect k.CloseParenthesis c) _ _ h (λ v d ends h.
       let o = opens room k.OpenParenthesis a b u e starts in
-      layered i j d f (outs-Call n xs (between i d)) (o.0, record { mid = a; name = named; args = record { at = b; mid = c; opens = o.1; inside = args_over_sound below F sound b c xs are; closes = expect_sound k.CloseParenthesis c d v ends } }, refl) h)))
+      layered i j d f (outs-Call n xs (between i d)) (o.0, record { mid = a; name = is_name; args = record { at = b; mid = c; opens = o.1; inside = args_over_sound below F sound b c xs are; closes = expect_sound k.CloseParenthesis c d v ends } }, refl) h)))
 
   plain_sound : (i a j : Input) (n : Name) (f : Factor) → IsName n i a → (variable_after room below (start i) n >>= λ v. pure (form.Variable v)) a ≡ Ok (f, j) → Is f i j
-  plain_sound i a j n f named h =
-      through (variable_after room below (start i) n a) _ _ h (λ v b is h. layered i j b f (outs-Variable v) (variable_after_sound i a b n v named is) h)
+  plain_sound i a j n f is_name h =
+      through (variable_after room below (start i) n a) _ _ h (λ v b is h. layered i j b f (outs-Variable v) (variable_after_sound i a b n v is_name is) h)
 
   named_by_sound : (kind' : Kind) (i a j : Input) (n : Name) (f : Factor) → kind a ≡ kind' → IsName n i a → named_by room below (start i) n kind' a ≡ Ok (f, j) → Is f i j
   named_by_sound k.OpenParenthesis i a j n f e is h = call_sound i a j n f is e h
