@@ -1,10 +1,10 @@
 -- Which pieces begin channels, headers, bodies and a specification.
-use Rattle.std.specs.Prelude.{◌≡◌, ℕ, zero, suc, false, List, [], map, ◌⊎◌}
+use Rattle.std.specs.Prelude.{◌≡◌, ℕ, zero, suc, false, List, map, ◌⊎◌}
 use Rattle.estelle_tree.specs.declared.kind.Kind.TheVariants as k
 use Rattle.estelle_tree.specs.declared.token.Placed.{Placed}
 use Rattle.estelle_tree.specs.declared.tree.specification.Head.{Head}
 use Rattle.estelle_tree.specs.declared.tree.specification.Parts.{Parts}
-use Rattle.estelle_tree.specs.Input.{Input, input, kind}
+use Rattle.estelle_tree.specs.Input.{Input, input, kind, skip}
 use Rattle.estelle_tree.specs.Spelling.{Spelling, Behind}
 use Rattle.estelle_tree.specs.Types.{IsNames}
 use Rattle.estelle_tree.specs.Declarations.{IsConstDef, IsTypeDef, AreVars}
@@ -132,8 +132,6 @@ abbrev pub BeginsSpec : ℕ → Beginning
 BeginsSpec room =
     After k.Specification (After k.Name (May BeginsSysAttr IsSysAttr (After k.Semicolon (BeginHeads (Then (BeginsParts room) (IsParts room) (After k.End (OneToken k.Dot)))))))
 
--- the tokens begin a sentence
-pub record Begins (tokens : List Placed) : Type 0 where
-  -- where the last token ends
-  pub end : ℕ
-  pub piece : BeginsSpec max_nesting (input tokens 0) (input [] end)
+-- the first so many of the tokens begin a sentence
+unfoldable pub Begins : List Placed → ℕ → Type 0
+Begins tokens n = BeginsSpec max_nesting (input tokens 0) (skip n (input tokens 0))
