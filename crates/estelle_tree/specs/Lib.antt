@@ -10,3 +10,10 @@ pub mod Clauses
 pub mod Specification
 pub mod Spells
 pub mod Lexed
+pub mod Beginning
+pub mod BeginsTypes
+pub mod BeginsExpressions
+pub mod BeginsStatements
+pub mod BeginsDeclarations
+pub mod BeginsClauses
+pub mod BeginsSpecification
