@@ -1,0 +1,15 @@
+//! The values of Pascal (ISO 7185), their operations and their text: the base of all meaning.
+//!
+//! It stands on `estelle_lists`. Each operation gives its value or its one fault, and the text of a
+//! value has one reading.
+#![tactic(auto)]
+
+mod fault;
+mod members;
+mod parts;
+mod value;
+
+pub use fault::Fault;
+pub use members::Members;
+pub use parts::Parts;
+pub use value::{Relation, Shape, Value, Values};

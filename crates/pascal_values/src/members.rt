@@ -1,0 +1,35 @@
+ghost use Rattle.std.specs.Prelude.{◌≡◌, ◌+◌, ◌<◌, ◌≤◌, IfOk};
+ghost use Rattle.pascal_values.specs.Sets.{IsSet};
+
+use std::alloc::{AllocError, Global};
+use std::marker::Model;
+
+/// A set's members, seen as the rising list of their ordinals, each at most 255.
+#[derive(Debug, Drop)]
+pub struct Members {
+    ordinals: Vec<u32>,
+}
+
+impl Model for Members {
+    ghost use Rattle.std.specs.Prelude.{List, ℕ};
+    ghost use Rattle.std.specs.Coded.{coded_list, coded_ℕ};
+    ghost use Rattle.pascal_values.specs.Sets.{IsSet};
+
+    ghost Value = { List ℕ };
+
+    ghost coded = { coded_list coded_ℕ };
+
+    ghost view = { λ a. a.ordinals.items };
+
+    ghost invariant = { λ a. IsSet a.ordinals.items };
+}
+
+impl Members {
+    /// The ordinals, rising. It takes no memory.
+    pub fn items(&self) -> &[u32]
+        ensures same { result.now ≡ self.now }
+        ensures rising { IsSet self.now }
+    {
+        &self.ordinals
+    }
+}
