@@ -1,2 +1,7 @@
 pub mod formers
+pub mod Integers
 pub mod Sets
+pub mod Values
+pub mod Shapes
+pub mod Order
+pub mod Texts

@@ -4,11 +4,13 @@
 //! value has one reading.
 #![tactic(auto)]
 
+mod arithmetic;
 mod fault;
 mod members;
 mod parts;
 mod value;
 
+pub use arithmetic::{MAXINT, add, divide, modulo, mul, sub};
 pub use fault::Fault;
 pub use members::Members;
 pub use parts::Parts;
