@@ -8,10 +8,12 @@ mod arithmetic;
 mod fault;
 mod members;
 mod parts;
+mod sets;
 mod value;
 
 pub use arithmetic::{MAXINT, add, divide, modulo, mul, sub};
 pub use fault::Fault;
 pub use members::Members;
 pub use parts::Parts;
+pub use sets::{has, meet, minus, span, unite};
 pub use value::{Relation, Shape, Value, Values};

@@ -1,4 +1,4 @@
-ghost use Rattle.std.specs.Prelude.{◌≡◌, ◌+◌, ◌<◌, ◌≤◌, IfOk};
+ghost use Rattle.std.specs.Prelude.{◌≡◌, [], IfOk};
 ghost use Rattle.pascal_values.specs.Sets.{IsSet};
 
 use std::alloc::{AllocError, Global};
@@ -25,11 +25,36 @@ impl Model for Members {
 }
 
 impl Members {
+    /// The empty set. It takes no memory.
+    pub fn none(alloc: Global) -> Members
+        ensures { result ≡ [] }
+    {
+        Members {
+            ordinals: Vec::new(alloc),
+        }
+    }
+
     /// The ordinals, rising. It takes no memory.
     pub fn items(&self) -> &[u32]
         ensures same { result.now ≡ self.now }
         ensures rising { IsSet self.now }
     {
         &self.ordinals
+    }
+
+    /// The set of ordinals that rise.
+    pub(crate) fn of(ordinals: Vec<u32>) -> Members
+        requires { IsSet ordinals.items }
+        ensures { result ≡ ordinals.items }
+    {
+        Members { ordinals }
+    }
+
+    pub fn copy(&self, alloc: Global) -> Result<Members, AllocError>
+        ensures { IfOk result (λ set. set ≡ self.now) }
+    {
+        Ok(Members {
+            ordinals: self.ordinals.to_vec(alloc)?,
+        })
     }
 }
