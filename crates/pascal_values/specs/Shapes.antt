@@ -1,5 +1,5 @@
 -- The values of a type, by its shape.
-use Rattle.std.specs.Prelude.{ℕ, ◌+◌, ◌^◌, ◌==◌, nat_lt, nat_le, nat_abs, Bool, true, false, ◌&&◌, if◌then◌else◌, List, [], ◌∷◌, length, replicate, ℤ, ◌-ℤ◌, Result, Ok, Err}
+use Rattle.std.specs.Prelude.{ℕ, ◌+◌, ◌^◌, ◌==◌, nat_lt, nat_le, nat_abs, Bool, true, false, ◌&&◌, if◌then◌else◌, List, [], ◌∷◌, length, map, replicate, ℤ, ◌-ℤ◌, Result, Ok, Err}
 use Rattle.std.specs.List.{list_all}
 use Rattle.std.specs.Int.RustNames.{int_le}
 use Rattle.pascal_values.specs.declared.fault.Fault.{Fault}
@@ -55,6 +55,10 @@ within_step shape v = within_at shape (out-Value v)
 -- each part of the value that is set is of the shape's kind and lies within its bounds
 unfoldable pub is_within : Shape → Value → Bool
 is_within = fold-Shape (Value → Bool) within_step
+
+-- each value lies within the shape of its place
+abbrev pub each_within : List Shape → List Value → Bool
+each_within shapes vs = each_passes (map is_within shapes) vs
 
 abbrev pub is_unset_at : Value-F Value → Bool
 is_unset_at Value-F.Unset = true

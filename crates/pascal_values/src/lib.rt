@@ -5,15 +5,23 @@
 #![tactic(auto)]
 
 mod arithmetic;
+mod comparing;
 mod fault;
+mod fitting;
 mod members;
 mod parts;
 mod sets;
 mod value;
+mod way;
+mod whole;
 
 pub use arithmetic::{MAXINT, add, divide, modulo, mul, sub};
+pub use comparing::compare;
 pub use fault::Fault;
+pub use fitting::{fits, position};
 pub use members::Members;
 pub use parts::Parts;
 pub use sets::{has, meet, minus, span, unite};
 pub use value::{Relation, Shape, Value, Values};
+pub use way::{find, part, replace};
+pub use whole::{blank, copy};
