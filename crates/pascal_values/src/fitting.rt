@@ -1,6 +1,6 @@
 //! Whether a value belongs to a type. No call takes memory.
 
-ghost use Rattle.std.specs.Prelude.{◌≡◌};
+ghost use Rattle.std.specs.Prelude.{◌≡◌, ◌==◌};
 ghost use Rattle.pascal_values.specs.Shapes.{is_within, fit_of, place_of, item_count, each_within, has_ordinal, bool_ordinal};
 ghost use Rattle.std.specs.List.{list_all};
 

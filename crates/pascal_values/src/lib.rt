@@ -7,12 +7,14 @@
 mod arithmetic;
 mod comparing;
 mod fault;
+#[tactic(auto, using(crate::specs::declared::value::Shape::the_lemmas, crate::specs::declared::value::Value::the_lemmas, crate::proofs::ShapeLemmas::within_out, crate::proofs::ShapeLemmas::each_within_apart))]
 mod fitting;
 mod members;
 mod parts;
 mod sets;
 mod value;
 mod way;
+#[tactic(auto, using(crate::specs::declared::value::Shape::the_lemmas, crate::proofs::ShapeLemmas::blank_out))]
 mod whole;
 
 pub use arithmetic::{MAXINT, add, divide, modulo, mul, sub};
