@@ -1,5 +1,5 @@
 -- The text of a value.
-use Rattle.std.specs.Prelude.{ℕ, zero, suc, ◌+◌, ◌<◌, ◌^◌, ◌==◌, nat_le, Bool, IsTrue, ◌&&◌, if◌then◌else◌, List, [], ◌∷◌, ◌++◌, length, map, codes}
+use Rattle.std.specs.Prelude.{◌≡◌, ℕ, zero, suc, ◌+◌, ◌<◌, ◌^◌, ◌==◌, nat_le, Bool, IsTrue, ◌&&◌, if◌then◌else◌, List, [], ◌∷◌, ◌++◌, length, take, map, codes}
 use Rattle.std.specs.List.{AllByRecursion, join_with_byte}
 use Rattle.std.specs.Fmt.{decimal, signed_decimal}
 use Rattle.pascal_values.specs.declared.value.Value.{Value, out-Value}
@@ -7,6 +7,15 @@ use Rattle.pascal_values.specs.declared.value.Value.TheFolds.{fold-Value}
 use Rattle.pascal_values.specs.declared.value.Value.TheOpen.{Value-F}
 use Rattle.pascal_values.specs.Integers.{is_integer}
 use Rattle.pascal_values.specs.Sets.{IsSet}
+
+-- what is written begins with what was written before
+abbrev pub Extends : List ℕ → List ℕ → Type 0
+Extends old new = take (length old) new ≡ old
+
+-- the comma before each text but the first
+abbrev pub comma_before : ℕ → List ℕ
+comma_before zero = []
+comma_before (suc place) = 44 ∷ []
 
 -- texts with a comma between each two, in brackets
 abbrev pub enclosed : ℕ → List (List ℕ) → ℕ → List ℕ

@@ -16,6 +16,8 @@ mod value;
 mod way;
 #[tactic(auto, using(crate::specs::declared::value::Shape::the_lemmas, crate::proofs::ShapeLemmas::blank_out))]
 mod whole;
+#[tactic(auto, using(crate::specs::declared::value::Value::the_lemmas, crate::proofs::TextLemmas::text_out, crate::proofs::TextLemmas::extends, crate::proofs::TextLemmas::extends_more))]
+mod writing;
 
 pub use arithmetic::{MAXINT, add, divide, modulo, mul, sub};
 pub use comparing::compare;
@@ -27,3 +29,4 @@ pub use sets::{has, meet, minus, span, unite};
 pub use value::{Relation, Shape, Value, Values};
 pub use way::{find, part, replace};
 pub use whole::{blank, copy};
+pub use writing::write_value;
