@@ -1,3 +1,7 @@
 pub mod SetLemmas
 pub mod ShapeLemmas
 pub mod TextLemmas
+pub mod Decimals
+pub mod KindLemmas
+pub mod ListingLemmas
+pub mod UniqueLemmas

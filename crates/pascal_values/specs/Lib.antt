@@ -5,3 +5,4 @@ pub mod Values
 pub mod Shapes
 pub mod Order
 pub mod Texts
+pub mod Reading
