@@ -1,13 +1,10 @@
 -- Decimal texts: where one begins another, and where two stand before other text.
 use Rattle.std.proofs.Common.{◌≡◌, ◌≢◌, ℕ, zero, suc, ◌+◌, ◌-◌, ◌*◌, ◌/◌, ◌%◌, ◌^◌, ◌<◌, ◌≤◌, List, [], ◌∷◌, ◌++◌, length, inl, inr, ◌⊎◌, ap, subst, ◌∙◌, sym, refl, arith, append_assoc, append-nil, length-append}
 use Rattle.std.specs.Fmt.{decimal}
+use Rattle.pascal_values.specs.Texts.{NoDigit}
+use Rattle.pascal_values.specs.Steps.{IsFull}
 use Rattle.std.proofs.lemmas.Fmt.{decimal_digit, decimal_step, decimal_by_steps, decimal_nonempty, decimal_injective}
 use Rattle.std.proofs.lemmas.Bool.{cases_lt, cases_order}
-
--- no digit stands here
-abbrev pub Ends : List ℕ → Type 0
-Ends [] = Unit {0}
-Ends (c ∷ cs) = (c < 48) ⊎ (57 < c)
 
 pub heads : (a b : ℕ) (t u : List ℕ) → a ∷ t ≡ b ∷ u → a ≡ b
 heads a b t u e = cc
@@ -92,21 +89,18 @@ follows_more y front le front_is before n c ds n_in y_in e =
 pub goes_on : (n y c : ℕ) (ds : List ℕ) → n < 2 ^ 64 → y < 2 ^ 64 → decimal y ≡ decimal n ++ c ∷ ds → GoesOn n y c
 goes_on n y c ds n_in y_in e = (decimal_by_steps (λ z zs. (z < 2 ^ 64 → zs ≡ decimal z) × Follows z zs) (λ z lt. ((λ z_in. sym (decimal_digit z lt)), follows_one z lt)) (λ z zs le before. ((λ z_in. rw (decimal_step z le z_in) (ap (λ t. t ++ (48 + z % 10) ∷ []) (before.0 (omega arith)))), follows_more z zs le before.0 before.1)) y y_in).1 n c ds n_in y_in e
 
-no_digit : (c : ℕ) (t : List ℕ) (r : List ℕ) (n y : ℕ) → Ends r → r ≡ c ∷ t → GoesOn n y c → ⊥
-no_digit c t r n y ends e g = elim (subst Ends e ends) [ inl low ↦ omega (arith, g.is_digit) | inr high ↦ omega (arith, g.is_digit, g.below_ten) ]
+no_digit : (c : ℕ) (t : List ℕ) (r : List ℕ) (n y : ℕ) → NoDigit r → r ≡ c ∷ t → GoesOn n y c → ⊥
+no_digit c t r n y ends e g = elim (subst NoDigit e ends) [ inl low ↦ omega (arith, g.is_digit) | inr high ↦ omega (arith, g.is_digit, g.below_ten) ]
 
 -- two decimal texts before text that no digit begins
-pub decimals_apart : (m n : ℕ) (r s : List ℕ) → m < 2 ^ 64 → n < 2 ^ 64 → Ends r → Ends s → decimal m ++ r ≡ decimal n ++ s → (m ≡ n) × (r ≡ s)
+pub decimals_apart : (m n : ℕ) (r s : List ℕ) → m < 2 ^ 64 → n < 2 ^ 64 → NoDigit r → NoDigit s → decimal m ++ r ≡ decimal n ++ s → (m ≡ n) × (r ≡ s)
 decimals_apart m n r s m_in n_in r_ends s_ends e = elim (cases_order (length (decimal m)) (length (decimal n))) [
     inl same ↦ let p = same_length (decimal m) r (decimal n) s e same in (decimal_injective m n m_in n_in p.0, p.1)
   | inr (inl less) ↦ let l = longer (decimal m) r (decimal n) s e less in absurd (no_digit l.0 (l.1 ++ s) r m n r_ends l.3 (goes_on m n l.0 l.1 m_in n_in l.2))
   | inr (inr more) ↦ let l = longer (decimal n) s (decimal m) r (sym e) more in absurd (no_digit l.0 (l.1 ++ r) s n m s_ends l.3 (goes_on n m l.0 l.1 n_in m_in l.2))
   ]
 
--- no further digit can be taken
-abbrev pub IsFull : ℕ → ℕ → List ℕ → Type 0
-IsFull greatest n r = (d : ℕ) (t : List ℕ) → d < 10 → r ≡ (48 + d) ∷ t → 0 < n → n * 10 + d ≤ greatest → ⊥
-
+-- a number to which no digit can be added has the longest text
 pub decimal_longest : (greatest n : ℕ) (s r : List ℕ) → greatest < 2 ^ 64 → n ≤ greatest → IsFull greatest n r → s ≡ decimal n ++ r → (y : ℕ) (q : List ℕ) → y ≤ greatest → s ≡ decimal y ++ q → length (decimal y) ≤ length (decimal n)
 decimal_longest greatest n s r g_in n_in full is y q y_in y_is = elim (cases_lt (length (decimal n)) (length (decimal y))) [
     inr le ↦ le
@@ -114,3 +108,24 @@ decimal_longest greatest n s r g_in n_in full is y q y_in y_is = elim (cases_lt 
       let g = goes_on n y l.0 l.1 (omega arith) (omega arith) l.2 in
       absurd (full g.digit (l.1 ++ q) g.below_ten (l.3 ∙ ap (λ c. c ∷ (l.1 ++ q)) g.is_digit) g.not_zero (omega (arith, g.within)))
   ]
+
+pub number_first : (d : ℕ) (s r : List ℕ) → d < 10 → s ≡ (48 + d) ∷ r → s ≡ decimal d ++ r
+number_first d s r lt is = is ∙ ap (λ t. t ++ r) (sym (decimal_digit d lt))
+
+-- one more digit behind a number
+pub number_more : (n d m : ℕ) (s r more : List ℕ) → d < 10 → 0 < n → m ≡ n * 10 + d → m < 2 ^ 64 → s ≡ decimal n ++ r → r ≡ (48 + d) ∷ more → s ≡ decimal m ++ more
+number_more n d m s r more lt nz m_is m_in is next =
+    let q : m / 10 ≡ n = omega arith in
+    let k : m % 10 ≡ d = omega arith in
+    let step : decimal m ≡ decimal n ++ (48 + d) ∷ [] = decimal_step m (omega arith) m_in ∙ (ap (λ z. decimal z ++ (48 + m % 10) ∷ []) q ∙ ap (λ z. decimal n ++ (48 + z) ∷ []) k) in
+    is ∙ (ap (λ t. decimal n ++ t) next ∙ (sym (append_assoc (decimal n) ((48 + d) ∷ []) more) ∙ ap (λ t. t ++ more) (sym step)))
+
+-- the number that is read is the only one before text that no digit begins
+pub number_only : (greatest n : ℕ) (s r : List ℕ) → greatest < 2 ^ 64 → n ≤ greatest → IsFull greatest n r → s ≡ decimal n ++ r → (y : ℕ) (t : List ℕ) → y ≤ greatest → NoDigit t → s ≡ decimal y ++ t → (n ≡ y) × (r ≡ t)
+number_only greatest n s r g_in n_in full is y t y_in ends y_is =
+    let e : decimal n ++ r ≡ decimal y ++ t = sym is ∙ y_is in
+    let le = decimal_longest greatest n s r g_in n_in full is y t y_in y_is in
+    elim (cases_lt (length (decimal y)) (length (decimal n))) [
+      inr ge ↦ let p = same_length (decimal n) r (decimal y) t e (omega arith) in (decimal_injective n y (omega arith) (omega arith) p.0, p.1)
+    | inl less ↦ let l = longer (decimal y) t (decimal n) r (sym e) less in absurd (no_digit l.0 (l.1 ++ r) t y n ends l.3 (goes_on y n l.0 l.1 (omega arith) (omega arith) l.2))
+    ]

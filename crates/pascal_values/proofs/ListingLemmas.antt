@@ -1,7 +1,7 @@
 -- Texts of a list's items with commas between them, before a bracket that closes.
 use Rattle.std.proofs.Common.{◌≡◌, ℕ, zero, suc, ◌+◌, ◌<◌, ◌≤◌, List, [], ◌∷◌, ◌++◌, map, length, inl, inr, ◌⊎◌, ap, subst, ◌∙◌, sym, refl, arith, append_assoc}
 use Rattle.std.specs.List.{join_with_byte, AllByRecursion}
-use Rattle.pascal_values.proofs.Decimals.{Ends}
+use Rattle.pascal_values.specs.Texts.{NoDigit}
 
 module _ {X : Type 0} (f : X → List ℕ) (P : X → Type 0) (close : ℕ) where
   -- the items that follow one, and what follows the bracket
@@ -13,16 +13,16 @@ module _ {X : Type 0} (f : X → List ℕ) (P : X → Type 0) (close : ℕ) wher
   join-listed x [] q = refl
   join-listed x (y ∷ ys) q = append_assoc (f x) (44 ∷ join_with_byte 44 (map f (y ∷ ys))) (close ∷ q) ∙ ap (λ t. f x ++ (44 ∷ t)) (join-listed y ys q)
 
-  pub listed_ends : (57 < close) ⊎ (close < 44) → (xs : List X) (q : List ℕ) → Ends (listed xs q)
+  pub listed_ends : (57 < close) ⊎ (close < 44) → (xs : List X) (q : List ℕ) → NoDigit (listed xs q)
   listed_ends (inl high) [] q = inr high
   listed_ends (inr low) [] q = inl (omega arith)
   listed_ends out (y ∷ ys) q = inl (omega arith)
 
   -- an item that must be the one that stands here
   abbrev pub IsOnly : List ℕ → X → List ℕ → Type 0
-  IsOnly s x r = (y : X) (t : List ℕ) → P y → Ends t → s ≡ f y ++ t → (x ≡ y) × (r ≡ t)
+  IsOnly s x r = (y : X) (t : List ℕ) → P y → NoDigit t → s ≡ f y ++ t → (x ≡ y) × (r ≡ t)
 
-  module _ (out : (57 < close) ⊎ (close < 44)) (apart : (x y : X) (r s : List ℕ) → P x → P y → Ends r → Ends s → f x ++ r ≡ f y ++ s → (x ≡ y) × (r ≡ s)) where
+  module _ (out : (57 < close) ⊎ (close < 44)) (apart : (x y : X) (r s : List ℕ) → P x → P y → NoDigit r → NoDigit s → f x ++ r ≡ f y ++ s → (x ≡ y) × (r ≡ s)) where
     pub listed_apart : (xs ys : List X) (r s : List ℕ) → AllByRecursion P xs → AllByRecursion P ys → listed xs r ≡ listed ys s → (xs ≡ ys) × (r ≡ s)
     listed_apart [] [] r s p q e = (refl, cc)
     listed_apart [] (y ∷ ys) r s p q e = let h : close ≡ 44 = cc in elim out [ inl high ↦ absurd (omega arith) | inr low ↦ absurd (omega arith) ]

@@ -7,19 +7,19 @@ use Rattle.std.specs.Fmt.{decimal, signed_decimal}
 use Rattle.std.proofs.lemmas.Bool.Decides.{nat_tests}
 use Rattle.pascal_values.specs.declared.value.Value.{Value, Value-F, out-Value}
 use Rattle.pascal_values.specs.Sets.{IsRising, IsSet}
-use Rattle.pascal_values.specs.Texts.{text, char_text, IsFormed, HasForm}
-use Rattle.pascal_values.proofs.Decimals.{Ends, heads, tails, decimals_apart}
+use Rattle.pascal_values.specs.Texts.{text, NoDigit, char_text, IsFormed, HasForm}
+use Rattle.pascal_values.proofs.Decimals.{heads, tails, decimals_apart}
 use Rattle.pascal_values.proofs.KindLemmas.{kind, kind_at, text_at, text_is, first_at, first_digit, integer_in, negative_in, from_out, no_nil}
 use Rattle.pascal_values.proofs.ListingLemmas.{joins_apart, join-listed, listed}
 use Rattle.pascal_values.proofs.SetLemmas.{IsRising-le}
 
 -- what may follow a text: behind a number no digit
 abbrev pub Stops : {X : Type 0} → Value-F X → List ℕ → Type 0
-Stops (Value-F.Int n) r = Ends r
-Stops (Value-F.Enum n) r = Ends r
+Stops (Value-F.Int n) r = NoDigit r
+Stops (Value-F.Enum n) r = NoDigit r
 Stops _ r = Unit {0}
 
-pub stops_from_ends : {X : Type 0} (l : Value-F X) (r : List ℕ) → Ends r → Stops l r
+pub stops_from_ends : {X : Type 0} (l : Value-F X) (r : List ℕ) → NoDigit r → Stops l r
 stops_from_ends Value-F.Unset r e = tt
 stops_from_ends (Value-F.Int n) r e = e
 stops_from_ends (Value-F.Bool b) r e = tt
@@ -68,7 +68,7 @@ pub members_small : (low : ℕ) (ns : List ℕ) → IsRising low ns 256 → AllB
 members_small low [] r = tt
 members_small low (n ∷ ns) r = (omega (arith, IsRising-le (n + 1) ns 256 r.1), members_small (n + 1) ns r.1)
 
-pub small_apart : (m n : ℕ) (r s : List ℕ) → m < 256 → n < 256 → Ends r → Ends s → decimal m ++ r ≡ decimal n ++ s → (m ≡ n) × (r ≡ s)
+pub small_apart : (m n : ℕ) (r s : List ℕ) → m < 256 → n < 256 → NoDigit r → NoDigit s → decimal m ++ r ≡ decimal n ++ s → (m ≡ n) × (r ≡ s)
 small_apart m n r s m_in n_in = decimals_apart m n r s (omega arith) (omega arith)
 
 no_close : (n : ℕ) (ns : List ℕ) (r s : List ℕ) → n < 256 → 93 ∷ r ≡ join_with_byte 44 (map decimal (n ∷ ns)) ++ 93 ∷ s → ⊥
@@ -89,7 +89,7 @@ sets_apart (m ∷ ms) (n ∷ ns) r s p q e = joins_apart decimal (λ k. k < 256)
 neither : (n : ℕ) → 45 ≡ 48 + n → ⊥
 neither n e = omega arith
 
-integers_apart : (m n : ℤ) (r s : List ℕ) → IsTrue (is_integer m) → IsTrue (is_integer n) → Ends r → Ends s → signed_decimal m ++ r ≡ signed_decimal n ++ s → (m ≡ n) × (r ≡ s)
+integers_apart : (m n : ℤ) (r s : List ℕ) → IsTrue (is_integer m) → IsTrue (is_integer n) → NoDigit r → NoDigit s → signed_decimal m ++ r ≡ signed_decimal n ++ s → (m ≡ n) × (r ≡ s)
 integers_apart (pos m) (pos n) r s p q re se e = let a = decimals_apart m n r s (omega (arith, integer_in m p)) (omega (arith, integer_in n q)) re se e in (ap pos a.0, a.1)
 integers_apart (pos m) (negsuc n) r s p q re se e =
     let d = first_digit m (omega (arith, integer_in m p)) in
@@ -111,7 +111,7 @@ inside : (a : ℕ) (t u : List ℕ) (b : ℕ) (r s : List ℕ) → (a ∷ (t ++ 
 inside a t u b r s e = tails a a (t ++ b ∷ r) (u ++ b ∷ s) (sym (bracket a t b r) ∙ (e ∙ bracket a u b s))
 
 abbrev Apart : (Value → Type 0) → Type 0
-Apart IsPart = (v w : Value) (r s : List ℕ) → IsPart v → IsPart w → Ends r → Ends s → text v ++ r ≡ text w ++ s → (v ≡ w) × (r ≡ s)
+Apart IsPart = (v w : Value) (r s : List ℕ) → IsPart v → IsPart w → NoDigit r → NoDigit s → text v ++ r ≡ text w ++ s → (v ≡ w) × (r ≡ s)
 
 parts_apart : (IsPart : Value → Type 0) → Apart IsPart → (close : ℕ) → (57 < close) ⊎ (close < 44) → (vs ws : List Value) (r s : List ℕ) → (0 < length vs) × AllByRecursion IsPart vs → (0 < length ws) × AllByRecursion IsPart ws → join_with_byte 44 (map text vs) ++ close ∷ r ≡ join_with_byte 44 (map text ws) ++ close ∷ s → (vs ≡ ws) × (r ≡ s)
 parts_apart p apart close out [] ws r s h k e = absurd (omega (arith, h.0))

@@ -6,3 +6,4 @@ pub mod Shapes
 pub mod Order
 pub mod Texts
 pub mod Reading
+pub mod Steps

@@ -1,5 +1,5 @@
 -- The text of a value.
-use Rattle.std.specs.Prelude.{◌≡◌, ℕ, zero, suc, ◌+◌, ◌<◌, ◌^◌, ◌==◌, nat_le, Bool, IsTrue, ◌&&◌, if◌then◌else◌, List, [], ◌∷◌, ◌++◌, length, take, map, codes}
+use Rattle.std.specs.Prelude.{◌≡◌, ◌⊎◌, ℕ, zero, suc, ◌+◌, ◌<◌, ◌^◌, ◌==◌, nat_le, Bool, IsTrue, ◌&&◌, if◌then◌else◌, List, [], ◌∷◌, ◌++◌, length, take, map, codes}
 use Rattle.std.specs.List.{AllByRecursion, join_with_byte}
 use Rattle.std.specs.Fmt.{decimal, signed_decimal}
 use Rattle.pascal_values.specs.declared.value.Value.{Value, out-Value}
@@ -41,6 +41,11 @@ text_step (Value-F.Fields texts) = enclosed 123 texts 125
 -- the text of a value, in which the texts of its parts stand
 unfoldable pub text : Value → List ℕ
 text = fold-Value (List ℕ) text_step
+
+-- no digit stands first
+abbrev pub NoDigit : List ℕ → Type 0
+NoDigit [] = Unit {0}
+NoDigit (c ∷ cs) = (c < 48) ⊎ (57 < c)
 
 -- a value is in the form that a text has, where `IsPart` says it of its parts
 abbrev pub IsFormed : (Value → Type 0) → Value-F Value → Type 0

@@ -6,6 +6,7 @@
 
 mod arithmetic;
 mod comparing;
+mod digits;
 mod fault;
 #[tactic(auto, using(crate::specs::declared::value::Shape::the_lemmas, crate::specs::declared::value::Value::the_lemmas, crate::proofs::ShapeLemmas::within_out, crate::proofs::ShapeLemmas::each_within_apart))]
 mod fitting;

@@ -1,0 +1,33 @@
+-- What the reader's own steps find in a text.
+use Rattle.std.specs.Prelude.{◌≡◌, ℕ, ◌+◌, ◌*◌, ◌<◌, ◌≤◌, List, ◌∷◌, ◌++◌, length, drop}
+use Rattle.std.specs.Fmt.{decimal}
+
+-- a byte stands at a place
+pub record Stands (bytes : List ℕ) (at_ c : ℕ) : Type 0 where
+  pub within : at_ < length bytes
+  pub is : drop at_ bytes ≡ c ∷ drop (at_ + 1) bytes
+
+-- a digit's value
+pub record StandsDigit (bytes : List ℕ) (at_ d : ℕ) : Type 0 where
+  pub below_ten : d < 10
+  pub stands : Stands bytes at_ (48 + d)
+
+-- no digit can be added to a number: none follows, it has a leading zero, or it grows too great
+abbrev pub IsFull : ℕ → ℕ → List ℕ → Type 0
+IsFull greatest n rest = (d : ℕ) (more : List ℕ) → d < 10 → rest ≡ (48 + d) ∷ more → 0 < n → n * 10 + d ≤ greatest → ⊥
+
+-- a digit is added to a number
+pub record TakesDigit (greatest n : ℕ) (bytes : List ℕ) (at_ m : ℕ) : Type 0 where
+  pub digit : ℕ
+  pub stands : StandsDigit bytes at_ digit
+  pub not_zero : 0 < n
+  pub is : m ≡ n * 10 + digit
+  pub fits : m ≤ greatest
+
+-- the longest decimal number that does not pass the greatest, and the place after it
+pub record IsNumber (greatest : ℕ) (bytes : List ℕ) (at_ n end_ : ℕ) : Type 0 where
+  pub fits : n ≤ greatest
+  pub goes : at_ < end_
+  pub within : end_ ≤ length bytes
+  pub is : drop at_ bytes ≡ decimal n ++ drop end_ bytes
+  pub full : IsFull greatest n (drop end_ bytes)
