@@ -5,3 +5,4 @@ pub mod Decimals
 pub mod KindLemmas
 pub mod ListingLemmas
 pub mod UniqueLemmas
+pub mod ReadingLemmas

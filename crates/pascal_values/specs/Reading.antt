@@ -1,8 +1,8 @@
 -- Reading a value from a text.
 use Rattle.std.specs.Prelude.{◌≡◌, ℕ, ◌≤◌, List, ◌++◌, length, drop, Result, Ok, Err}
 use Rattle.pascal_values.specs.declared.value.Value.{Value}
-use Rattle.pascal_values.specs.declared.reading.ValueError.{ValueError}
-use Rattle.pascal_values.specs.declared.reading.ValueError.TheVariants.{NoValue, Memory}
+use Rattle.pascal_values.specs.declared.failing.ValueError.{ValueError}
+use Rattle.pascal_values.specs.declared.failing.ValueError.TheVariants.{NoValue, Memory}
 use Rattle.pascal_values.specs.Texts.{text, HasForm}
 
 -- the value, nested so deep at most, with the longest text that begins here, and what follows it

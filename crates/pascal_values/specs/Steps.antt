@@ -1,11 +1,15 @@
 -- What the reader's own steps find in a text.
-use Rattle.std.specs.Prelude.{◌≡◌, ℕ, ◌+◌, ◌*◌, ◌<◌, ◌≤◌, List, ◌∷◌, ◌++◌, length, drop}
+use Rattle.std.specs.Prelude.{◌≡◌, ◌≢◌, ℕ, ◌+◌, ◌*◌, ◌<◌, ◌≤◌, List, ◌∷◌, ◌++◌, length, drop}
 use Rattle.std.specs.Fmt.{decimal}
 
 -- a byte stands at a place
 pub record Stands (bytes : List ℕ) (at_ c : ℕ) : Type 0 where
   pub within : at_ < length bytes
   pub is : drop at_ bytes ≡ c ∷ drop (at_ + 1) bytes
+
+-- a byte that begins no text but a natural number's
+abbrev pub IsOther : ℕ → Type 0
+IsOther c = (c ≢ 63) × (c ≢ 45) × (c ≢ 116) × (c ≢ 102) × (c ≢ 39) × (c ≢ 99) × (c ≢ 35) × (c ≢ 91) × (c ≢ 40) × (c ≢ 123)
 
 -- a digit's value
 pub record StandsDigit (bytes : List ℕ) (at_ d : ℕ) : Type 0 where

@@ -7,6 +7,7 @@
 mod arithmetic;
 mod comparing;
 mod digits;
+mod failing;
 mod fault;
 #[tactic(auto, using(crate::specs::declared::value::Shape::the_lemmas, crate::specs::declared::value::Value::the_lemmas, crate::proofs::ShapeLemmas::within_out, crate::proofs::ShapeLemmas::each_within_apart))]
 mod fitting;
@@ -23,11 +24,11 @@ mod writing;
 
 pub use arithmetic::{MAXINT, add, divide, modulo, mul, sub};
 pub use comparing::compare;
+pub use failing::ValueError;
 pub use fault::Fault;
 pub use fitting::{fits, position};
 pub use members::Members;
 pub use parts::Parts;
-pub use reading::ValueError;
 pub use sets::{has, meet, minus, span, unite};
 pub use value::{Relation, Shape, Value, Values};
 pub use way::{find, part, replace};
