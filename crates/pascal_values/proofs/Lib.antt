@@ -6,3 +6,4 @@ pub mod KindLemmas
 pub mod ListingLemmas
 pub mod UniqueLemmas
 pub mod ReadingLemmas
+pub mod PlaceLemmas

@@ -123,9 +123,6 @@ text_by v l e = text_is v ∙ ap text_at e
 pub formed_by : (depth : ℕ) (v : Value) (l : Value-F Value) → out-Value v ≡ l → HasForm depth v → IsFormed (Part depth) l
 formed_by depth v l e h = subst (IsFormed (Part depth)) e (formed depth v h)
 
-pub stands_here : (bytes : List ℕ) (at_ c : ℕ) → at_ < length bytes → get_or bytes at_ 0 ≡ c → Stands bytes at_ c
-stands_here bytes at_ c lt e = record { within = lt; is = rw (add-one, ← e) (drop-cons bytes at_ 0 lt) }
-
 -- ---- numbers
 
 maxint : ℕ

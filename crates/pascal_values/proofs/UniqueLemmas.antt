@@ -7,7 +7,7 @@ use Rattle.std.specs.Fmt.{decimal, signed_decimal}
 use Rattle.std.proofs.lemmas.Bool.Decides.{nat_tests}
 use Rattle.pascal_values.specs.declared.value.Value.{Value, Value-F, out-Value}
 use Rattle.pascal_values.specs.Sets.{IsRising, IsSet}
-use Rattle.pascal_values.specs.Texts.{text, NoDigit, char_text, IsFormed, HasForm}
+use Rattle.pascal_values.specs.Texts.{text, NoDigit, char_text, is_printable, IsFormed, HasForm}
 use Rattle.pascal_values.proofs.Decimals.{heads, tails, decimals_apart}
 use Rattle.pascal_values.proofs.KindLemmas.{kind, kind_at, text_at, text_is, first_at, first_digit, integer_in, negative_in, from_out, no_nil}
 use Rattle.pascal_values.proofs.ListingLemmas.{joins_apart, join-listed, listed}
@@ -31,36 +31,36 @@ stops_from_ends (Value-F.Fields vs) r e = tt
 
 -- ---- characters
 
-data CharCase (c : ℕ) : Type 0 where
+pub data CharCase (c : ℕ) : Type 0 where
   quote : c ≡ 39 → char_text c ≡ 39 ∷ 39 ∷ 39 ∷ 39 ∷ [] → CharCase c
-  plain : (c ≡ 39 → ⊥) → char_text c ≡ 39 ∷ c ∷ 39 ∷ [] → CharCase c
-  coded : char_text c ≡ 99 ∷ 104 ∷ 114 ∷ 40 ∷ (decimal c ++ 41 ∷ []) → CharCase c
+  plain : (c ≡ 39 → ⊥) → is_printable c ≡ true → char_text c ≡ 39 ∷ c ∷ 39 ∷ [] → CharCase c
+  coded : is_printable c ≡ false → char_text c ≡ 99 ∷ 104 ∷ 114 ∷ 40 ∷ (decimal c ++ 41 ∷ []) → CharCase c
 
-char_case : (c : ℕ) → CharCase c
-char_case c = by_tests (c == 39) (nat_le 32 c && nat_le c 126) refl refl
+pub char_case : (c : ℕ) → CharCase c
+char_case c = by_tests (c == 39) (is_printable c) refl refl
   where
-  by_tests : (q p : Bool) → (c == 39) ≡ q → (nat_le 32 c && nat_le c 126) ≡ p → CharCase c
+  by_tests : (q p : Bool) → (c == 39) ≡ q → (is_printable c) ≡ p → CharCase c
   by_tests true p e f = quote (grind (arith, nat_tests)) (rw e refl)
-  by_tests false true e f = plain (grind (arith, nat_tests)) (rw (e, f) refl)
-  by_tests false false e f = coded (rw (e, f) refl)
+  by_tests false true e f = plain (grind (arith, nat_tests)) f (rw (e, f) refl)
+  by_tests false false e f = coded f (rw (e, f) refl)
 
 chars_apart : (c d : ℕ) (r s : List ℕ) → c < 256 → d < 256 → char_text c ++ r ≡ char_text d ++ s → (c ≡ d) × (r ≡ s)
 chars_apart c d r s c_in d_in e = by_cases (char_case c) (char_case d)
   where
   by_cases : CharCase c → CharCase d → (c ≡ d) × (r ≡ s)
   by_cases (quote p a) (quote q b) = let h : 39 ∷ 39 ∷ 39 ∷ 39 ∷ r ≡ 39 ∷ 39 ∷ 39 ∷ 39 ∷ s = sym (ap (λ t. t ++ r) a) ∙ (e ∙ ap (λ t. t ++ s) b) in (p ∙ sym q, cc)
-  by_cases (quote p a) (plain n b) = let h : 39 ∷ 39 ∷ 39 ∷ 39 ∷ r ≡ 39 ∷ d ∷ 39 ∷ s = sym (ap (λ t. t ++ r) a) ∙ (e ∙ ap (λ t. t ++ s) b) in absurd (n cc)
-  by_cases (quote p a) (coded b) = let h : 39 ∷ 39 ∷ 39 ∷ 39 ∷ r ≡ 99 ∷ 104 ∷ 114 ∷ 40 ∷ ((decimal d ++ 41 ∷ []) ++ s) = sym (ap (λ t. t ++ r) a) ∙ (e ∙ ap (λ t. t ++ s) b) in absurd (omega (arith, heads 39 99 _ _ h))
-  by_cases (plain n a) (quote q b) = let h : 39 ∷ c ∷ 39 ∷ r ≡ 39 ∷ 39 ∷ 39 ∷ 39 ∷ s = sym (ap (λ t. t ++ r) a) ∙ (e ∙ ap (λ t. t ++ s) b) in absurd (n cc)
-  by_cases (plain n a) (plain m b) = let h : 39 ∷ c ∷ 39 ∷ r ≡ 39 ∷ d ∷ 39 ∷ s = sym (ap (λ t. t ++ r) a) ∙ (e ∙ ap (λ t. t ++ s) b) in (cc, cc)
-  by_cases (plain n a) (coded b) = let h : 39 ∷ c ∷ 39 ∷ r ≡ 99 ∷ 104 ∷ 114 ∷ 40 ∷ ((decimal d ++ 41 ∷ []) ++ s) = sym (ap (λ t. t ++ r) a) ∙ (e ∙ ap (λ t. t ++ s) b) in absurd (omega (arith, heads 39 99 _ _ h))
-  by_cases (coded a) (quote q b) = let h : 99 ∷ 104 ∷ 114 ∷ 40 ∷ ((decimal c ++ 41 ∷ []) ++ r) ≡ 39 ∷ 39 ∷ 39 ∷ 39 ∷ s = sym (ap (λ t. t ++ r) a) ∙ (e ∙ ap (λ t. t ++ s) b) in absurd (omega (arith, heads 99 39 _ _ h))
-  by_cases (coded a) (plain m b) = let h : 99 ∷ 104 ∷ 114 ∷ 40 ∷ ((decimal c ++ 41 ∷ []) ++ r) ≡ 39 ∷ d ∷ 39 ∷ s = sym (ap (λ t. t ++ r) a) ∙ (e ∙ ap (λ t. t ++ s) b) in absurd (omega (arith, heads 99 39 _ _ h))
-  by_cases (coded a) (coded b) =
+  by_cases (quote p a) (plain n y b) = let h : 39 ∷ 39 ∷ 39 ∷ 39 ∷ r ≡ 39 ∷ d ∷ 39 ∷ s = sym (ap (λ t. t ++ r) a) ∙ (e ∙ ap (λ t. t ++ s) b) in absurd (n cc)
+  by_cases (quote p a) (coded v b) = let h : 39 ∷ 39 ∷ 39 ∷ 39 ∷ r ≡ 99 ∷ 104 ∷ 114 ∷ 40 ∷ ((decimal d ++ 41 ∷ []) ++ s) = sym (ap (λ t. t ++ r) a) ∙ (e ∙ ap (λ t. t ++ s) b) in absurd (omega (arith, heads 39 99 _ _ h))
+  by_cases (plain n x a) (quote q b) = let h : 39 ∷ c ∷ 39 ∷ r ≡ 39 ∷ 39 ∷ 39 ∷ 39 ∷ s = sym (ap (λ t. t ++ r) a) ∙ (e ∙ ap (λ t. t ++ s) b) in absurd (n cc)
+  by_cases (plain n x a) (plain m y b) = let h : 39 ∷ c ∷ 39 ∷ r ≡ 39 ∷ d ∷ 39 ∷ s = sym (ap (λ t. t ++ r) a) ∙ (e ∙ ap (λ t. t ++ s) b) in (cc, cc)
+  by_cases (plain n x a) (coded v b) = let h : 39 ∷ c ∷ 39 ∷ r ≡ 99 ∷ 104 ∷ 114 ∷ 40 ∷ ((decimal d ++ 41 ∷ []) ++ s) = sym (ap (λ t. t ++ r) a) ∙ (e ∙ ap (λ t. t ++ s) b) in absurd (omega (arith, heads 39 99 _ _ h))
+  by_cases (coded u a) (quote q b) = let h : 99 ∷ 104 ∷ 114 ∷ 40 ∷ ((decimal c ++ 41 ∷ []) ++ r) ≡ 39 ∷ 39 ∷ 39 ∷ 39 ∷ s = sym (ap (λ t. t ++ r) a) ∙ (e ∙ ap (λ t. t ++ s) b) in absurd (omega (arith, heads 99 39 _ _ h))
+  by_cases (coded u a) (plain m y b) = let h : 99 ∷ 104 ∷ 114 ∷ 40 ∷ ((decimal c ++ 41 ∷ []) ++ r) ≡ 39 ∷ d ∷ 39 ∷ s = sym (ap (λ t. t ++ r) a) ∙ (e ∙ ap (λ t. t ++ s) b) in absurd (omega (arith, heads 99 39 _ _ h))
+  by_cases (coded u a) (coded v b) =
       let h : 99 ∷ 104 ∷ 114 ∷ 40 ∷ ((decimal c ++ 41 ∷ []) ++ r) ≡ 99 ∷ 104 ∷ 114 ∷ 40 ∷ ((decimal d ++ 41 ∷ []) ++ s) = sym (ap (λ t. t ++ r) a) ∙ (e ∙ ap (λ t. t ++ s) b) in
       let t : (decimal c ++ 41 ∷ []) ++ r ≡ (decimal d ++ 41 ∷ []) ++ s = cc in
-      let u = decimals_apart c d (41 ∷ r) (41 ∷ s) (omega arith) (omega arith) (inl (omega arith)) (inl (omega arith)) (sym (append_assoc (decimal c) (41 ∷ []) r) ∙ (t ∙ append_assoc (decimal d) (41 ∷ []) s)) in
-      (u.0, let z = u.1 in cc)
+      let w = decimals_apart c d (41 ∷ r) (41 ∷ s) (omega arith) (omega arith) (inl (omega arith)) (inl (omega arith)) (sym (append_assoc (decimal c) (41 ∷ []) r) ∙ (t ∙ append_assoc (decimal d) (41 ∷ []) s)) in
+      (w.0, let z = w.1 in cc)
 
 -- ---- sets
 

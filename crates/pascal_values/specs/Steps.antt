@@ -1,11 +1,33 @@
 -- What the reader's own steps find in a text.
-use Rattle.std.specs.Prelude.{◌≡◌, ◌≢◌, ℕ, ◌+◌, ◌*◌, ◌<◌, ◌≤◌, List, ◌∷◌, ◌++◌, length, drop}
+use Rattle.std.specs.Prelude.{◌≡◌, ◌≢◌, ℕ, ◌+◌, ◌*◌, ◌<◌, ◌≤◌, List, ◌∷◌, ◌++◌, length, drop, IsTrue}
 use Rattle.std.specs.Fmt.{decimal}
+use Rattle.pascal_values.specs.Texts.{is_printable}
 
 -- a byte stands at a place
 pub record Stands (bytes : List ℕ) (at_ c : ℕ) : Type 0 where
   pub within : at_ < length bytes
   pub is : drop at_ bytes ≡ c ∷ drop (at_ + 1) bytes
+
+-- a word stands at a place
+pub record StandsWord (bytes : List ℕ) (at_ : ℕ) (word : List ℕ) : Type 0 where
+  pub within : at_ + length word ≤ length bytes
+  pub is : drop at_ bytes ≡ word ++ drop (at_ + length word) bytes
+
+abbrev pub NoWord : List ℕ → ℕ → List ℕ → Type 0
+NoWord bytes at_ word = (rest : List ℕ) → ¬ (drop at_ bytes ≡ word ++ rest)
+
+-- a character that stands between quotes as it is
+abbrev pub IsPlain : ℕ → Type 0
+IsPlain c = (c ≢ 39) × IsTrue (is_printable c)
+
+-- such a character stands between quotes at a place
+pub record StandsQuoted (bytes : List ℕ) (at_ c : ℕ) : Type 0 where
+  pub plain : IsPlain c
+  pub within : at_ + 3 ≤ length bytes
+  pub is : drop at_ bytes ≡ 39 ∷ c ∷ 39 ∷ drop (at_ + 3) bytes
+
+abbrev pub NoQuoted : List ℕ → ℕ → Type 0
+NoQuoted bytes at_ = (c : ℕ) (rest : List ℕ) → IsPlain c → ¬ (drop at_ bytes ≡ 39 ∷ c ∷ 39 ∷ rest)
 
 -- a byte that begins no text but a natural number's
 abbrev pub IsOther : ℕ → Type 0

@@ -21,11 +21,15 @@ comma_before (suc place) = 44 ∷ []
 abbrev pub enclosed : ℕ → List (List ℕ) → ℕ → List ℕ
 enclosed open_with texts close_with = open_with ∷ join_with_byte 44 texts ++ close_with ∷ []
 
+-- a character that is printed as it is
+abbrev pub is_printable : ℕ → Bool
+is_printable c = nat_le 32 c && nat_le c 126
+
 -- a character in quotes: the quote is written twice, and one that cannot be printed by its code
 abbrev pub char_text : ℕ → List ℕ
 char_text c =
     if c == 39 then codes "''''"
-    else (if nat_le 32 c && nat_le c 126 then 39 ∷ c ∷ 39 ∷ []
+    else (if is_printable c then 39 ∷ c ∷ 39 ∷ []
     else codes "chr(" ++ decimal c ++ codes ")")
 
 abbrev pub text_step : Value-F (List ℕ) → List ℕ
