@@ -7,3 +7,4 @@ pub mod ListingLemmas
 pub mod UniqueLemmas
 pub mod ReadingLemmas
 pub mod PlaceLemmas
+pub mod ItemLemmas

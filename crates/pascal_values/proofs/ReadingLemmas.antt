@@ -4,17 +4,18 @@ use Rattle.std.specs.Prelude.{IsTrue}
 use Rattle.std.specs.List.{AllByRecursion, join_with_byte}
 use Rattle.std.specs.Fmt.{decimal, signed_decimal}
 use Rattle.std.proofs.lemmas.Fmt.{decimal_digit, first_decimal}
+use Rattle.std.proofs.lemmas.Bool.{false≢true}
 use Rattle.std.proofs.lemmas.Bool.Decides.{nat_tests}
 use Rattle.pascal_values.specs.declared.value.Value.{Value, Value-F, out-Value}
 use Rattle.pascal_values.specs.declared.value.Value.TheVariants as value
 use Rattle.pascal_values.specs.Integers.{is_integer}
 use Rattle.pascal_values.specs.Sets.{IsRising, IsSet}
-use Rattle.pascal_values.specs.Texts.{text, char_text, NoDigit, IsFormed, HasForm}
+use Rattle.pascal_values.specs.Texts.{text, char_text, is_printable, NoDigit, IsFormed, HasForm}
 use Rattle.pascal_values.specs.Reading.{Reads, HasNone, IsReading}
-use Rattle.pascal_values.specs.Steps.{Stands, IsOther, IsFull, IsNumber}
+use Rattle.pascal_values.specs.Steps.{Stands, StandsWord, NoWord, IsPlain, StandsQuoted, IsOther, IsFull, IsNumber}
 use Rattle.pascal_values.proofs.Decimals.{heads, tails, decimals_apart, decimal_longest, number_only}
 use Rattle.pascal_values.proofs.KindLemmas.{kind, kind_at, text_at, text_is, first_at, first_digit, integer_in, negative_in, from_out, no_nil}
-use Rattle.pascal_values.proofs.UniqueLemmas.{Stops, values_apart}
+use Rattle.pascal_values.proofs.UniqueLemmas.{Stops, values_apart, CharCase, quote, plain, coded, char_case}
 
 -- what the parts of a value in the form are
 abbrev pub Part : ℕ → Value → Type 0
@@ -173,7 +174,7 @@ natural_reads depth n s r n_in is full =
   each w more (pos y) o i e = (y, omega (arith, integer_in y i), text_by w (Value-F.Int (pos y)) o)
   each w more (negsuc y) o i e = absurd ((first_of n r (omega arith)).4 (heads _ 45 _ (decimal (suc y) ++ more) (e ∙ ap (λ x. x ++ more) (text_by w (Value-F.Int (negsuc y)) o))))
 
-digit_here : (d : ℕ) (u t : List ℕ) → d < 10 → t ≡ (48 + d) ∷ u → NoDigit t → ⊥
+pub digit_here : (d : ℕ) (u t : List ℕ) → d < 10 → t ≡ (48 + d) ∷ u → NoDigit t → ⊥
 digit_here d u t lt e none = elim (subst NoDigit e none) [ inl low ↦ omega arith | inr high ↦ omega arith ]
 
 record Minus (w : Value) : Type 0 where
@@ -241,3 +242,112 @@ enum_none depth s t first none w more k e =
     let y = hash_only depth w t more k (sym first ∙ e) in
     let d = first_digit y.0 (omega (arith, y.1)) in
     digit_here d.0 (d.1 ++ more) t d.2 (tails 35 35 t (decimal y.0 ++ more) (sym first ∙ (e ∙ ap (λ x. x ++ more) y.2)) ∙ ap (λ x. x ++ more) d.3) none
+
+-- ---- words and characters
+
+bool_only : (depth : ℕ) (w : Value) (c : ℕ) (t more : List ℕ) → HasForm depth w → kind_at c ≡ 2 → c ∷ t ≡ text w ++ more → (b : Bool) × (text w ≡ (if b then (116 ∷ 114 ∷ 117 ∷ 101 ∷ []) else (102 ∷ 97 ∷ 108 ∷ 115 ∷ 101 ∷ [])))
+bool_only depth w c t more k at_ e =
+    let two = kind_2 (out-Value w) (sym (kind_is depth w c t more k e) ∙ at_) in
+    (two.0, text_by w (Value-F.Bool two.0) two.1)
+
+pub true_none : (depth : ℕ) (s t : List ℕ) → s ≡ 116 ∷ t → ((rest : List ℕ) → ¬ (s ≡ 116 ∷ 114 ∷ 117 ∷ 101 ∷ rest)) → HasNone depth s
+true_none depth s t first none w more k e = let b = bool_only depth w 116 t more k refl (sym first ∙ e) in by_bool b.0 b.1
+  where
+  by_bool : (b : Bool) → text w ≡ (if b then (116 ∷ 114 ∷ 117 ∷ 101 ∷ []) else (102 ∷ 97 ∷ 108 ∷ 115 ∷ 101 ∷ [])) → ⊥
+  by_bool true is = none more (e ∙ ap (λ x. x ++ more) is)
+  by_bool false is = omega (arith, heads 116 102 t (97 ∷ 108 ∷ 115 ∷ 101 ∷ more) (sym first ∙ (e ∙ ap (λ x. x ++ more) is)))
+
+pub false_none : (depth : ℕ) (s t : List ℕ) → s ≡ 102 ∷ t → ((rest : List ℕ) → ¬ (s ≡ 102 ∷ 97 ∷ 108 ∷ 115 ∷ 101 ∷ rest)) → HasNone depth s
+false_none depth s t first none w more k e = let b = bool_only depth w 102 t more k refl (sym first ∙ e) in by_bool b.0 b.1
+  where
+  by_bool : (b : Bool) → text w ≡ (if b then (116 ∷ 114 ∷ 117 ∷ 101 ∷ []) else (102 ∷ 97 ∷ 108 ∷ 115 ∷ 101 ∷ [])) → ⊥
+  by_bool false is = none more (e ∙ ap (λ x. x ++ more) is)
+  by_bool true is = omega (arith, heads 102 116 t (114 ∷ 117 ∷ 101 ∷ more) (sym first ∙ (e ∙ ap (λ x. x ++ more) is)))
+
+pub true_reads : (depth : ℕ) (s r : List ℕ) → s ≡ 116 ∷ 114 ∷ 117 ∷ 101 ∷ r → Reads depth s (value.Bool true) r
+true_reads depth s r e = reads_closed depth (value.Bool true) 116 s (114 ∷ 117 ∷ 101 ∷ r) r (has_form depth (value.Bool true) (Value-F.Bool true) (value.outs-Bool true) tt) (subst IsClosed (sym (value.outs-Bool true)) tt) e (e ∙ ap (λ x. x ++ r) (sym (text_by (value.Bool true) (Value-F.Bool true) (value.outs-Bool true))))
+
+pub false_reads : (depth : ℕ) (s r : List ℕ) → s ≡ 102 ∷ 97 ∷ 108 ∷ 115 ∷ 101 ∷ r → Reads depth s (value.Bool false) r
+false_reads depth s r e = reads_closed depth (value.Bool false) 102 s (97 ∷ 108 ∷ 115 ∷ 101 ∷ r) r (has_form depth (value.Bool false) (Value-F.Bool false) (value.outs-Bool false) tt) (subst IsClosed (sym (value.outs-Bool false)) tt) e (e ∙ ap (λ x. x ++ r) (sym (text_by (value.Bool false) (Value-F.Bool false) (value.outs-Bool false))))
+
+pub unset_reads : (depth : ℕ) (s r : List ℕ) → s ≡ 63 ∷ r → Reads depth s value.Unset r
+unset_reads depth s r e = reads_closed depth value.Unset 63 s r r (has_form depth value.Unset Value-F.Unset value.outs-Unset tt) (subst IsClosed (sym value.outs-Unset) tt) e (e ∙ ap (λ x. x ++ r) (sym (text_by value.Unset Value-F.Unset value.outs-Unset)))
+
+-- a character by the text that it has
+pub char_reads : (depth c f : ℕ) (s t r : List ℕ) → c < 256 → s ≡ f ∷ t → s ≡ char_text c ++ r → Reads depth s (value.Char c) r
+char_reads depth c f s t r small first e = reads_closed depth (value.Char c) f s t r (has_form depth (value.Char c) (Value-F.Char c) (value.outs-Char c) small) (subst IsClosed (sym (value.outs-Char c)) tt) first (e ∙ ap (λ x. x ++ r) (sym (text_by (value.Char c) (Value-F.Char c) (value.outs-Char c))))
+
+char_only : (depth : ℕ) (w : Value) (f : ℕ) (t more : List ℕ) → HasForm depth w → kind_at f ≡ 3 → f ∷ t ≡ text w ++ more → (c : ℕ) × (c < 256) × (text w ≡ char_text c)
+char_only depth w f t more k at_ e =
+    let three = kind_3 (out-Value w) (sym (kind_is depth w f t more k e) ∙ at_) in
+    (three.0, formed_by depth w (Value-F.Char three.0) three.1 k, text_by w (Value-F.Char three.0) three.1)
+
+pub quoted_none : (depth : ℕ) (s t : List ℕ) → s ≡ 39 ∷ t → ((rest : List ℕ) → ¬ (s ≡ 39 ∷ 39 ∷ 39 ∷ 39 ∷ rest)) → ((c : ℕ) (rest : List ℕ) → IsPlain c → ¬ (s ≡ 39 ∷ c ∷ 39 ∷ rest)) → HasNone depth s
+quoted_none depth s t first no_quote no_plain w more k e =
+    let c = char_only depth w 39 t more k refl (sym first ∙ e) in by_case c.0 c.2 (char_case c.0)
+  where
+  by_case : (c : ℕ) → text w ≡ char_text c → CharCase c → ⊥
+  by_case c is (quote p a) = no_quote more (e ∙ ap (λ x. x ++ more) (is ∙ a))
+  by_case c is (plain n x a) = no_plain c more (n, x) (e ∙ ap (λ y. y ++ more) (is ∙ a))
+  by_case c is (coded u a) = omega (arith, heads 39 99 t _ (sym first ∙ (e ∙ ap (λ y. y ++ more) (is ∙ a))))
+
+pub coded_none : (depth : ℕ) (s t : List ℕ) → s ≡ 99 ∷ t → ((c : ℕ) (rest : List ℕ) → c < 256 → is_printable c ≡ false → ¬ (s ≡ 99 ∷ 104 ∷ 114 ∷ 40 ∷ (decimal c ++ 41 ∷ rest))) → HasNone depth s
+coded_none depth s t first no_coded w more k e =
+    let c = char_only depth w 99 t more k refl (sym first ∙ e) in by_case c.0 c.1 c.2 (char_case c.0)
+  where
+  by_case : (c : ℕ) → c < 256 → text w ≡ char_text c → CharCase c → ⊥
+  by_case c lt is (quote p a) = omega (arith, heads 99 39 t _ (sym first ∙ (e ∙ ap (λ y. y ++ more) (is ∙ a))))
+  by_case c lt is (plain n x a) = omega (arith, heads 99 39 t _ (sym first ∙ (e ∙ ap (λ y. y ++ more) (is ∙ a))))
+  by_case c lt is (coded u a) = no_coded c more lt u (e ∙ (ap (λ y. y ++ more) (is ∙ a) ∙ ap (λ y. 99 ∷ 104 ∷ 114 ∷ 40 ∷ y) (append_assoc (decimal c) (41 ∷ []) more)))
+
+pub quote_reads : (depth : ℕ) (s r : List ℕ) → s ≡ 39 ∷ 39 ∷ 39 ∷ 39 ∷ r → Reads depth s (value.Char 39) r
+quote_reads depth s r e = char_reads depth 39 39 s (39 ∷ 39 ∷ 39 ∷ r) r (omega arith) e e
+
+plain_text : (c : ℕ) → IsPlain c → char_text c ≡ 39 ∷ c ∷ 39 ∷ []
+plain_text c p = by_case (char_case c)
+  where
+  by_case : CharCase c → char_text c ≡ 39 ∷ c ∷ 39 ∷ []
+  by_case (quote q a) = absurd (p.0 q)
+  by_case (plain n x a) = a
+  by_case (coded u a) = absurd (false≢true (sym u ∙ p.1))
+
+printable_small : (c : ℕ) → is_printable c ≡ true → c < 256
+printable_small c e = grind (arith, nat_tests)
+
+pub plain_reads : (depth c : ℕ) (s r : List ℕ) → IsPlain c → s ≡ 39 ∷ c ∷ 39 ∷ r → Reads depth s (value.Char c) r
+plain_reads depth c s r p e = char_reads depth c 39 s (c ∷ 39 ∷ r) r (printable_small c p.1) e (e ∙ ap (λ x. x ++ r) (sym (plain_text c p)))
+
+coded_text : (c : ℕ) → is_printable c ≡ false → char_text c ≡ 99 ∷ 104 ∷ 114 ∷ 40 ∷ (decimal c ++ 41 ∷ [])
+coded_text c p = by_case (char_case c)
+  where
+  by_case : CharCase c → char_text c ≡ 99 ∷ 104 ∷ 114 ∷ 40 ∷ (decimal c ++ 41 ∷ [])
+  by_case (quote q a) = absurd (false≢true (sym p ∙ ap is_printable q))
+  by_case (plain n x a) = absurd (false≢true (sym p ∙ x))
+  by_case (coded u a) = a
+
+-- `chr(` n `)`
+pub coded_reads : (depth n : ℕ) (s t r q : List ℕ) → s ≡ 99 ∷ 104 ∷ 114 ∷ 40 ∷ t → t ≡ decimal n ++ r → n ≤ 255 → r ≡ 41 ∷ q → is_printable n ≡ false → Reads depth s (value.Char n) q
+coded_reads depth n s t r q word is small close p =
+    char_reads depth n 99 s (104 ∷ 114 ∷ 40 ∷ t) q (omega arith) word
+      (word ∙ (ap (λ x. 99 ∷ 104 ∷ 114 ∷ 40 ∷ x) (is ∙ (ap (λ x. decimal n ++ x) close ∙ sym (append_assoc (decimal n) (41 ∷ []) q))) ∙ ap (λ x. x ++ q) (sym (coded_text n p))))
+
+four_off : (s t u : List ℕ) → s ≡ 99 ∷ 104 ∷ 114 ∷ 40 ∷ t → s ≡ 99 ∷ 104 ∷ 114 ∷ 40 ∷ u → t ≡ u
+four_off s t u a b = let e : 99 ∷ 104 ∷ 114 ∷ 40 ∷ t ≡ 99 ∷ 104 ∷ 114 ∷ 40 ∷ u = sym a ∙ b in cc
+
+pub coded_no_word : (depth : ℕ) (s t : List ℕ) → s ≡ 99 ∷ t → ((rest : List ℕ) → ¬ (s ≡ 99 ∷ 104 ∷ 114 ∷ 40 ∷ rest)) → HasNone depth s
+coded_no_word depth s t first none = coded_none depth s t first (λ c rest lt p e. none (decimal c ++ 41 ∷ rest) e)
+
+pub coded_no_number : (depth : ℕ) (s t : List ℕ) → s ≡ 99 ∷ 104 ∷ 114 ∷ 40 ∷ t → NoDigit t → HasNone depth s
+coded_no_number depth s t word none = coded_none depth s (104 ∷ 114 ∷ 40 ∷ t) word (λ c rest lt p e.
+    let d = first_digit c (omega arith) in
+    digit_here d.0 (d.1 ++ 41 ∷ rest) t d.2 (four_off s t (decimal c ++ 41 ∷ rest) word e ∙ ap (λ x. x ++ 41 ∷ rest) d.3) none)
+
+module _ (depth n : ℕ) (s t r : List ℕ) (word : s ≡ 99 ∷ 104 ∷ 114 ∷ 40 ∷ t) (is : t ≡ decimal n ++ r) (small : n ≤ 255) (full : IsFull 255 n r) where
+  the_code : (c : ℕ) (rest : List ℕ) → c < 256 → s ≡ 99 ∷ 104 ∷ 114 ∷ 40 ∷ (decimal c ++ 41 ∷ rest) → (n ≡ c) × (r ≡ 41 ∷ rest)
+  the_code c rest lt e = number_only 255 n t r (omega arith) small full is c (41 ∷ rest) (omega arith) (inl (omega arith)) (four_off s t (decimal c ++ 41 ∷ rest) word e)
+
+  pub coded_printed : is_printable n ≡ true → HasNone depth s
+  coded_printed p = coded_none depth s (104 ∷ 114 ∷ 40 ∷ t) word (λ c rest lt q e. false≢true (sym q ∙ (ap is_printable (sym (the_code c rest lt e).0) ∙ p)))
+
+  pub coded_open : ((rest : List ℕ) → ¬ (r ≡ 41 ∷ rest)) → HasNone depth s
+  coded_open none = coded_none depth s (104 ∷ 114 ∷ 40 ∷ t) word (λ c rest lt q e. none rest (the_code c rest lt e).1)

@@ -8,9 +8,10 @@ use Rattle.std.proofs.lemmas.Bool.Decides.{nat_tests}
 use Rattle.pascal_values.specs.declared.value.Value.{Value, Value-F, out-Value}
 use Rattle.pascal_values.specs.Sets.{IsRising, IsSet}
 use Rattle.pascal_values.specs.Texts.{text, NoDigit, char_text, is_printable, IsFormed, HasForm}
+use Rattle.pascal_values.specs.Steps.{listed}
 use Rattle.pascal_values.proofs.Decimals.{heads, tails, decimals_apart}
 use Rattle.pascal_values.proofs.KindLemmas.{kind, kind_at, text_at, text_is, first_at, first_digit, integer_in, negative_in, from_out, no_nil}
-use Rattle.pascal_values.proofs.ListingLemmas.{joins_apart, join-listed, listed}
+use Rattle.pascal_values.proofs.ListingLemmas.{joins_apart, join-listed}
 use Rattle.pascal_values.proofs.SetLemmas.{IsRising-le}
 
 -- what may follow a text: behind a number no digit
@@ -75,7 +76,7 @@ no_close : (n : ℕ) (ns : List ℕ) (r s : List ℕ) → n < 256 → 93 ∷ r �
 no_close n ns r s n_in e =
     let d = first_digit n (omega arith) in
     let l = join-listed decimal (λ k. k < 256) 93 n ns s in
-    let h : 93 ∷ r ≡ (48 + d.0) ∷ (d.1 ++ listed decimal (λ k. k < 256) 93 ns s) = e ∙ (l ∙ ap (λ t. t ++ listed decimal (λ k. k < 256) 93 ns s) d.3) in
+    let h : 93 ∷ r ≡ (48 + d.0) ∷ (d.1 ++ listed decimal 93 ns s) = e ∙ (l ∙ ap (λ t. t ++ listed decimal 93 ns s) d.3) in
     omega (arith, d.2, heads 93 (48 + d.0) _ _ h)
 
 sets_apart : (ms ns : List ℕ) (r s : List ℕ) → IsSet ms → IsSet ns → join_with_byte 44 (map decimal ms) ++ 93 ∷ r ≡ join_with_byte 44 (map decimal ns) ++ 93 ∷ s → (ms ≡ ns) × (r ≡ s)

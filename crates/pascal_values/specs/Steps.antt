@@ -1,7 +1,11 @@
 -- What the reader's own steps find in a text.
-use Rattle.std.specs.Prelude.{◌≡◌, ◌≢◌, ℕ, ◌+◌, ◌*◌, ◌<◌, ◌≤◌, List, ◌∷◌, ◌++◌, length, drop, IsTrue}
+use Rattle.std.specs.Prelude.{◌≡◌, ◌≢◌, ℕ, ◌+◌, ◌*◌, ◌<◌, ◌≤◌, Bool, if◌then◌else◌, List, [], ◌∷◌, ◌++◌, length, map, drop, IsTrue, Result, Ok, Err, Vec}
+use Rattle.std.specs.declared.alloc.Global.{Global}
+use Rattle.std.specs.List.{AllByRecursion, join_with_byte}
+use Rattle.pascal_values.specs.declared.failing.ValueError.{ValueError}
+use Rattle.pascal_values.specs.declared.failing.ValueError.TheVariants.{NoValue, Memory}
 use Rattle.std.specs.Fmt.{decimal}
-use Rattle.pascal_values.specs.Texts.{is_printable}
+use Rattle.pascal_values.specs.Texts.{is_printable, NoDigit}
 
 -- a byte stands at a place
 pub record Stands (bytes : List ℕ) (at_ c : ℕ) : Type 0 where
@@ -57,3 +61,50 @@ pub record IsNumber (greatest : ℕ) (bytes : List ℕ) (at_ n end_ : ℕ) : Typ
   pub within : end_ ≤ length bytes
   pub is : drop at_ bytes ≡ decimal n ++ drop end_ bytes
   pub full : IsFull greatest n (drop end_ bytes)
+
+-- ---- items with commas between them, before a bracket that closes
+
+-- the items that follow one, and what stands behind the bracket
+abbrev pub listed : {X : Type 0} → (X → List ℕ) → ℕ → List X → List ℕ → List ℕ
+listed f close [] q = close ∷ q
+listed f close (y ∷ ys) q = 44 ∷ (f y ++ listed f close ys q)
+
+-- the byte behind an item
+abbrev pub separator : ℕ → Bool → ℕ
+separator close last = if last then close else 44
+
+abbrev pub NoSeparator : ℕ → List ℕ → Type 0
+NoSeparator close s = (last : Bool) (t : List ℕ) → ¬ (s ≡ separator close last ∷ t)
+
+-- an item and its separator stand at a place, and no other item can stand there before text that no digit begins
+pub record IsItem {X : Type 0} (f : X → List ℕ) (IsPart : X → Type 0) (close : ℕ) (bytes : List ℕ) (at_ : ℕ) (v : X) (next : ℕ) (last : Bool) : Type 0 where
+  pub form : IsPart v
+  pub goes : at_ < next
+  pub within : next ≤ length bytes
+  pub is : drop at_ bytes ≡ f v ++ separator close last ∷ drop next bytes
+  pub only : (y : X) (t : List ℕ) → IsPart y → NoDigit t → drop at_ bytes ≡ f y ++ t → (v ≡ y) × (separator close last ∷ drop next bytes ≡ t)
+
+-- no item stands here
+abbrev pub NoItem : {X : Type 0} → (X → List ℕ) → (X → Type 0) → ℕ → List ℕ → Type 0
+NoItem {X} f IsPart close s = (y : X) (ys : List X) (q : List ℕ) → IsPart y → ¬ (s ≡ f y ++ listed f close ys q)
+
+-- items up to the bracket, one at least, stand at a place
+pub record IsItems {X : Type 0} (f : X → List ℕ) (IsPart : X → Type 0) (close : ℕ) (bytes : List ℕ) (at_ : ℕ) (xs : List X) (end_ : ℕ) : Type 0 where
+  pub form : AllByRecursion IsPart xs
+  pub some : 0 < length xs
+  pub goes : at_ < end_
+  pub within : end_ ≤ length bytes
+  pub is : drop at_ bytes ≡ join_with_byte 44 (map f xs) ++ close ∷ drop end_ bytes
+
+abbrev pub NoItems : {X : Type 0} → (X → List ℕ) → (X → Type 0) → ℕ → List ℕ → Type 0
+NoItems {X} f IsPart close s = (xs : List X) (q : List ℕ) → AllByRecursion IsPart xs → 0 < length xs → ¬ (s ≡ join_with_byte 44 (map f xs) ++ close ∷ q)
+
+-- an ordinal that a set may have
+abbrev pub IsOrdinal : ℕ → Type 0
+IsOrdinal n = n < 256
+
+-- what reading the ordinals of a set answers
+abbrev pub AreOrdinals : List ℕ → ℕ → Result (Vec ℕ Global × ℕ) ValueError → Type 0
+AreOrdinals bytes at_ (Ok r) = IsItems decimal IsOrdinal 93 bytes at_ r.0.items r.1
+AreOrdinals bytes at_ (Err NoValue) = NoItems decimal IsOrdinal 93 (drop at_ bytes)
+AreOrdinals bytes at_ (Err Memory) = Unit {0}

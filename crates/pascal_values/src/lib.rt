@@ -12,6 +12,7 @@ mod fault;
 #[tactic(auto, using(crate::specs::declared::value::Shape::the_lemmas, crate::specs::declared::value::Value::the_lemmas, crate::proofs::ShapeLemmas::within_out, crate::proofs::ShapeLemmas::each_within_apart))]
 mod fitting;
 mod members;
+mod ordinals;
 mod parts;
 mod reading;
 mod sets;

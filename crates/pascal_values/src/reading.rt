@@ -1,12 +1,13 @@
 //! Reading the text of a value.
 
-ghost use Rattle.std.specs.Prelude.{ℕ, ◌≡◌, ◌<◌, ◌^◌, ◌-◌, negsuc};
+ghost use Rattle.std.specs.Prelude.{ℕ, ◌≡◌, ◌<◌, ◌^◌, ◌+◌, ◌-◌, negsuc, codes};
 ghost use Rattle.pascal_values.specs.Reading.{IsReading};
-ghost use Rattle.pascal_values.specs.Steps.{Stands, IsOther};
+ghost use Rattle.pascal_values.specs.Steps.{Stands, StandsWord, IsOther, IsNumber};
 
 use crate::digits::number;
 use crate::failing::ValueError;
 use crate::value::Value;
+use crate::words::{follows, is_printed, quoted};
 
 /// A value that was read, and the place after its text.
 type Reading = Result<(Value, usize), ValueError>;
@@ -53,5 +54,70 @@ fn read_enum(bytes: &[u8], at: usize) -> Reading
     match number(bytes, at + 1, 4_294_967_295) {
         Some((n, end)) => Ok((Value::Enum(n as u32), end)),
         None => Err(ValueError::NoValue),
+    }
+}
+
+fn read_true(bytes: &[u8], at: usize) -> Reading
+    requires { Stands bytes.now at 116 }
+    ensures { (depth : ℕ) → IsReading depth bytes.now at result }
+{
+    if follows(bytes, at, b"true") {
+        Ok((Value::Bool(true), at + 4))
+    } else {
+        Err(ValueError::NoValue)
+    }
+}
+
+fn read_false(bytes: &[u8], at: usize) -> Reading
+    requires { Stands bytes.now at 102 }
+    ensures { (depth : ℕ) → IsReading depth bytes.now at result }
+{
+    if follows(bytes, at, b"false") {
+        Ok((Value::Bool(false), at + 5))
+    } else {
+        Err(ValueError::NoValue)
+    }
+}
+
+/// A character in quotes.
+fn read_quoted(bytes: &[u8], at: usize) -> Reading
+    requires { Stands bytes.now at 39 }
+    ensures { (depth : ℕ) → IsReading depth bytes.now at result }
+{
+    if follows(bytes, at, b"''''") {
+        return Ok((Value::Char(b'\''), at + 4));
+    }
+    match quoted(bytes, at) {
+        Some(c) => Ok((Value::Char(c), at + 3)),
+        None => Err(ValueError::NoValue),
+    }
+}
+
+/// A character by its code.
+fn read_coded(bytes: &[u8], at: usize) -> Reading
+    requires { Stands bytes.now at 99 }
+    ensures { (depth : ℕ) → IsReading depth bytes.now at result }
+{
+    if !follows(bytes, at, b"chr(") {
+        return Err(ValueError::NoValue);
+    }
+    match number(bytes, at + 4, 255) {
+        Some((n, end)) => coded(bytes, at, n, end),
+        None => Err(ValueError::NoValue),
+    }
+}
+
+fn coded(bytes: &[u8], at: usize, n: u64, end: usize) -> Reading
+    requires word { StandsWord bytes.now at (codes "chr(") }
+    requires number { IsNumber 255 bytes.now (at + 4) n end }
+    ensures { (depth : ℕ) → IsReading depth bytes.now at result }
+{
+    if is_printed(n as u8) {
+        return Err(ValueError::NoValue);
+    }
+    if follows(bytes, end, b")") {
+        Ok((Value::Char(n as u8), end + 1))
+    } else {
+        Err(ValueError::NoValue)
     }
 }

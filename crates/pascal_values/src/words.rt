@@ -1,8 +1,8 @@
 //! What stands at a place of a text.
 
-ghost use Rattle.std.specs.Prelude.{◌≡◌, ◌≤◌, ◌+◌, [], drop, length, MatchBool, MatchOption};
+ghost use Rattle.std.specs.Prelude.{◌≡◌, ◌≢◌, Bool, ◌≤◌, ◌+◌, [], drop, length, MatchBool, MatchOption};
 ghost use Rattle.pascal_values.specs.Texts.{is_printable};
-ghost use Rattle.pascal_values.specs.Steps.{Stands, StandsWord, NoWord, StandsQuoted, NoQuoted};
+ghost use Rattle.pascal_values.specs.Steps.{separator, NoSeparator, Stands, StandsWord, NoWord, StandsQuoted, NoQuoted};
 
 /// The byte at a place.
 pub(crate) fn byte_at(bytes: &[u8], at: usize) -> Option<u8>
@@ -52,4 +52,26 @@ fn quoted_by(bytes: &[u8], at: usize, c: u8) -> Option<u8>
     } else {
         None
     }
+}
+
+/// Whether the byte at a place is the bracket that closes, or else the comma.
+pub(crate) fn separator_at(bytes: &[u8], at: usize, close: u8) -> Option<bool>
+    ensures { MatchOption result (NoSeparator close (drop at bytes.now)) (λ last. Stands bytes.now at (separator close last)) }
+{
+    match byte_at(bytes, at) {
+        None => None,
+        Some(c) => separates(c, close),
+    }
+}
+
+fn separates(c: u8, close: u8) -> Option<bool>
+    ensures { MatchOption result ((last : Bool) → c ≢ separator close last) (λ last. c ≡ separator close last) }
+{
+    if c == close {
+        return Some(true);
+    }
+    if c == b',' {
+        return Some(false);
+    }
+    None
 }
