@@ -1,5 +1,5 @@
 -- What each step of the reader has found.
-use Rattle.std.proofs.Common.{◌≡◌, ◌≢◌, ℕ, zero, suc, ◌+◌, ◌-◌, ◌*◌, ◌<◌, ◌≤◌, ◌^◌, ◌==◌, nat_le, Bool, true, false, ◌&&◌, if◌then◌else◌, List, [], ◌∷◌, ◌++◌, map, length, drop, get_or, inl, inr, ◌⊎◌, ap, subst, ◌∙◌, sym, refl, arith, append_assoc, length-append, add-one, drop-cons, ℤ, pos, negsuc}
+use Rattle.std.proofs.Common.{◌≡◌, ◌≢◌, ℕ, zero, suc, ◌+◌, ◌-◌, ◌*◌, ◌<◌, ◌≤◌, ◌^◌, ◌==◌, nat_le, Bool, true, false, ◌&&◌, if◌then◌else◌, List, [], ◌∷◌, ◌++◌, map, length, drop, get_or, inl, inr, ◌⊎◌, ap, subst, ◌∙◌, sym, refl, arith, Ok, Err, append_assoc, length-append, add-one, drop-cons, ℤ, pos, negsuc}
 use Rattle.std.specs.Prelude.{IsTrue}
 use Rattle.std.specs.List.{AllByRecursion, join_with_byte}
 use Rattle.std.specs.Fmt.{decimal, signed_decimal}
@@ -12,10 +12,13 @@ use Rattle.pascal_values.specs.Integers.{is_integer}
 use Rattle.pascal_values.specs.Sets.{IsRising, IsSet}
 use Rattle.pascal_values.specs.Texts.{text, char_text, is_printable, NoDigit, IsFormed, HasForm}
 use Rattle.pascal_values.specs.Reading.{Reads, HasNone, IsReading}
-use Rattle.pascal_values.specs.Steps.{Stands, StandsWord, NoWord, IsPlain, StandsQuoted, IsOther, IsFull, IsNumber}
+use Rattle.pascal_values.specs.Steps.{Stands, StandsWord, NoWord, IsPlain, StandsQuoted, IsOther, IsFull, IsNumber, IsOrdinal, NoItems, AreOrdinals}
+use Rattle.pascal_values.specs.declared.failing.ValueError.{ValueError}
+use Rattle.pascal_values.specs.declared.failing.ValueError.TheVariants.{NoValue, Memory}
 use Rattle.pascal_values.proofs.Decimals.{heads, tails, decimals_apart, decimal_longest, number_only}
 use Rattle.pascal_values.proofs.KindLemmas.{kind, kind_at, text_at, text_is, first_at, first_digit, integer_in, negative_in, from_out, no_nil}
-use Rattle.pascal_values.proofs.UniqueLemmas.{Stops, values_apart, CharCase, quote, plain, coded, char_case}
+use Rattle.pascal_values.proofs.UniqueLemmas.{Stops, values_apart, CharCase, quote, plain, coded, char_case, members_small, small_apart, no_close}
+use Rattle.pascal_values.proofs.ListingLemmas.{joins_apart}
 
 -- what the parts of a value in the form are
 abbrev pub Part : ℕ → Value → Type 0
@@ -351,3 +354,45 @@ module _ (depth n : ℕ) (s t r : List ℕ) (word : s ≡ 99 ∷ 104 ∷ 114 ∷
 
   pub coded_open : ((rest : List ℕ) → ¬ (r ≡ 41 ∷ rest)) → HasNone depth s
   coded_open none = coded_none depth s (104 ∷ 114 ∷ 40 ∷ t) word (λ c rest lt q e. none rest (the_code c rest lt e).1)
+
+-- ---- sets
+
+set_only : (depth : ℕ) (w : Value) (t more : List ℕ) → HasForm depth w → 91 ∷ t ≡ text w ++ more → (ms : List ℕ) × IsSet ms × (t ≡ join_with_byte 44 (map decimal ms) ++ 93 ∷ more)
+set_only depth w t more k e =
+    let five = kind_5 (out-Value w) (sym (kind_is depth w 91 t more k e)) in
+    let is = text_by w (Value-F.Set five.0) five.1 in
+    (five.0, formed_by depth w (Value-F.Set five.0) five.1 k, tails 91 91 t (join_with_byte 44 (map decimal five.0) ++ 93 ∷ more) (e ∙ (ap (λ x. x ++ more) is ∙ ap (λ x. 91 ∷ x) (append_assoc (join_with_byte 44 (map decimal five.0)) (93 ∷ []) more))))
+
+pub set_reads : (depth : ℕ) (ns : List ℕ) (s t r : List ℕ) → IsSet ns → s ≡ 91 ∷ t → t ≡ join_with_byte 44 (map decimal ns) ++ 93 ∷ r → Reads depth s (value.Set ns) r
+set_reads depth ns s t r set first is = reads_closed depth (value.Set ns) 91 s t r (has_form depth (value.Set ns) (Value-F.Set ns) (value.outs-Set ns) set) (subst IsClosed (sym (value.outs-Set ns)) tt) first
+    (first ∙ (ap (λ x. 91 ∷ x) (is ∙ sym (append_assoc (join_with_byte 44 (map decimal ns)) (93 ∷ []) r)) ∙ ap (λ x. x ++ r) (sym (text_by (value.Set ns) (Value-F.Set ns) (value.outs-Set ns)))))
+
+pub set_none : (depth : ℕ) (s t : List ℕ) → s ≡ 91 ∷ t → ((rest : List ℕ) → ¬ (t ≡ 93 ∷ rest)) → NoItems decimal IsOrdinal 93 t → HasNone depth s
+set_none depth s t first empty none w more k e = let m = set_only depth w t more k (sym first ∙ e) in by_members m.0 m.1 m.2
+  where
+  by_members : (ms : List ℕ) → IsSet ms → t ≡ join_with_byte 44 (map decimal ms) ++ 93 ∷ more → ⊥
+  by_members [] set is = empty more is
+  by_members (m ∷ ms) set is = none (m ∷ ms) more (members_small 0 (m ∷ ms) set) (omega arith) is
+
+pub set_falls : (depth : ℕ) (ns : List ℕ) (s t r : List ℕ) → s ≡ 91 ∷ t → AllByRecursion IsOrdinal ns → 0 < length ns → t ≡ join_with_byte 44 (map decimal ns) ++ 93 ∷ r → ¬ IsSet ns → HasNone depth s
+set_falls depth [] s t r first small some is falls w more k e = omega arith
+set_falls depth (n ∷ ns) s t r first small some is falls w more k e = let m = set_only depth w t more k (sym first ∙ e) in by_members m.0 m.1 m.2
+  where
+  by_members : (ms : List ℕ) → IsSet ms → t ≡ join_with_byte 44 (map decimal ms) ++ 93 ∷ more → ⊥
+  by_members [] set e' = no_close n ns more r small.0 (sym e' ∙ is)
+  by_members (m ∷ ms) set e' =
+      let a = joins_apart decimal IsOrdinal 93 (inl (omega arith)) small_apart n ns m ms r more small (members_small 0 (m ∷ ms) set) (sym is ∙ e') in
+      falls (subst IsSet (sym a.0) set)
+
+pub set_read : (depth : ℕ) (ns ms : List ℕ) (s t r : List ℕ) → IsSet ns → ms ≡ ns → s ≡ 91 ∷ t → t ≡ join_with_byte 44 (map decimal ns) ++ 93 ∷ r → Reads depth s (value.Set ms) r
+set_read depth ns ms s t r set same first is = subst (λ l. Reads depth s (value.Set l) r) (sym same) (set_reads depth ns s t r set first is)
+
+pub set_empty : (depth : ℕ) (bytes : List ℕ) (at_ : ℕ) (ms : List ℕ) → Stands bytes at_ 91 → StandsWord bytes (at_ + 1) (93 ∷ []) → ms ≡ [] → IsReading depth bytes at_ (Ok (value.Set ms, at_ + 2))
+set_empty depth bytes at_ ms open_ close same =
+    let e : at_ + 1 + 1 ≡ at_ + 2 = omega arith in
+    let w = close.within in
+    (omega arith, omega (arith, w), subst (λ k. Reads depth (drop at_ bytes) (value.Set ms) (drop k bytes)) e (set_read depth [] ms (drop at_ bytes) (drop (at_ + 1) bytes) (drop (at_ + 1 + 1) bytes) (omega arith) same open_.is close.is))
+
+pub set_error : (depth : ℕ) (bytes : List ℕ) (at_ : ℕ) (e : ValueError) → Stands bytes at_ 91 → NoWord bytes (at_ + 1) (93 ∷ []) → AreOrdinals bytes (at_ + 1) (Err e) → IsReading depth bytes at_ (Err e)
+set_error depth bytes at_ NoValue open_ empty none = set_none depth (drop at_ bytes) (drop (at_ + 1) bytes) open_.is empty none
+set_error depth bytes at_ Memory open_ empty none = tt

@@ -5,7 +5,7 @@ use Rattle.std.specs.List.Sorted.{IsBinarySearchResult}
 use Rattle.std.specs.Ordering.{nat_cmp}
 use Rattle.std.specs.Result.{is_ok}
 use Rattle.std.proofs.lemmas.Bool.{cases_order, cases_lt}
-use Rattle.std.proofs.lemmas.List.{drop_all, take_all}
+use Rattle.std.proofs.lemmas.List.{drop_all, take_all, take_more}
 use Rattle.std.proofs.lemmas.Bool.Decides.{nat_tests}
 use Rattle.std.proofs.lemmas.List.Folds.{list_any_at}
 use Rattle.std.proofs.lemmas.List.Sorted.{searched}
@@ -328,3 +328,33 @@ IsSet-ranged low high n out lt le up is = subst IsSet (sym (is ∙ ap (range_wit
 
 pub ranged-is : (low high n : ℕ) (out : List ℕ) → high < 256 → high + 1 ≤ n → n ≤ max low (high + 1) → out ≡ range_with_len low (n - low) → out ≡ interval low high
 ranged-is low high n out lt le up is = is ∙ (ap (range_with_len low) (range-up low high n le up) ∙ sym (interval-is low high lt))
+
+-- ---- whether ordinals rise
+
+-- ordinals rise from low on, and the next may be this one at least
+abbrev pub Rises : ℕ → List ℕ → ℕ → Type 0
+Rises low [] next = low ≡ next
+Rises low (n ∷ ns) next = (low ≤ n) × Rises (n + 1) ns next
+
+Rises-push : (low : ℕ) (ns : List ℕ) (next n : ℕ) → Rises low ns next → next ≤ n → Rises low (ns ++ n ∷ []) (n + 1)
+Rises-push low [] next n r le = (omega arith, refl)
+Rises-push low (m ∷ ns) next n r le = (r.0, Rises-push (m + 1) ns next n r.1 le)
+
+Rises-rising : (low : ℕ) (ns : List ℕ) (next high : ℕ) → Rises low ns next → next ≤ high → IsRising low ns high
+Rises-rising low [] next high r le = omega arith
+Rises-rising low (n ∷ ns) next high r le = (r.0, Rises-rising (n + 1) ns next high r.1 le)
+
+Rises-at : (low : ℕ) (ns : List ℕ) (next high i : ℕ) → Rises low (take i ns) next → IsRising low ns high → i < length ns → (next ≤ get_or ns i 0) × (get_or ns i 0 < high)
+Rises-at low [] next high i r s lt = absurd (omega arith)
+Rises-at low (n ∷ ns) next high zero r s lt = (omega (arith, s.0), omega (arith, IsRising-le (n + 1) ns high s.1))
+Rises-at low (n ∷ ns) next high (suc i) r s lt = Rises-at (n + 1) ns next high i r.1 s.1 (omega arith)
+
+pub rises_more : (ns : List ℕ) (i least n : ℕ) → Rises 0 (take i ns) least → i < length ns → get_or ns i 0 ≡ n → least ≤ n → Rises 0 (take (i + 1) ns) (n + 1)
+rises_more ns i least n r lt is le = subst (λ l. Rises 0 l (n + 1)) (sym (take_more ns i 0 lt ∙ ap (λ x. take i ns ++ x ∷ []) is)) (Rises-push 0 (take i ns) least n r le)
+
+pub rises_all : (ns : List ℕ) (i least : ℕ) → length ns ≤ i → Rises 0 (take i ns) least → least ≤ 256 → IsSet ns
+rises_all ns i least all r le = subst IsSet (take_all i ns all) (Rises-rising 0 (take i ns) least 256 r le)
+
+pub rises_not : (ns : List ℕ) (i least n : ℕ) → Rises 0 (take i ns) least → i < length ns → get_or ns i 0 ≡ n → (n < least) ⊎ (255 < n) → ¬ IsSet ns
+rises_not ns i least n r lt is (inl low) set = let a = Rises-at 0 ns least 256 i r set lt in omega (arith, a.0)
+rises_not ns i least n r lt is (inr high) set = let a = Rises-at 0 ns least 256 i r set lt in omega (arith, a.1)

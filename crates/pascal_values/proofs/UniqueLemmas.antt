@@ -72,7 +72,7 @@ members_small low (n ∷ ns) r = (omega (arith, IsRising-le (n + 1) ns 256 r.1),
 pub small_apart : (m n : ℕ) (r s : List ℕ) → m < 256 → n < 256 → NoDigit r → NoDigit s → decimal m ++ r ≡ decimal n ++ s → (m ≡ n) × (r ≡ s)
 small_apart m n r s m_in n_in = decimals_apart m n r s (omega arith) (omega arith)
 
-no_close : (n : ℕ) (ns : List ℕ) (r s : List ℕ) → n < 256 → 93 ∷ r ≡ join_with_byte 44 (map decimal (n ∷ ns)) ++ 93 ∷ s → ⊥
+pub no_close : (n : ℕ) (ns : List ℕ) (r s : List ℕ) → n < 256 → 93 ∷ r ≡ join_with_byte 44 (map decimal (n ∷ ns)) ++ 93 ∷ s → ⊥
 no_close n ns r s n_in e =
     let d = first_digit n (omega arith) in
     let l = join-listed decimal (λ k. k < 256) 93 n ns s in

@@ -1,11 +1,12 @@
 -- What the reader's own steps find in a text.
-use Rattle.std.specs.Prelude.{◌≡◌, ◌≢◌, ℕ, ◌+◌, ◌*◌, ◌<◌, ◌≤◌, Bool, if◌then◌else◌, List, [], ◌∷◌, ◌++◌, length, map, drop, IsTrue, Result, Ok, Err, Vec}
+use Rattle.pascal_values.specs.declared.value.Value.{Value}
+use Rattle.std.specs.Prelude.{◌≡◌, ◌⊎◌, ◌≢◌, ℕ, ◌+◌, ◌*◌, ◌<◌, ◌≤◌, Bool, if◌then◌else◌, List, [], ◌∷◌, ◌++◌, length, map, drop, IsTrue, Result, Ok, Err, Vec}
 use Rattle.std.specs.declared.alloc.Global.{Global}
 use Rattle.std.specs.List.{AllByRecursion, join_with_byte}
 use Rattle.pascal_values.specs.declared.failing.ValueError.{ValueError}
 use Rattle.pascal_values.specs.declared.failing.ValueError.TheVariants.{NoValue, Memory}
 use Rattle.std.specs.Fmt.{decimal}
-use Rattle.pascal_values.specs.Texts.{is_printable, NoDigit}
+use Rattle.pascal_values.specs.Texts.{text, HasForm, is_printable, NoDigit}
 
 -- a byte stands at a place
 pub record Stands (bytes : List ℕ) (at_ c : ℕ) : Type 0 where
@@ -108,3 +109,19 @@ abbrev pub AreOrdinals : List ℕ → ℕ → Result (Vec ℕ Global × ℕ) Val
 AreOrdinals bytes at_ (Ok r) = IsItems decimal IsOrdinal 93 bytes at_ r.0.items r.1
 AreOrdinals bytes at_ (Err NoValue) = NoItems decimal IsOrdinal 93 (drop at_ bytes)
 AreOrdinals bytes at_ (Err Memory) = Unit {0}
+
+-- what reading an item of an array or a record answers, nested so deep at most
+abbrev pub IsPartReading : ℕ → ℕ → List ℕ → ℕ → Result (Value × ℕ × Bool) ValueError → Type 0
+IsPartReading depth close bytes at_ (Ok r) = IsItem text (HasForm depth) close bytes at_ r.0 r.1 r.2
+IsPartReading depth close bytes at_ (Err NoValue) = NoItem text (HasForm depth) close (drop at_ bytes)
+IsPartReading depth close bytes at_ (Err Memory) = Unit {0}
+
+-- what reading the items up to the bracket answers
+abbrev pub ArePartsRead : ℕ → ℕ → List ℕ → ℕ → Result (List Value × ℕ) ValueError → Type 0
+ArePartsRead depth close bytes at_ (Ok r) = IsItems text (HasForm depth) close bytes at_ r.0 r.1
+ArePartsRead depth close bytes at_ (Err NoValue) = NoItems text (HasForm depth) close (drop at_ bytes)
+ArePartsRead depth close bytes at_ (Err Memory) = Unit {0}
+
+-- a bracket that closes an array or a record
+abbrev pub IsCloser : ℕ → Type 0
+IsCloser close = (57 < close) ⊎ (close < 44)

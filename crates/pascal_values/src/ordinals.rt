@@ -1,7 +1,8 @@
 //! Reading the ordinals of a set.
 
-ghost use Rattle.std.specs.Prelude.{MatchOption, drop};
+ghost use Rattle.std.specs.Prelude.{MatchOption, MatchBool, drop};
 ghost use Rattle.std.specs.Fmt.{decimal};
+ghost use Rattle.pascal_values.specs.Sets.{IsSet};
 ghost use Rattle.pascal_values.specs.Steps.{IsNumber, IsOrdinal, IsItem, NoItem, AreOrdinals};
 
 use std::alloc::Global;
@@ -46,4 +47,18 @@ fn with_separator(bytes: &[u8], at: usize, n: u64, end: usize) -> Option<(u32, u
         Some(last) => Some((n as u32, end + 1, last)),
         None => None,
     }
+}
+
+/// Whether ordinals are those of a set.
+pub(crate) fn rise(ordinals: &[u32]) -> bool
+    ensures { MatchBool result (IsSet ordinals.now) (¬ IsSet ordinals.now) }
+{
+    let mut least = 0;
+    for n in ordinals {
+        if *n < least || 255 < *n {
+            return false;
+        }
+        least = *n + 1;
+    }
+    true
 }

@@ -1,10 +1,15 @@
 //! Reading the text of a value.
 
 ghost use Rattle.std.specs.Prelude.{ℕ, ◌≡◌, ◌<◌, ◌^◌, ◌+◌, ◌-◌, negsuc, codes};
+ghost use Rattle.std.specs.Fmt.{decimal};
 ghost use Rattle.pascal_values.specs.Reading.{IsReading};
-ghost use Rattle.pascal_values.specs.Steps.{Stands, StandsWord, IsOther, IsNumber};
+ghost use Rattle.pascal_values.specs.Steps.{Stands, StandsWord, IsOther, IsNumber, IsItems, IsOrdinal};
+
+use std::alloc::Global;
 
 use crate::digits::number;
+use crate::members::Members;
+use crate::ordinals::{ordinals, rise};
 use crate::failing::ValueError;
 use crate::value::Value;
 use crate::words::{follows, is_printed, quoted};
@@ -117,6 +122,32 @@ fn coded(bytes: &[u8], at: usize, n: u64, end: usize) -> Reading
     }
     if follows(bytes, end, b")") {
         Ok((Value::Char(n as u8), end + 1))
+    } else {
+        Err(ValueError::NoValue)
+    }
+}
+
+fn read_set(alloc: Global, bytes: &[u8], at: usize) -> Reading
+    requires { Stands bytes.now at 91 }
+    ensures { (depth : ℕ) → IsReading depth bytes.now at result }
+{
+    if follows(bytes, at + 1, b"]") {
+        return Ok((Value::Set(Members::none(alloc)), at + 2));
+    }
+    match ordinals(alloc, bytes, at + 1) {
+        Ok((ordinals, end)) => as_set(bytes, at, ordinals, end),
+        Err(error) => Err(error),
+    }
+}
+
+/// The set of the ordinals, if they rise.
+fn as_set(bytes: &[u8], at: usize, ordinals: Vec<u32>, end: usize) -> Reading
+    requires bracket { Stands bytes.now at 91 }
+    requires items { IsItems decimal IsOrdinal 93 bytes.now (at + 1) ordinals.items end }
+    ensures { (depth : ℕ) → IsReading depth bytes.now at result }
+{
+    if rise(&ordinals) {
+        Ok((Value::Set(Members::of(ordinals)), end))
     } else {
         Err(ValueError::NoValue)
     }
