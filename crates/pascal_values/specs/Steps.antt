@@ -1,6 +1,6 @@
 -- What the reader's own steps find in a text.
 use Rattle.pascal_values.specs.declared.value.Value.{Value}
-use Rattle.std.specs.Prelude.{◌≡◌, ◌⊎◌, ◌≢◌, ℕ, ◌+◌, ◌*◌, ◌<◌, ◌≤◌, Bool, if◌then◌else◌, List, [], ◌∷◌, ◌++◌, length, map, drop, IsTrue, Result, Ok, Err, Vec}
+use Rattle.std.specs.Prelude.{◌≡◌, ◌⊎◌, ◌≢◌, ℕ, ◌+◌, ◌*◌, ◌<◌, ◌≤◌, Bool, if◌then◌else◌, List, [], ◌∷◌, ◌++◌, length, map, drop, IsTrue, Option, Some, None, Result, Ok, Err, Vec}
 use Rattle.std.specs.declared.alloc.Global.{Global}
 use Rattle.std.specs.List.{AllByRecursion, join_with_byte}
 use Rattle.pascal_values.specs.declared.failing.ValueError.{ValueError}
@@ -125,3 +125,8 @@ ArePartsRead depth close bytes at_ (Err Memory) = Unit {0}
 -- a bracket that closes an array or a record
 abbrev pub IsCloser : ℕ → Type 0
 IsCloser close = (57 < close) ⊎ (close < 44)
+
+-- a part with the place behind its separator, if there is one
+abbrev pub separated_of : Value → ℕ → Option Bool → Result (Value × ℕ × Bool) ValueError
+separated_of part end_ None = Err NoValue
+separated_of part end_ (Some last) = Ok (part, end_ + 1, last)

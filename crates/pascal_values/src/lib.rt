@@ -12,6 +12,8 @@ mod fault;
 #[tactic(auto, using(crate::specs::declared::value::Shape::the_lemmas, crate::specs::declared::value::Value::the_lemmas, crate::proofs::ShapeLemmas::within_out, crate::proofs::ShapeLemmas::each_within_apart))]
 mod fitting;
 mod members;
+#[tactic(auto, using(crate::proofs::PlaceLemmas::stands_here))]
+mod nesting;
 mod ordinals;
 mod parts;
 mod reading;
@@ -30,6 +32,7 @@ pub use failing::ValueError;
 pub use fault::Fault;
 pub use fitting::{fits, position};
 pub use members::Members;
+pub use nesting::read_value;
 pub use parts::Parts;
 pub use sets::{has, meet, minus, span, unite};
 pub use value::{Relation, Shape, Value, Values};

@@ -18,7 +18,7 @@ use crate::words::{follows, is_printed, quoted};
 type Reading = Result<(Value, usize), ValueError>;
 
 /// An integer without a sign.
-fn read_natural(bytes: &[u8], at: usize, byte: u8) -> Reading
+pub(crate) fn read_natural(bytes: &[u8], at: usize, byte: u8) -> Reading
     requires stands { Stands bytes.now at byte }
     requires other { IsOther byte }
     ensures { (depth : ℕ) → IsReading depth bytes.now at result }
@@ -29,7 +29,7 @@ fn read_natural(bytes: &[u8], at: usize, byte: u8) -> Reading
     }
 }
 
-fn read_negative(bytes: &[u8], at: usize) -> Reading
+pub(crate) fn read_negative(bytes: &[u8], at: usize) -> Reading
     requires { Stands bytes.now at 45 }
     ensures { (depth : ℕ) → IsReading depth bytes.now at result }
 {
@@ -52,7 +52,7 @@ fn negated(n: u64) -> i64
     -(n as i64)
 }
 
-fn read_enum(bytes: &[u8], at: usize) -> Reading
+pub(crate) fn read_enum(bytes: &[u8], at: usize) -> Reading
     requires { Stands bytes.now at 35 }
     ensures { (depth : ℕ) → IsReading depth bytes.now at result }
 {
@@ -62,7 +62,7 @@ fn read_enum(bytes: &[u8], at: usize) -> Reading
     }
 }
 
-fn read_true(bytes: &[u8], at: usize) -> Reading
+pub(crate) fn read_true(bytes: &[u8], at: usize) -> Reading
     requires { Stands bytes.now at 116 }
     ensures { (depth : ℕ) → IsReading depth bytes.now at result }
 {
@@ -73,7 +73,7 @@ fn read_true(bytes: &[u8], at: usize) -> Reading
     }
 }
 
-fn read_false(bytes: &[u8], at: usize) -> Reading
+pub(crate) fn read_false(bytes: &[u8], at: usize) -> Reading
     requires { Stands bytes.now at 102 }
     ensures { (depth : ℕ) → IsReading depth bytes.now at result }
 {
@@ -85,7 +85,7 @@ fn read_false(bytes: &[u8], at: usize) -> Reading
 }
 
 /// A character in quotes.
-fn read_quoted(bytes: &[u8], at: usize) -> Reading
+pub(crate) fn read_quoted(bytes: &[u8], at: usize) -> Reading
     requires { Stands bytes.now at 39 }
     ensures { (depth : ℕ) → IsReading depth bytes.now at result }
 {
@@ -99,7 +99,7 @@ fn read_quoted(bytes: &[u8], at: usize) -> Reading
 }
 
 /// A character by its code.
-fn read_coded(bytes: &[u8], at: usize) -> Reading
+pub(crate) fn read_coded(bytes: &[u8], at: usize) -> Reading
     requires { Stands bytes.now at 99 }
     ensures { (depth : ℕ) → IsReading depth bytes.now at result }
 {
@@ -127,7 +127,7 @@ fn coded(bytes: &[u8], at: usize, n: u64, end: usize) -> Reading
     }
 }
 
-fn read_set(alloc: Global, bytes: &[u8], at: usize) -> Reading
+pub(crate) fn read_set(alloc: Global, bytes: &[u8], at: usize) -> Reading
     requires { Stands bytes.now at 91 }
     ensures { (depth : ℕ) → IsReading depth bytes.now at result }
 {
