@@ -1,10 +1,10 @@
 -- Items that the reader finds.
-use Rattle.std.proofs.Common.{◌≡◌, ℕ, zero, suc, ◌+◌, ◌-◌, ◌<◌, ◌≤◌, Bool, true, false, if◌then◌else◌, List, [], ◌∷◌, ◌++◌, map, length, drop, inl, inr, ◌⊎◌, ap, subst, ◌∙◌, sym, refl, arith, append_assoc, append-nil, Result, Ok, Err, Option, Some, None}
+use Rattle.std.proofs.Common.{◌≡◌, ℕ, zero, suc, ◌+◌, ◌-◌, ◌<◌, ◌≤◌, Bool, true, false, if◌then◌else◌, List, [], ◌∷◌, ◌++◌, map, length, drop, get_or, inl, inr, ◌⊎◌, ap, subst, ◌∙◌, sym, refl, arith, append_assoc, append-nil, Result, Ok, Err, Option, Some, None}
 use Rattle.std.specs.Result.{is_ok, is_err}
 use Rattle.std.proofs.lemmas.Bool.{false≢true}
 use Rattle.std.specs.Fmt.{decimal}
 use Rattle.std.specs.List.{AllByRecursion, join_with_byte}
-use Rattle.std.specs.Prelude.{MatchOption}
+use Rattle.std.specs.Prelude.{MatchOption, OnOk}
 use Rattle.std.proofs.lemmas.Bool.{cases_lt}
 use Rattle.std.proofs.lemmas.List.{drop_all}
 use Rattle.pascal_values.specs.declared.value.Value.{Value, Value-F, out-Value}
@@ -18,7 +18,8 @@ use Rattle.pascal_values.proofs.Decimals.{number_only, tails, longer, same_lengt
 use Rattle.pascal_values.proofs.KindLemmas.{first_digit, text_is, no_nil}
 use Rattle.pascal_values.proofs.UniqueLemmas.{values_apart, stops_from_ends}
 use Rattle.pascal_values.proofs.ListingLemmas.{listed_ends, IsRead, read_fails}
-use Rattle.pascal_values.proofs.ReadingLemmas.{digit_here, Part, formed, formed_by, has_form, kind_is, kind_6, kind_7, text_by, IsClosed, reads_closed}
+use Rattle.pascal_values.proofs.ReadingLemmas.{digit_here, Part, formed, formed_by, has_form, kind_is, kind_6, kind_7, text_by, IsClosed, reads_closed, unset_reads}
+use Rattle.pascal_values.proofs.PlaceLemmas.{stands_here}
 
 pub pushed : {A E X : Type 0} (r : Result A E) (failed : Bool) (new a b : List X) → new ≡ (if is_ok r then a else b) → failed ≡ is_err r → failed ≡ false → new ≡ a
 pushed (Ok x) failed new a b e f g = e
@@ -168,3 +169,10 @@ module _ (bytes : List ℕ) (at_ : ℕ) where
 -- behind the end nothing is read
 pub read_end : (depth : ℕ) (bytes : List ℕ) (at_ : ℕ) → length bytes ≤ at_ → HasNone depth (drop at_ bytes)
 read_end depth bytes at_ le w more k e = no_nil (Part depth) (out-Value w) more (formed depth w k) (sym (ap (λ x. x ++ more) (text_is w)) ∙ (sym e ∙ drop_all at_ bytes le))
+
+pub pushed_part : {A E P : Type 0} (r : Result A E) (failed : Bool) → failed ≡ is_err r → failed ≡ false → OnOk r P → P
+pushed_part (Ok x) failed e f p = p
+pushed_part (Err x) failed e f p = absurd (false≢true (sym f ∙ e))
+
+pub mark_read : (depth : ℕ) (bytes : List ℕ) (at_ : ℕ) → at_ < length bytes → get_or bytes at_ 0 ≡ 63 → IsReading depth bytes at_ (Ok (value.Unset, at_ + 1))
+mark_read depth bytes at_ lt e = (omega arith, omega arith, unset_reads depth (drop at_ bytes) (drop (at_ + 1) bytes) (stands_here bytes at_ 63 lt e).is)
