@@ -60,7 +60,7 @@ ends_first : (c : ℕ) (t u r : List ℕ) → NoDigit r → r ≡ c ∷ t → No
 ends_first c t u r none e = subst NoDigit e none
 
 -- the value that is read is the only one before text that no digit begins
-part_only : (depth : ℕ) (s : List ℕ) (v : Value) (r : List ℕ) → Reads depth s v r → (y : Value) (t : List ℕ) → HasForm depth y → NoDigit t → s ≡ text y ++ t → (v ≡ y) × (r ≡ t)
+pub part_only : (depth : ℕ) (s : List ℕ) (v : Value) (r : List ℕ) → Reads depth s v r → (y : Value) (t : List ℕ) → HasForm depth y → NoDigit t → s ≡ text y ++ t → (v ≡ y) × (r ≡ t)
 part_only depth s v r reads y t k none e =
     let same : text v ++ r ≡ text y ++ t = sym reads.is ∙ e in
     let le = reads.longest y t k e in
@@ -176,3 +176,6 @@ pushed_part (Err x) failed e f p = absurd (false≢true (sym f ∙ e))
 
 pub mark_read : (depth : ℕ) (bytes : List ℕ) (at_ : ℕ) → at_ < length bytes → get_or bytes at_ 0 ≡ 63 → IsReading depth bytes at_ (Ok (value.Unset, at_ + 1))
 mark_read depth bytes at_ lt e = (omega arith, omega arith, unset_reads depth (drop at_ bytes) (drop (at_ + 1) bytes) (stands_here bytes at_ 63 lt e).is)
+
+pub one_text : (depth : ℕ) (v w : Value) → HasForm depth v → HasForm depth w → text v ≡ text w → v ≡ w
+one_text depth v w h k e = (values_apart depth v w [] [] h k (stops_from_ends (out-Value v) [] tt) (stops_from_ends (out-Value w) [] tt) (append-nil (text v) ∙ (e ∙ sym (append-nil (text w))))).0

@@ -11,6 +11,7 @@ mod failing;
 mod fault;
 #[tactic(auto, using(crate::specs::declared::value::Shape::the_lemmas, crate::specs::declared::value::Value::the_lemmas, crate::proofs::ShapeLemmas::within_out, crate::proofs::ShapeLemmas::each_within_apart))]
 mod fitting;
+mod laws;
 mod members;
 #[tactic(auto, using(crate::proofs::PlaceLemmas::stands_here))]
 mod nesting;
@@ -31,6 +32,7 @@ pub use comparing::compare;
 pub use failing::ValueError;
 pub use fault::Fault;
 pub use fitting::{fits, position};
+pub use laws::{one_reading, read_again};
 pub use members::Members;
 pub use nesting::read_value;
 pub use parts::Parts;
@@ -39,3 +41,6 @@ pub use value::{Relation, Shape, Value, Values};
 pub use way::{find, part, replace};
 pub use whole::{blank, copy};
 pub use writing::write_value;
+
+#[cfg(test)]
+mod tests;
