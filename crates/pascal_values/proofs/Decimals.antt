@@ -1,5 +1,5 @@
 -- Decimal texts: where one begins another, and where two stand before other text.
-use Rattle.std.proofs.Common.{◌≡◌, ◌≢◌, ℕ, zero, suc, ◌+◌, ◌-◌, ◌*◌, ◌/◌, ◌%◌, ◌^◌, ◌<◌, ◌≤◌, List, [], ◌∷◌, ◌++◌, length, inl, inr, ◌⊎◌, ap, subst, ◌∙◌, sym, refl, arith, append_assoc, append-nil, length-append}
+use Rattle.std.proofs.Common.{◌≡◌, ℕ, suc, ◌+◌, ◌*◌, ◌/◌, ◌%◌, ◌^◌, ◌<◌, ◌≤◌, List, [], ◌∷◌, ◌++◌, length, inl, inr, ap, subst, ◌∙◌, sym, refl, arith, append_assoc, length-append}
 use Rattle.std.specs.Fmt.{decimal}
 use Rattle.pascal_values.specs.Texts.{NoDigit}
 use Rattle.pascal_values.specs.Steps.{IsFull}
@@ -72,19 +72,20 @@ follows_more : (y : ℕ) (front : List ℕ) → 10 ≤ y → (y / 10 < 2 ^ 64 �
 follows_more y front le front_is before n c ds n_in y_in e =
     let l = last_of c ds in go l.0 l.1 l.2
   where
-  quotient_in : y / 10 < 2 ^ 64
-  quotient_in = omega arith
-  go : (xs : List ℕ) (x : ℕ) → c ∷ ds ≡ xs ++ x ∷ [] → GoesOn n y c
-  go [] x is =
-    let c_is : c ≡ x = cc in
-    let s = last_split front (decimal n) (48 + y % 10) x (e ∙ ap (λ t. decimal n ++ t) is) in
-    let n_is : y / 10 ≡ n = decimal_injective (y / 10) n quotient_in n_in (sym (front_is quotient_in) ∙ s.0) in
-    record { digit = y % 10; is_digit = c_is ∙ sym s.1; below_ten = omega arith; not_zero = omega arith; within = omega arith }
-  go (z ∷ zs) x is =
-    let c_is : c ≡ z = cc in
-    let s = last_split front (decimal n ++ c ∷ zs) (48 + y % 10) x (e ∙ (ap (λ t. decimal n ++ t) (is ∙ ap (λ w. w ∷ (zs ++ x ∷ [])) (sym c_is)) ∙ sym (append_assoc (decimal n) (c ∷ zs) (x ∷ [])))) in
-    let g = before n c zs n_in quotient_in s.0 in
-    record { digit = g.digit; is_digit = g.is_digit; below_ten = g.below_ten; not_zero = g.not_zero; within = omega (arith, g.within) }
+    quotient_in : y / 10 < 2 ^ 64
+    quotient_in = omega arith
+
+    go : (xs : List ℕ) (x : ℕ) → c ∷ ds ≡ xs ++ x ∷ [] → GoesOn n y c
+    go [] x is =
+        let c_is : c ≡ x = cc in
+        let s = last_split front (decimal n) (48 + y % 10) x (e ∙ ap (λ t. decimal n ++ t) is) in
+        let n_is : y / 10 ≡ n = decimal_injective (y / 10) n quotient_in n_in (sym (front_is quotient_in) ∙ s.0) in
+        record { digit = y % 10; is_digit = c_is ∙ sym s.1; below_ten = omega arith; not_zero = omega arith; within = omega arith }
+    go (z ∷ zs) x is =
+        let c_is : c ≡ z = cc in
+        let s = last_split front (decimal n ++ c ∷ zs) (48 + y % 10) x (e ∙ (ap (λ t. decimal n ++ t) (is ∙ ap (λ w. w ∷ (zs ++ x ∷ [])) (sym c_is)) ∙ sym (append_assoc (decimal n) (c ∷ zs) (x ∷ [])))) in
+        let g = before n c zs n_in quotient_in s.0 in
+        record { digit = g.digit; is_digit = g.is_digit; below_ten = g.below_ten; not_zero = g.not_zero; within = omega (arith, g.within) }
 
 pub goes_on : (n y c : ℕ) (ds : List ℕ) → n < 2 ^ 64 → y < 2 ^ 64 → decimal y ≡ decimal n ++ c ∷ ds → GoesOn n y c
 goes_on n y c ds n_in y_in e = (decimal_by_steps (λ z zs. (z < 2 ^ 64 → zs ≡ decimal z) × Follows z zs) (λ z lt. ((λ z_in. sym (decimal_digit z lt)), follows_one z lt)) (λ z zs le before. ((λ z_in. rw (decimal_step z le z_in) (ap (λ t. t ++ (48 + z % 10) ∷ []) (before.0 (omega arith)))), follows_more z zs le before.0 before.1)) y y_in).1 n c ds n_in y_in e
@@ -95,19 +96,19 @@ no_digit c t r n y ends e g = elim (subst NoDigit e ends) [ inl low ↦ omega (a
 -- two decimal texts before text that no digit begins
 pub decimals_apart : (m n : ℕ) (r s : List ℕ) → m < 2 ^ 64 → n < 2 ^ 64 → NoDigit r → NoDigit s → decimal m ++ r ≡ decimal n ++ s → (m ≡ n) × (r ≡ s)
 decimals_apart m n r s m_in n_in r_ends s_ends e = elim (cases_order (length (decimal m)) (length (decimal n))) [
-    inl same ↦ let p = same_length (decimal m) r (decimal n) s e same in (decimal_injective m n m_in n_in p.0, p.1)
+  | inl same ↦ let p = same_length (decimal m) r (decimal n) s e same in (decimal_injective m n m_in n_in p.0, p.1)
   | inr (inl less) ↦ let l = longer (decimal m) r (decimal n) s e less in absurd (no_digit l.0 (l.1 ++ s) r m n r_ends l.3 (goes_on m n l.0 l.1 m_in n_in l.2))
   | inr (inr more) ↦ let l = longer (decimal n) s (decimal m) r (sym e) more in absurd (no_digit l.0 (l.1 ++ r) s n m s_ends l.3 (goes_on n m l.0 l.1 n_in m_in l.2))
-  ]
+]
 
 -- a number to which no digit can be added has the longest text
 pub decimal_longest : (greatest n : ℕ) (s r : List ℕ) → greatest < 2 ^ 64 → n ≤ greatest → IsFull greatest n r → s ≡ decimal n ++ r → (y : ℕ) (q : List ℕ) → y ≤ greatest → s ≡ decimal y ++ q → length (decimal y) ≤ length (decimal n)
 decimal_longest greatest n s r g_in n_in full is y q y_in y_is = elim (cases_lt (length (decimal n)) (length (decimal y))) [
-    inr le ↦ le
+  | inr le ↦ le
   | inl less ↦ let l = longer (decimal n) r (decimal y) q (sym is ∙ y_is) less in
       let g = goes_on n y l.0 l.1 (omega arith) (omega arith) l.2 in
       absurd (full g.digit (l.1 ++ q) g.below_ten (l.3 ∙ ap (λ c. c ∷ (l.1 ++ q)) g.is_digit) g.not_zero (omega (arith, g.within)))
-  ]
+]
 
 pub number_first : (d : ℕ) (s r : List ℕ) → d < 10 → s ≡ (48 + d) ∷ r → s ≡ decimal d ++ r
 number_first d s r lt is = is ∙ ap (λ t. t ++ r) (sym (decimal_digit d lt))
@@ -126,6 +127,6 @@ number_only greatest n s r g_in n_in full is y t y_in ends y_is =
     let e : decimal n ++ r ≡ decimal y ++ t = sym is ∙ y_is in
     let le = decimal_longest greatest n s r g_in n_in full is y t y_in y_is in
     elim (cases_lt (length (decimal y)) (length (decimal n))) [
-      inr ge ↦ let p = same_length (decimal n) r (decimal y) t e (omega arith) in (decimal_injective n y (omega arith) (omega arith) p.0, p.1)
-    | inl less ↦ let l = longer (decimal y) t (decimal n) r (sym e) less in absurd (no_digit l.0 (l.1 ++ r) t y n ends l.3 (goes_on y n l.0 l.1 (omega arith) (omega arith) l.2))
+      | inr ge ↦ let p = same_length (decimal n) r (decimal y) t e (omega arith) in (decimal_injective n y (omega arith) (omega arith) p.0, p.1)
+      | inl less ↦ let l = longer (decimal y) t (decimal n) r (sym e) less in absurd (no_digit l.0 (l.1 ++ r) t y n ends l.3 (goes_on y n l.0 l.1 (omega arith) (omega arith) l.2))
     ]

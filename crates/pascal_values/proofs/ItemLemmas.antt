@@ -1,5 +1,5 @@
 -- Items that the reader finds.
-use Rattle.std.proofs.Common.{◌≡◌, ℕ, zero, suc, ◌+◌, ◌-◌, ◌<◌, ◌≤◌, Bool, true, false, if◌then◌else◌, List, [], ◌∷◌, ◌++◌, map, length, drop, get_or, inl, inr, ◌⊎◌, ap, subst, ◌∙◌, sym, refl, arith, append_assoc, append-nil, Result, Ok, Err, Option, Some, None}
+use Rattle.std.proofs.Common.{◌≡◌, ℕ, zero, suc, ◌+◌, ◌-◌, ◌<◌, ◌≤◌, Bool, true, false, if◌then◌else◌, List, [], ◌∷◌, ◌++◌, map, length, drop, get_or, inl, inr, ap, subst, ◌∙◌, sym, refl, arith, append_assoc, append-nil, Result, Ok, Err, Option, Some, None}
 use Rattle.std.specs.Result.{is_ok, is_err}
 use Rattle.std.proofs.lemmas.Bool.{false≢true}
 use Rattle.std.specs.Fmt.{decimal}
@@ -13,7 +13,7 @@ use Rattle.pascal_values.specs.declared.failing.ValueError.{ValueError}
 use Rattle.pascal_values.specs.declared.failing.ValueError.TheVariants.{NoValue, Memory}
 use Rattle.pascal_values.specs.Texts.{text, HasForm, NoDigit}
 use Rattle.pascal_values.specs.Reading.{Reads, HasNone, IsReading}
-use Rattle.pascal_values.specs.Steps.{Stands, IsFull, IsNumber, IsOrdinal, IsItem, NoItem, listed, separator, NoSeparator, IsItems, IsCloser, IsPartReading, ArePartsRead, separated_of}
+use Rattle.pascal_values.specs.Steps.{Stands, IsNumber, IsOrdinal, IsItem, NoItem, listed, separator, NoSeparator, IsItems, IsCloser, IsPartReading, ArePartsRead, separated_of}
 use Rattle.pascal_values.proofs.Decimals.{number_only, tails, longer, same_length}
 use Rattle.pascal_values.proofs.KindLemmas.{first_digit, text_is, no_nil}
 use Rattle.pascal_values.proofs.UniqueLemmas.{values_apart, stops_from_ends}
@@ -65,18 +65,18 @@ part_only depth s v r reads y t k none e =
     let same : text v ++ r ≡ text y ++ t = sym reads.is ∙ e in
     let le = reads.longest y t k e in
     elim (cases_lt (length (text y)) (length (text v))) [
-      inr ge ↦
-        let p = same_length (text v) r (text y) t same (omega arith) in
-        let u = values_apart depth v y [] [] reads.form k (stops_from_ends (out-Value v) [] tt) (stops_from_ends (out-Value y) [] tt) (append-nil (text v) ∙ (p.0 ∙ sym (append-nil (text y)))) in
-        (u.0, p.1)
-    | inl less ↦
-        let l = longer (text y) t (text v) r (sym same) less in
-        let u = values_apart depth v y [] (l.0 ∷ l.1) reads.form k (stops_from_ends (out-Value v) [] tt) (stops_from_ends (out-Value y) (l.0 ∷ l.1) (ends_first l.0 (l.1 ++ r) l.1 t none l.3)) (append-nil (text v) ∙ l.2) in
-        absurd (nil_cons l.0 l.1 u.1)
+      | inr ge ↦
+          let p = same_length (text v) r (text y) t same (omega arith) in
+          let u = values_apart depth v y [] [] reads.form k (stops_from_ends (out-Value v) [] tt) (stops_from_ends (out-Value y) [] tt) (append-nil (text v) ∙ (p.0 ∙ sym (append-nil (text y)))) in
+          (u.0, p.1)
+      | inl less ↦
+          let l = longer (text y) t (text v) r (sym same) less in
+          let u = values_apart depth v y [] (l.0 ∷ l.1) reads.form k (stops_from_ends (out-Value v) [] tt) (stops_from_ends (out-Value y) (l.0 ∷ l.1) (ends_first l.0 (l.1 ++ r) l.1 t none l.3)) (append-nil (text v) ∙ l.2) in
+          absurd (nil_cons l.0 l.1 u.1)
     ]
   where
-  nil_cons : (c : ℕ) (cs : List ℕ) → [] ≡ c ∷ cs → ⊥
-  nil_cons c cs e' = cc
+    nil_cons : (c : ℕ) (cs : List ℕ) → [] ≡ c ∷ cs → ⊥
+    nil_cons c cs e' = cc
 
 module _ (depth close : ℕ) (out : IsCloser close) (bytes : List ℕ) (at_ : ℕ) (v : Value) (end_ : ℕ) (reading : (at_ ≤ end_) × (end_ ≤ length bytes) × Reads depth (drop at_ bytes) v (drop end_ bytes)) where
   part_item : (last : Bool) → Stands bytes end_ (separator close last) → IsItem text (HasForm depth) close bytes at_ v (end_ + 1) last
@@ -138,17 +138,23 @@ module _ (bytes : List ℕ) (at_ : ℕ) where
   array_read zero vs end_ s nz i = absurd (nz refl)
   array_read (suc depth) vs end_ s nz i =
       let less : suc depth - 1 ≡ depth = omega arith in
-      let form = subst (λ d. AllByRecursion (HasForm d) vs) less i.form in
-      (omega (arith, i.goes), i.within, reads_closed (suc depth) (value.Array vs) 40 (drop at_ bytes) (drop (at_ + 1) bytes) (drop end_ bytes) (has_form (suc depth) (value.Array vs) (Value-F.Array vs) (value.outs-Array vs) (i.some, form)) (subst IsClosed (sym (value.outs-Array vs)) tt) s.is
-        (s.is ∙ (ap (λ x. 40 ∷ x) (i.is ∙ sym (append_assoc (join_with_byte 44 (map text vs)) (41 ∷ []) (drop end_ bytes))) ∙ ap (λ x. x ++ drop end_ bytes) (sym (text_by (value.Array vs) (Value-F.Array vs) (value.outs-Array vs))))))
+      let form = subst (λ d. AllByRecursion (HasForm d) vs) less i.form in (
+        omega (arith, i.goes),
+        i.within,
+        reads_closed (suc depth) (value.Array vs) 40 (drop at_ bytes) (drop (at_ + 1) bytes) (drop end_ bytes) (has_form (suc depth) (value.Array vs) (Value-F.Array vs) (value.outs-Array vs) (i.some, form)) (subst IsClosed (sym (value.outs-Array vs)) tt) s.is
+            (s.is ∙ (ap (λ x. 40 ∷ x) (i.is ∙ sym (append_assoc (join_with_byte 44 (map text vs)) (41 ∷ []) (drop end_ bytes))) ∙ ap (λ x. x ++ drop end_ bytes) (sym (text_by (value.Array vs) (Value-F.Array vs) (value.outs-Array vs))))),
+      )
 
   pub fields_read : (depth : ℕ) (vs : List Value) (end_ : ℕ) → Stands bytes at_ 123 → ¬ (depth ≡ 0) → IsItems text (HasForm (depth - 1)) 125 bytes (at_ + 1) vs end_ → IsReading depth bytes at_ (Ok (value.Fields vs, end_))
   fields_read zero vs end_ s nz i = absurd (nz refl)
   fields_read (suc depth) vs end_ s nz i =
       let less : suc depth - 1 ≡ depth = omega arith in
-      let form = subst (λ d. AllByRecursion (HasForm d) vs) less i.form in
-      (omega (arith, i.goes), i.within, reads_closed (suc depth) (value.Fields vs) 123 (drop at_ bytes) (drop (at_ + 1) bytes) (drop end_ bytes) (has_form (suc depth) (value.Fields vs) (Value-F.Fields vs) (value.outs-Fields vs) (i.some, form)) (subst IsClosed (sym (value.outs-Fields vs)) tt) s.is
-        (s.is ∙ (ap (λ x. 123 ∷ x) (i.is ∙ sym (append_assoc (join_with_byte 44 (map text vs)) (125 ∷ []) (drop end_ bytes))) ∙ ap (λ x. x ++ drop end_ bytes) (sym (text_by (value.Fields vs) (Value-F.Fields vs) (value.outs-Fields vs))))))
+      let form = subst (λ d. AllByRecursion (HasForm d) vs) less i.form in (
+        omega (arith, i.goes),
+        i.within,
+        reads_closed (suc depth) (value.Fields vs) 123 (drop at_ bytes) (drop (at_ + 1) bytes) (drop end_ bytes) (has_form (suc depth) (value.Fields vs) (Value-F.Fields vs) (value.outs-Fields vs) (i.some, form)) (subst IsClosed (sym (value.outs-Fields vs)) tt) s.is
+            (s.is ∙ (ap (λ x. 123 ∷ x) (i.is ∙ sym (append_assoc (join_with_byte 44 (map text vs)) (125 ∷ []) (drop end_ bytes))) ∙ ap (λ x. x ++ drop end_ bytes) (sym (text_by (value.Fields vs) (Value-F.Fields vs) (value.outs-Fields vs))))),
+      )
 
   pub array_error : (depth : ℕ) (e : ValueError) → Stands bytes at_ 40 → ¬ (depth ≡ 0) → ArePartsRead (depth - 1) 41 bytes (at_ + 1) (Err e) → IsReading depth bytes at_ (Err e)
   array_error zero e s nz h = absurd (nz refl)

@@ -1,13 +1,12 @@
 -- The kind of a value, which the first byte of its text tells.
-use Rattle.std.proofs.Common.{◌≡◌, ℕ, zero, suc, ◌+◌, ◌-◌, ◌<◌, ◌≤◌, ◌^◌, ◌%◌, ◌/◌, ◌==◌, nat_le, Bool, true, false, ◌&&◌, ◌||◌, cond, if◌then◌else◌, List, [], ◌∷◌, ◌++◌, map, length, inl, inr, ◌⊎◌, ap, subst, ◌∙◌, sym, refl, arith, ℤ, pos, negsuc}
-use Rattle.std.specs.Fmt.{decimal, signed_decimal}
-use Rattle.std.proofs.lemmas.Fmt.{decimal_digit, decimal_step, decimal_by_steps}
+use Rattle.std.proofs.Common.{◌≡◌, ℕ, suc, ◌+◌, ◌<◌, ◌^◌, ◌%◌, ◌==◌, nat_le, Bool, true, false, ◌&&◌, ◌||◌, if◌then◌else◌, List, [], ◌∷◌, ◌++◌, ap, subst, ◌∙◌, sym, refl, arith, pos, negsuc}
+use Rattle.std.specs.Fmt.{decimal}
+use Rattle.std.proofs.lemmas.Fmt.{decimal_by_steps}
 use Rattle.std.proofs.lemmas.Bool.Decides.{nat_tests}
 use Rattle.pascal_values.specs.declared.value.Value.{Value, Value-F, out-Value, roll-Value, roll-out-Value, map-Value}
-use Rattle.pascal_values.specs.declared.value.Value.TheVariants as value
 use Rattle.std.specs.Prelude.{IsTrue}
 use Rattle.pascal_values.specs.Integers.{is_integer}
-use Rattle.pascal_values.specs.Texts.{text, text_step, char_text, enclosed, IsFormed}
+use Rattle.pascal_values.specs.Texts.{text, text_step, char_text, IsFormed}
 use Rattle.pascal_values.proofs.TextLemmas.{text_out}
 
 abbrev pub kind : {X : Type 0} → Value-F X → ℕ
@@ -45,10 +44,10 @@ first_digit n n_in = decimal_by_steps FirstDigit (λ d lt. (d, [], lt, refl)) (�
 char_first : (c : ℕ) → (f : ℕ) × (t : List ℕ) × (char_text c ≡ f ∷ t) × (kind_at f ≡ 3)
 char_first c = by_quote (c == 39) (nat_le 32 c && nat_le c 126)
   where
-  by_quote : (quote plain : Bool) → (f : ℕ) × (t : List ℕ) × ((if quote then (39 ∷ 39 ∷ 39 ∷ 39 ∷ []) else (if plain then 39 ∷ c ∷ 39 ∷ [] else (99 ∷ 104 ∷ 114 ∷ 40 ∷ []) ++ decimal c ++ 41 ∷ [])) ≡ f ∷ t) × (kind_at f ≡ 3)
-  by_quote true plain = (39, 39 ∷ 39 ∷ 39 ∷ [], refl, refl)
-  by_quote false true = (39, c ∷ 39 ∷ [], refl, refl)
-  by_quote false false = (99, 104 ∷ 114 ∷ 40 ∷ decimal c ++ 41 ∷ [], refl, refl)
+    by_quote : (quote plain : Bool) → (f : ℕ) × (t : List ℕ) × ((if quote then (39 ∷ 39 ∷ 39 ∷ 39 ∷ []) else (if plain then 39 ∷ c ∷ 39 ∷ [] else (99 ∷ 104 ∷ 114 ∷ 40 ∷ []) ++ decimal c ++ 41 ∷ [])) ≡ f ∷ t) × (kind_at f ≡ 3)
+    by_quote true plain = (39, 39 ∷ 39 ∷ 39 ∷ [], refl, refl)
+    by_quote false true = (39, c ∷ 39 ∷ [], refl, refl)
+    by_quote false false = (99, 104 ∷ 114 ∷ 40 ∷ decimal c ++ 41 ∷ [], refl, refl)
 
 -- an integer's decimal texts have 64 bits
 pub integer_in : (k : ℕ) → IsTrue (is_integer (pos k)) → k < 2 ^ 63

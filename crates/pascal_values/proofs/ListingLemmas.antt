@@ -1,8 +1,8 @@
 -- Texts of a list's items with commas between them, before a bracket that closes.
-use Rattle.std.proofs.Common.{◌≡◌, ℕ, zero, suc, ◌+◌, ◌<◌, ◌≤◌, List, [], ◌∷◌, ◌++◌, Bool, true, false, map, length, inl, inr, ◌⊎◌, ap, subst, ◌∙◌, sym, refl, arith, append_assoc, drop, length-append}
+use Rattle.std.proofs.Common.{◌≡◌, ℕ, ◌<◌, ◌≤◌, List, [], ◌∷◌, ◌++◌, true, false, map, length, inl, inr, ◌⊎◌, ap, subst, ◌∙◌, sym, refl, arith, append_assoc, drop, length-append}
 use Rattle.std.specs.List.{join_with_byte, AllByRecursion}
 use Rattle.pascal_values.specs.Texts.{NoDigit}
-use Rattle.pascal_values.specs.Steps.{listed, separator, IsItem, NoItem, IsItems, NoItems}
+use Rattle.pascal_values.specs.Steps.{listed, IsItem, NoItem, IsItems, NoItems}
 
 module _ {X : Type 0} (f : X → List ℕ) (P : X → Type 0) (close : ℕ) where
   pub join-listed : (x : X) (xs : List X) (q : List ℕ) → join_with_byte 44 (map f (x ∷ xs)) ++ close ∷ q ≡ f x ++ listed f close xs q
@@ -70,15 +70,15 @@ module _ {X : Type 0} (f : X → List ℕ) (P : X → Type 0) (close : ℕ) wher
         let o = only g.next (listed f close g.others q) g.has.0 (listed_ends out g.others q) g.stands in
         more g.next g.others g.is g.has o.0 o.1
       where
-      more : (y : X) (zs : List X) → ys ≡ xs ++ y ∷ zs → AllByRecursion P (y ∷ zs) → v ≡ y → 44 ∷ r ≡ listed f close zs q → GoesOn ys (xs ++ v ∷ []) r q
-      more y [] is has same e' = let h : 44 ≡ close = cc in elim out [ inl high ↦ absurd (omega arith) | inr low ↦ absurd (omega arith) ]
-      more y (z ∷ zs) is has same e' = record {
-        next = z;
-        others = zs;
-        is = is ∙ (ap (λ w. xs ++ w ∷ z ∷ zs) (sym same) ∙ sym (append_assoc xs (v ∷ []) (z ∷ zs)));
-        has = has.1;
-        stands = cc;
-      }
+        more : (y : X) (zs : List X) → ys ≡ xs ++ y ∷ zs → AllByRecursion P (y ∷ zs) → v ≡ y → 44 ∷ r ≡ listed f close zs q → GoesOn ys (xs ++ v ∷ []) r q
+        more y [] is has same e' = let h : 44 ≡ close = cc in elim out [ inl high ↦ absurd (omega arith) | inr low ↦ absurd (omega arith) ]
+        more y (z ∷ zs) is has same e' = record {
+          next = z;
+          others = zs;
+          is = is ∙ (ap (λ w. xs ++ w ∷ z ∷ zs) (sym same) ∙ sym (append_assoc xs (v ∷ []) (z ∷ zs)));
+          has = has.1;
+          stands = cc;
+        }
 
     -- the list that is read, where the bracket closes
     pub go_on_last : (start : List ℕ) (xs : List X) (s : List ℕ) (v : X) (r : List ℕ) → AllGoOn start xs s → IsOnly s v (close ∷ r) → (ys : List X) (q : List ℕ) → AllByRecursion P ys → 0 < length ys → start ≡ join_with_byte 44 (map f ys) ++ close ∷ q → (xs ++ v ∷ [] ≡ ys) × (r ≡ q)
@@ -87,9 +87,9 @@ module _ {X : Type 0} (f : X → List ℕ) (P : X → Type 0) (close : ℕ) wher
         let o = only g.next (listed f close g.others q) g.has.0 (listed_ends out g.others q) g.stands in
         last g.next g.others g.is o.0 o.1
       where
-      last : (y : X) (zs : List X) → ys ≡ xs ++ y ∷ zs → v ≡ y → close ∷ r ≡ listed f close zs q → (xs ++ v ∷ [] ≡ ys) × (r ≡ q)
-      last y [] is same e' = (ap (λ w. xs ++ w ∷ []) same ∙ sym is, cc)
-      last y (z ∷ zs) is same e' = let h : close ≡ 44 = cc in elim out [ inl high ↦ absurd (omega arith) | inr low ↦ absurd (omega arith) ]
+        last : (y : X) (zs : List X) → ys ≡ xs ++ y ∷ zs → v ≡ y → close ∷ r ≡ listed f close zs q → (xs ++ v ∷ [] ≡ ys) × (r ≡ q)
+        last y [] is same e' = (ap (λ w. xs ++ w ∷ []) same ∙ sym is, cc)
+        last y (z ∷ zs) is same e' = let h : close ≡ 44 = cc in elim out [ inl high ↦ absurd (omega arith) | inr low ↦ absurd (omega arith) ]
 
 -- a list with one more item at its end
 pub all_push : {X : Type 0} (P : X → Type 0) (xs : List X) (x : X) → AllByRecursion P xs → P x → AllByRecursion P (xs ++ x ∷ [])

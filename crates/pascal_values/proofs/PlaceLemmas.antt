@@ -1,11 +1,10 @@
 -- What stands at a place of a text.
-use Rattle.std.proofs.Common.{◌≡◌, ◌≢◌, ℕ, zero, suc, ◌+◌, ◌-◌, ◌<◌, ◌≤◌, Bool, true, false, List, [], ◌∷◌, ◌++◌, length, take, drop, get_or, ap, subst, ◌∙◌, sym, refl, arith, append_assoc, length-append, length-drop, add-one, drop-cons, nat_eq, MatchBool, inl, inr, ◌⊎◌}
-use Rattle.std.specs.Prelude.{IsTrue}
+use Rattle.std.proofs.Common.{◌≡◌, ℕ, suc, ◌+◌, ◌-◌, ◌<◌, ◌≤◌, Bool, true, false, List, [], ◌∷◌, ◌++◌, length, take, drop, get_or, ap, ◌∙◌, sym, refl, arith, length-append, length-drop, add-one, drop-cons, nat_eq, MatchBool, inl, inr, ◌⊎◌}
 use lib.Pointwise.{pointwise}
 use Rattle.std.proofs.lemmas.Slice.Eq.{starts_is}
 use Rattle.std.proofs.lemmas.Bool.{false≢true}
 use Rattle.std.proofs.lemmas.Bool.Decides.{Decides-eqb}
-use Rattle.std.proofs.lemmas.List.{take_all, drop_all, drop-drop}
+use Rattle.std.proofs.lemmas.List.{take_all, drop-drop}
 use Rattle.pascal_values.specs.Texts.{is_printable}
 use Rattle.pascal_values.specs.Steps.{Stands, StandsWord, NoWord, IsPlain, StandsQuoted, NoQuoted}
 use Rattle.pascal_values.proofs.Decimals.{heads, tails}
@@ -19,14 +18,14 @@ stands_here bytes at_ c lt e = record { within = lt; is = rw add-one (drop-cons 
 pub follows_is : (bytes : List ℕ) (at_ : ℕ) (word part : List ℕ) (r : Bool) → at_ ≤ length bytes → part ≡ drop at_ bytes → r ≡ pointwise nat_eq word (take (length word) part) → MatchBool r (StandsWord bytes at_ word) (NoWord bytes at_ word)
 follows_is bytes at_ word part r le same is = by_result r is
   where
-  by_result : (b : Bool) → b ≡ pointwise nat_eq word (take (length word) part) → MatchBool b (StandsWord bytes at_ word) (NoWord bytes at_ word)
-  by_result true e =
-      let s = starts_is Decides-eqb part word true e in
-      let i : drop at_ bytes ≡ word ++ drop (length word) (drop at_ bytes) = rw same at (s.0 refl) in
-      record { within = omega (arith, ap length i, length-append word (drop (length word) (drop at_ bytes)), length-drop at_ bytes); is = i ∙ ap (λ t. word ++ t) (drop_plus at_ (length word) bytes) }
-  by_result false e = λ rest i.
-      let t : false ≡ true = (starts_is Decides-eqb part word false e).1 rest (same ∙ i) in
-      false≢true t
+    by_result : (b : Bool) → b ≡ pointwise nat_eq word (take (length word) part) → MatchBool b (StandsWord bytes at_ word) (NoWord bytes at_ word)
+    by_result true e =
+        let s = starts_is Decides-eqb part word true e in
+        let i : drop at_ bytes ≡ word ++ drop (length word) (drop at_ bytes) = rw same at (s.0 refl) in
+        record { within = omega (arith, ap length i, length-append word (drop (length word) (drop at_ bytes)), length-drop at_ bytes); is = i ∙ ap (λ t. word ++ t) (drop_plus at_ (length word) bytes) }
+    by_result false e = λ rest i.
+        let t : false ≡ true = (starts_is Decides-eqb part word false e).1 rest (same ∙ i) in
+        false≢true t
 
 pub follows_here : (bytes : List ℕ) (at_ : ℕ) (word : List ℕ) (r : Bool) → at_ ≤ length bytes → r ≡ pointwise nat_eq word (take (length word) (take (length bytes - at_) (drop at_ bytes))) → MatchBool r (StandsWord bytes at_ word) (NoWord bytes at_ word)
 follows_here bytes at_ word r le is = follows_is bytes at_ word (take (length bytes - at_) (drop at_ bytes)) r le (take_all (length bytes - at_) (drop at_ bytes) (omega (arith, length-drop at_ bytes))) is

@@ -1,22 +1,22 @@
 -- What each step of the reader has found.
-use Rattle.std.proofs.Common.{◌≡◌, ◌≢◌, ℕ, zero, suc, ◌+◌, ◌-◌, ◌*◌, ◌<◌, ◌≤◌, ◌^◌, ◌==◌, nat_le, Bool, true, false, ◌&&◌, if◌then◌else◌, List, [], ◌∷◌, ◌++◌, map, length, drop, get_or, inl, inr, ◌⊎◌, ap, subst, ◌∙◌, sym, refl, arith, Ok, Err, append_assoc, length-append, add-one, drop-cons, ℤ, pos, negsuc}
+use Rattle.std.proofs.Common.{◌≡◌, ◌≢◌, ℕ, zero, suc, ◌+◌, ◌-◌, ◌<◌, ◌≤◌, ◌^◌, Bool, true, false, if◌then◌else◌, List, [], ◌∷◌, ◌++◌, map, length, drop, get_or, inl, inr, ◌⊎◌, ap, subst, ◌∙◌, sym, refl, arith, Ok, Err, append_assoc, length-append, ℤ, pos, negsuc}
 use Rattle.std.specs.Prelude.{IsTrue}
 use Rattle.std.specs.List.{AllByRecursion, join_with_byte}
-use Rattle.std.specs.Fmt.{decimal, signed_decimal}
+use Rattle.std.specs.Fmt.{decimal}
 use Rattle.std.proofs.lemmas.Fmt.{decimal_digit, first_decimal}
 use Rattle.std.proofs.lemmas.Bool.{false≢true}
 use Rattle.std.proofs.lemmas.Bool.Decides.{nat_tests}
 use Rattle.pascal_values.specs.declared.value.Value.{Value, Value-F, out-Value}
 use Rattle.pascal_values.specs.declared.value.Value.TheVariants as value
 use Rattle.pascal_values.specs.Integers.{is_integer}
-use Rattle.pascal_values.specs.Sets.{IsRising, IsSet}
+use Rattle.pascal_values.specs.Sets.{IsSet}
 use Rattle.pascal_values.specs.Texts.{text, char_text, is_printable, NoDigit, IsFormed, HasForm}
 use Rattle.pascal_values.specs.Reading.{Reads, HasNone, IsReading}
-use Rattle.pascal_values.specs.Steps.{Stands, StandsWord, NoWord, IsPlain, StandsQuoted, IsOther, IsFull, IsNumber, IsOrdinal, NoItems, AreOrdinals}
+use Rattle.pascal_values.specs.Steps.{Stands, StandsWord, NoWord, IsPlain, IsOther, IsFull, IsOrdinal, NoItems, AreOrdinals}
 use Rattle.pascal_values.specs.declared.failing.ValueError.{ValueError}
 use Rattle.pascal_values.specs.declared.failing.ValueError.TheVariants.{NoValue, Memory}
-use Rattle.pascal_values.proofs.Decimals.{heads, tails, decimals_apart, decimal_longest, number_only}
-use Rattle.pascal_values.proofs.KindLemmas.{kind, kind_at, text_at, text_is, first_at, first_digit, integer_in, negative_in, from_out, no_nil}
+use Rattle.pascal_values.proofs.Decimals.{heads, tails, decimal_longest, number_only}
+use Rattle.pascal_values.proofs.KindLemmas.{kind, kind_at, text_at, text_is, first_at, first_digit, integer_in, negative_in}
 use Rattle.pascal_values.proofs.UniqueLemmas.{Stops, values_apart, CharCase, quote, plain, coded, char_case, members_small, small_apart, no_close}
 use Rattle.pascal_values.proofs.ListingLemmas.{joins_apart}
 
@@ -71,9 +71,9 @@ reads_closed depth v c s t r h closed first is = record {
   form = h;
   is = is;
   longest = λ w more k e.
-    let same : kind (out-Value v) ≡ kind (out-Value w) = sym (kind_is depth v c t r h (sym first ∙ is)) ∙ kind_is depth w c t more k (sym first ∙ e) in
-    let u = values_apart depth v w r more h k (stops_closed (out-Value v) r closed) (stops_closed (out-Value w) more (closed_kind (out-Value v) (out-Value w) closed same)) (sym is ∙ e) in
-    omega (arith, ap (λ x. length (text x)) u.0);
+      let same : kind (out-Value v) ≡ kind (out-Value w) = sym (kind_is depth v c t r h (sym first ∙ is)) ∙ kind_is depth w c t more k (sym first ∙ e) in
+      let u = values_apart depth v w r more h k (stops_closed (out-Value v) r closed) (stops_closed (out-Value w) more (closed_kind (out-Value v) (out-Value w) closed same)) (sym is ∙ e) in
+      omega (arith, ap (λ x. length (text x)) u.0);
 }
 
 -- ---- values by their kinds
@@ -151,15 +151,15 @@ module _ (depth greatest n : ℕ) (v : Value) (sign s t r : List ℕ) (g_in : gr
     form = h;
     is = s_is ∙ (ap (λ x. sign ++ x) is ∙ (sym (append_assoc sign (decimal n) r) ∙ ap (λ x. x ++ r) (sym v_is)));
     longest = λ w more k e.
-      let y = each w more k e in
-      let w_is : sign ++ t ≡ sign ++ (decimal y.0 ++ more) = sym s_is ∙ (e ∙ (ap (λ x. x ++ more) y.2 ∙ append_assoc sign (decimal y.0) more)) in
-      let l = decimal_longest greatest n t r g_in n_in full is y.0 more y.1 (unsigned sign t (decimal y.0 ++ more) w_is) in
-      omega (arith, ap length v_is, ap length y.2, length-append sign (decimal n), length-append sign (decimal y.0));
+        let y = each w more k e in
+        let w_is : sign ++ t ≡ sign ++ (decimal y.0 ++ more) = sym s_is ∙ (e ∙ (ap (λ x. x ++ more) y.2 ∙ append_assoc sign (decimal y.0) more)) in
+        let l = decimal_longest greatest n t r g_in n_in full is y.0 more y.1 (unsigned sign t (decimal y.0 ++ more) w_is) in
+        omega (arith, ap length v_is, ap length y.2, length-append sign (decimal n), length-append sign (decimal y.0));
   }
     where
-    unsigned : (a b d : List ℕ) → a ++ b ≡ a ++ d → b ≡ d
-    unsigned [] b d e = e
-    unsigned (x ∷ a) b d e = unsigned a b d (tails x x (a ++ b) (a ++ d) e)
+      unsigned : (a b d : List ℕ) → a ++ b ≡ a ++ d → b ≡ d
+      unsigned [] b d e = e
+      unsigned (x ∷ a) b d e = unsigned a b d (tails x x (a ++ b) (a ++ d) e)
 
 first_of : (n : ℕ) (r : List ℕ) → n < 2 ^ 64 → (c : ℕ) × (t : List ℕ) × (decimal n ++ r ≡ c ∷ t) × (kind_at c ≡ 1) × (c ≢ 45)
 first_of n r n_in = let d = first_digit n n_in in (48 + d.0, d.1 ++ r, ap (λ x. x ++ r) d.3, digit_of_kind d.0 d.2, λ e. omega (arith, e))
@@ -168,14 +168,14 @@ pub natural_reads : (depth n : ℕ) (s r : List ℕ) → n ≤ 92233720368547758
 natural_reads depth n s r n_in is full =
     let f = first_of n r (omega arith) in
     number_reads depth 9223372036854775807 n (value.Int (pos n)) [] s s r (omega arith) n_in full is refl (text_by (value.Int (pos n)) (Value-F.Int (pos n)) (value.outs-Int (pos n)))
-      (has_form depth (value.Int (pos n)) (Value-F.Int (pos n)) (value.outs-Int (pos n)) (grind (arith, nat_tests)))
-      (λ w more k e.
-        let one = kind_1 (out-Value w) (sym (kind_is depth w f.0 f.1 more k (sym f.2 ∙ (sym is ∙ e))) ∙ f.3) in
-        each w more one.0 one.1 (formed_by depth w (Value-F.Int one.0) one.1 k) (sym f.2 ∙ (sym is ∙ e)))
+    (has_form depth (value.Int (pos n)) (Value-F.Int (pos n)) (value.outs-Int (pos n)) (grind (arith, nat_tests)))
+    (λ w more k e.
+    let one = kind_1 (out-Value w) (sym (kind_is depth w f.0 f.1 more k (sym f.2 ∙ (sym is ∙ e))) ∙ f.3) in
+    each w more one.0 one.1 (formed_by depth w (Value-F.Int one.0) one.1 k) (sym f.2 ∙ (sym is ∙ e)))
   where
-  each : (w : Value) (more : List ℕ) (z : ℤ) → out-Value w ≡ Value-F.Int z → IsTrue (is_integer z) → (first_of n r (omega arith)).0 ∷ (first_of n r (omega arith)).1 ≡ text w ++ more → (y : ℕ) × (y ≤ 9223372036854775807) × (text w ≡ decimal y)
-  each w more (pos y) o i e = (y, omega (arith, integer_in y i), text_by w (Value-F.Int (pos y)) o)
-  each w more (negsuc y) o i e = absurd ((first_of n r (omega arith)).4 (heads _ 45 _ (decimal (suc y) ++ more) (e ∙ ap (λ x. x ++ more) (text_by w (Value-F.Int (negsuc y)) o))))
+    each : (w : Value) (more : List ℕ) (z : ℤ) → out-Value w ≡ Value-F.Int z → IsTrue (is_integer z) → (first_of n r (omega arith)).0 ∷ (first_of n r (omega arith)).1 ≡ text w ++ more → (y : ℕ) × (y ≤ 9223372036854775807) × (text w ≡ decimal y)
+    each w more (pos y) o i e = (y, omega (arith, integer_in y i), text_by w (Value-F.Int (pos y)) o)
+    each w more (negsuc y) o i e = absurd ((first_of n r (omega arith)).4 (heads _ 45 _ (decimal (suc y) ++ more) (e ∙ ap (λ x. x ++ more) (text_by w (Value-F.Int (negsuc y)) o))))
 
 pub digit_here : (d : ℕ) (u t : List ℕ) → d < 10 → t ≡ (48 + d) ∷ u → NoDigit t → ⊥
 digit_here d u t lt e none = elim (subst NoDigit e none) [ inl low ↦ omega arith | inr high ↦ omega arith ]
@@ -191,12 +191,12 @@ minus_only depth w t more k e =
     let one = kind_1 (out-Value w) (sym (kind_is depth w 45 t more k e)) in
     each one.0 one.1 (formed_by depth w (Value-F.Int one.0) one.1 k)
   where
-  each : (z : ℤ) → out-Value w ≡ Value-F.Int z → IsTrue (is_integer z) → Minus w
-  each (pos y) o i =
-      let y_in : y < 2 ^ 64 = omega (arith, integer_in y i) in
-      let f = first_of y more y_in in
-      absurd (f.4 (sym (heads 45 f.0 t f.1 (e ∙ (ap (λ x. x ++ more) (text_by w (Value-F.Int (pos y)) o) ∙ f.2)))))
-  each (negsuc y) o i = record { size = y; fits = omega (arith, negative_in y i); is = text_by w (Value-F.Int (negsuc y)) o }
+    each : (z : ℤ) → out-Value w ≡ Value-F.Int z → IsTrue (is_integer z) → Minus w
+    each (pos y) o i =
+        let y_in : y < 2 ^ 64 = omega (arith, integer_in y i) in
+        let f = first_of y more y_in in
+        absurd (f.4 (sym (heads 45 f.0 t f.1 (e ∙ (ap (λ x. x ++ more) (text_by w (Value-F.Int (pos y)) o) ∙ f.2)))))
+    each (negsuc y) o i = record { size = y; fits = omega (arith, negative_in y i); is = text_by w (Value-F.Int (negsuc y)) o }
 
 minus_rest : (w : Value) (m : Minus w) (t more : List ℕ) → 45 ∷ t ≡ text w ++ more → t ≡ decimal (suc m.size) ++ more
 minus_rest w m t more e = tails 45 45 t (decimal (suc m.size) ++ more) (e ∙ ap (λ x. x ++ more) m.is)
@@ -206,9 +206,9 @@ negative_reads depth n s t r nz n_in first is full =
     let same : suc (n - 1) ≡ n = omega arith in
     let v = value.Int (negsuc (n - 1)) in
     number_reads depth 9223372036854775807 n v (45 ∷ []) s t r (omega arith) n_in full is first
-      (text_by v (Value-F.Int (negsuc (n - 1))) (value.outs-Int (negsuc (n - 1))) ∙ ap (λ k. 45 ∷ decimal k) same)
-      (has_form depth v (Value-F.Int (negsuc (n - 1))) (value.outs-Int (negsuc (n - 1))) (grind (arith, nat_tests)))
-      (λ w more k e. let m = minus_only depth w t more k (sym first ∙ e) in (suc m.size, m.fits, m.is))
+    (text_by v (Value-F.Int (negsuc (n - 1))) (value.outs-Int (negsuc (n - 1))) ∙ ap (λ k. 45 ∷ decimal k) same)
+    (has_form depth v (Value-F.Int (negsuc (n - 1))) (value.outs-Int (negsuc (n - 1))) (grind (arith, nat_tests)))
+    (λ w more k e. let m = minus_only depth w t more k (sym first ∙ e) in (suc m.size, m.fits, m.is))
 
 pub negative_none : (depth : ℕ) (s t : List ℕ) → s ≡ 45 ∷ t → NoDigit t → HasNone depth s
 negative_none depth s t first none w more k e =
@@ -236,9 +236,9 @@ hash_only depth w t more k e =
 pub enum_reads : (depth n : ℕ) (s t r : List ℕ) → n ≤ 4294967295 → s ≡ 35 ∷ t → t ≡ decimal n ++ r → IsFull 4294967295 n r → Reads depth s (value.Enum n) r
 enum_reads depth n s t r n_in first is full =
     number_reads depth 4294967295 n (value.Enum n) (35 ∷ []) s t r (omega arith) n_in full is first
-      (text_by (value.Enum n) (Value-F.Enum n) (value.outs-Enum n))
-      (has_form depth (value.Enum n) (Value-F.Enum n) (value.outs-Enum n) (omega arith))
-      (λ w more k e. hash_only depth w t more k (sym first ∙ e))
+    (text_by (value.Enum n) (Value-F.Enum n) (value.outs-Enum n))
+    (has_form depth (value.Enum n) (Value-F.Enum n) (value.outs-Enum n) (omega arith))
+    (λ w more k e. hash_only depth w t more k (sym first ∙ e))
 
 pub enum_none : (depth : ℕ) (s t : List ℕ) → s ≡ 35 ∷ t → NoDigit t → HasNone depth s
 enum_none depth s t first none w more k e =
@@ -256,16 +256,16 @@ bool_only depth w c t more k at_ e =
 pub true_none : (depth : ℕ) (s t : List ℕ) → s ≡ 116 ∷ t → ((rest : List ℕ) → ¬ (s ≡ 116 ∷ 114 ∷ 117 ∷ 101 ∷ rest)) → HasNone depth s
 true_none depth s t first none w more k e = let b = bool_only depth w 116 t more k refl (sym first ∙ e) in by_bool b.0 b.1
   where
-  by_bool : (b : Bool) → text w ≡ (if b then (116 ∷ 114 ∷ 117 ∷ 101 ∷ []) else (102 ∷ 97 ∷ 108 ∷ 115 ∷ 101 ∷ [])) → ⊥
-  by_bool true is = none more (e ∙ ap (λ x. x ++ more) is)
-  by_bool false is = omega (arith, heads 116 102 t (97 ∷ 108 ∷ 115 ∷ 101 ∷ more) (sym first ∙ (e ∙ ap (λ x. x ++ more) is)))
+    by_bool : (b : Bool) → text w ≡ (if b then (116 ∷ 114 ∷ 117 ∷ 101 ∷ []) else (102 ∷ 97 ∷ 108 ∷ 115 ∷ 101 ∷ [])) → ⊥
+    by_bool true is = none more (e ∙ ap (λ x. x ++ more) is)
+    by_bool false is = omega (arith, heads 116 102 t (97 ∷ 108 ∷ 115 ∷ 101 ∷ more) (sym first ∙ (e ∙ ap (λ x. x ++ more) is)))
 
 pub false_none : (depth : ℕ) (s t : List ℕ) → s ≡ 102 ∷ t → ((rest : List ℕ) → ¬ (s ≡ 102 ∷ 97 ∷ 108 ∷ 115 ∷ 101 ∷ rest)) → HasNone depth s
 false_none depth s t first none w more k e = let b = bool_only depth w 102 t more k refl (sym first ∙ e) in by_bool b.0 b.1
   where
-  by_bool : (b : Bool) → text w ≡ (if b then (116 ∷ 114 ∷ 117 ∷ 101 ∷ []) else (102 ∷ 97 ∷ 108 ∷ 115 ∷ 101 ∷ [])) → ⊥
-  by_bool false is = none more (e ∙ ap (λ x. x ++ more) is)
-  by_bool true is = omega (arith, heads 102 116 t (114 ∷ 117 ∷ 101 ∷ more) (sym first ∙ (e ∙ ap (λ x. x ++ more) is)))
+    by_bool : (b : Bool) → text w ≡ (if b then (116 ∷ 114 ∷ 117 ∷ 101 ∷ []) else (102 ∷ 97 ∷ 108 ∷ 115 ∷ 101 ∷ [])) → ⊥
+    by_bool false is = none more (e ∙ ap (λ x. x ++ more) is)
+    by_bool true is = omega (arith, heads 102 116 t (114 ∷ 117 ∷ 101 ∷ more) (sym first ∙ (e ∙ ap (λ x. x ++ more) is)))
 
 pub true_reads : (depth : ℕ) (s r : List ℕ) → s ≡ 116 ∷ 114 ∷ 117 ∷ 101 ∷ r → Reads depth s (value.Bool true) r
 true_reads depth s r e = reads_closed depth (value.Bool true) 116 s (114 ∷ 117 ∷ 101 ∷ r) r (has_form depth (value.Bool true) (Value-F.Bool true) (value.outs-Bool true) tt) (subst IsClosed (sym (value.outs-Bool true)) tt) e (e ∙ ap (λ x. x ++ r) (sym (text_by (value.Bool true) (Value-F.Bool true) (value.outs-Bool true))))
@@ -289,19 +289,19 @@ pub quoted_none : (depth : ℕ) (s t : List ℕ) → s ≡ 39 ∷ t → ((rest :
 quoted_none depth s t first no_quote no_plain w more k e =
     let c = char_only depth w 39 t more k refl (sym first ∙ e) in by_case c.0 c.2 (char_case c.0)
   where
-  by_case : (c : ℕ) → text w ≡ char_text c → CharCase c → ⊥
-  by_case c is (quote p a) = no_quote more (e ∙ ap (λ x. x ++ more) (is ∙ a))
-  by_case c is (plain n x a) = no_plain c more (n, x) (e ∙ ap (λ y. y ++ more) (is ∙ a))
-  by_case c is (coded u a) = omega (arith, heads 39 99 t _ (sym first ∙ (e ∙ ap (λ y. y ++ more) (is ∙ a))))
+    by_case : (c : ℕ) → text w ≡ char_text c → CharCase c → ⊥
+    by_case c is (quote p a) = no_quote more (e ∙ ap (λ x. x ++ more) (is ∙ a))
+    by_case c is (plain n x a) = no_plain c more (n, x) (e ∙ ap (λ y. y ++ more) (is ∙ a))
+    by_case c is (coded u a) = omega (arith, heads 39 99 t _ (sym first ∙ (e ∙ ap (λ y. y ++ more) (is ∙ a))))
 
 pub coded_none : (depth : ℕ) (s t : List ℕ) → s ≡ 99 ∷ t → ((c : ℕ) (rest : List ℕ) → c < 256 → is_printable c ≡ false → ¬ (s ≡ 99 ∷ 104 ∷ 114 ∷ 40 ∷ (decimal c ++ 41 ∷ rest))) → HasNone depth s
 coded_none depth s t first no_coded w more k e =
     let c = char_only depth w 99 t more k refl (sym first ∙ e) in by_case c.0 c.1 c.2 (char_case c.0)
   where
-  by_case : (c : ℕ) → c < 256 → text w ≡ char_text c → CharCase c → ⊥
-  by_case c lt is (quote p a) = omega (arith, heads 99 39 t _ (sym first ∙ (e ∙ ap (λ y. y ++ more) (is ∙ a))))
-  by_case c lt is (plain n x a) = omega (arith, heads 99 39 t _ (sym first ∙ (e ∙ ap (λ y. y ++ more) (is ∙ a))))
-  by_case c lt is (coded u a) = no_coded c more lt u (e ∙ (ap (λ y. y ++ more) (is ∙ a) ∙ ap (λ y. 99 ∷ 104 ∷ 114 ∷ 40 ∷ y) (append_assoc (decimal c) (41 ∷ []) more)))
+    by_case : (c : ℕ) → c < 256 → text w ≡ char_text c → CharCase c → ⊥
+    by_case c lt is (quote p a) = omega (arith, heads 99 39 t _ (sym first ∙ (e ∙ ap (λ y. y ++ more) (is ∙ a))))
+    by_case c lt is (plain n x a) = omega (arith, heads 99 39 t _ (sym first ∙ (e ∙ ap (λ y. y ++ more) (is ∙ a))))
+    by_case c lt is (coded u a) = no_coded c more lt u (e ∙ (ap (λ y. y ++ more) (is ∙ a) ∙ ap (λ y. 99 ∷ 104 ∷ 114 ∷ 40 ∷ y) (append_assoc (decimal c) (41 ∷ []) more)))
 
 pub quote_reads : (depth : ℕ) (s r : List ℕ) → s ≡ 39 ∷ 39 ∷ 39 ∷ 39 ∷ r → Reads depth s (value.Char 39) r
 quote_reads depth s r e = char_reads depth 39 39 s (39 ∷ 39 ∷ 39 ∷ r) r (omega arith) e e
@@ -309,10 +309,10 @@ quote_reads depth s r e = char_reads depth 39 39 s (39 ∷ 39 ∷ 39 ∷ r) r (o
 plain_text : (c : ℕ) → IsPlain c → char_text c ≡ 39 ∷ c ∷ 39 ∷ []
 plain_text c p = by_case (char_case c)
   where
-  by_case : CharCase c → char_text c ≡ 39 ∷ c ∷ 39 ∷ []
-  by_case (quote q a) = absurd (p.0 q)
-  by_case (plain n x a) = a
-  by_case (coded u a) = absurd (false≢true (sym u ∙ p.1))
+    by_case : CharCase c → char_text c ≡ 39 ∷ c ∷ 39 ∷ []
+    by_case (quote q a) = absurd (p.0 q)
+    by_case (plain n x a) = a
+    by_case (coded u a) = absurd (false≢true (sym u ∙ p.1))
 
 printable_small : (c : ℕ) → is_printable c ≡ true → c < 256
 printable_small c e = grind (arith, nat_tests)
@@ -323,16 +323,16 @@ plain_reads depth c s r p e = char_reads depth c 39 s (c ∷ 39 ∷ r) r (printa
 coded_text : (c : ℕ) → is_printable c ≡ false → char_text c ≡ 99 ∷ 104 ∷ 114 ∷ 40 ∷ (decimal c ++ 41 ∷ [])
 coded_text c p = by_case (char_case c)
   where
-  by_case : CharCase c → char_text c ≡ 99 ∷ 104 ∷ 114 ∷ 40 ∷ (decimal c ++ 41 ∷ [])
-  by_case (quote q a) = absurd (false≢true (sym p ∙ ap is_printable q))
-  by_case (plain n x a) = absurd (false≢true (sym p ∙ x))
-  by_case (coded u a) = a
+    by_case : CharCase c → char_text c ≡ 99 ∷ 104 ∷ 114 ∷ 40 ∷ (decimal c ++ 41 ∷ [])
+    by_case (quote q a) = absurd (false≢true (sym p ∙ ap is_printable q))
+    by_case (plain n x a) = absurd (false≢true (sym p ∙ x))
+    by_case (coded u a) = a
 
 -- `chr(` n `)`
 pub coded_reads : (depth n : ℕ) (s t r q : List ℕ) → s ≡ 99 ∷ 104 ∷ 114 ∷ 40 ∷ t → t ≡ decimal n ++ r → n ≤ 255 → r ≡ 41 ∷ q → is_printable n ≡ false → Reads depth s (value.Char n) q
 coded_reads depth n s t r q word is small close p =
     char_reads depth n 99 s (104 ∷ 114 ∷ 40 ∷ t) q (omega arith) word
-      (word ∙ (ap (λ x. 99 ∷ 104 ∷ 114 ∷ 40 ∷ x) (is ∙ (ap (λ x. decimal n ++ x) close ∙ sym (append_assoc (decimal n) (41 ∷ []) q))) ∙ ap (λ x. x ++ q) (sym (coded_text n p))))
+    (word ∙ (ap (λ x. 99 ∷ 104 ∷ 114 ∷ 40 ∷ x) (is ∙ (ap (λ x. decimal n ++ x) close ∙ sym (append_assoc (decimal n) (41 ∷ []) q))) ∙ ap (λ x. x ++ q) (sym (coded_text n p))))
 
 four_off : (s t u : List ℕ) → s ≡ 99 ∷ 104 ∷ 114 ∷ 40 ∷ t → s ≡ 99 ∷ 104 ∷ 114 ∷ 40 ∷ u → t ≡ u
 four_off s t u a b = let e : 99 ∷ 104 ∷ 114 ∷ 40 ∷ t ≡ 99 ∷ 104 ∷ 114 ∷ 40 ∷ u = sym a ∙ b in cc
@@ -370,19 +370,19 @@ set_reads depth ns s t r set first is = reads_closed depth (value.Set ns) 91 s t
 pub set_none : (depth : ℕ) (s t : List ℕ) → s ≡ 91 ∷ t → ((rest : List ℕ) → ¬ (t ≡ 93 ∷ rest)) → NoItems decimal IsOrdinal 93 t → HasNone depth s
 set_none depth s t first empty none w more k e = let m = set_only depth w t more k (sym first ∙ e) in by_members m.0 m.1 m.2
   where
-  by_members : (ms : List ℕ) → IsSet ms → t ≡ join_with_byte 44 (map decimal ms) ++ 93 ∷ more → ⊥
-  by_members [] set is = empty more is
-  by_members (m ∷ ms) set is = none (m ∷ ms) more (members_small 0 (m ∷ ms) set) (omega arith) is
+    by_members : (ms : List ℕ) → IsSet ms → t ≡ join_with_byte 44 (map decimal ms) ++ 93 ∷ more → ⊥
+    by_members [] set is = empty more is
+    by_members (m ∷ ms) set is = none (m ∷ ms) more (members_small 0 (m ∷ ms) set) (omega arith) is
 
 pub set_falls : (depth : ℕ) (ns : List ℕ) (s t r : List ℕ) → s ≡ 91 ∷ t → AllByRecursion IsOrdinal ns → 0 < length ns → t ≡ join_with_byte 44 (map decimal ns) ++ 93 ∷ r → ¬ IsSet ns → HasNone depth s
 set_falls depth [] s t r first small some is falls w more k e = omega arith
 set_falls depth (n ∷ ns) s t r first small some is falls w more k e = let m = set_only depth w t more k (sym first ∙ e) in by_members m.0 m.1 m.2
   where
-  by_members : (ms : List ℕ) → IsSet ms → t ≡ join_with_byte 44 (map decimal ms) ++ 93 ∷ more → ⊥
-  by_members [] set e' = no_close n ns more r small.0 (sym e' ∙ is)
-  by_members (m ∷ ms) set e' =
-      let a = joins_apart decimal IsOrdinal 93 (inl (omega arith)) small_apart n ns m ms r more small (members_small 0 (m ∷ ms) set) (sym is ∙ e') in
-      falls (subst IsSet (sym a.0) set)
+    by_members : (ms : List ℕ) → IsSet ms → t ≡ join_with_byte 44 (map decimal ms) ++ 93 ∷ more → ⊥
+    by_members [] set e' = no_close n ns more r small.0 (sym e' ∙ is)
+    by_members (m ∷ ms) set e' =
+        let a = joins_apart decimal IsOrdinal 93 (inl (omega arith)) small_apart n ns m ms r more small (members_small 0 (m ∷ ms) set) (sym is ∙ e') in
+        falls (subst IsSet (sym a.0) set)
 
 pub set_read : (depth : ℕ) (ns ms : List ℕ) (s t r : List ℕ) → IsSet ns → ms ≡ ns → s ≡ 91 ∷ t → t ≡ join_with_byte 44 (map decimal ns) ++ 93 ∷ r → Reads depth s (value.Set ms) r
 set_read depth ns ms s t r set same first is = subst (λ l. Reads depth s (value.Set l) r) (sym same) (set_reads depth ns s t r set first is)

@@ -1,6 +1,6 @@
 -- Rising lists, and the sets that they are.
 use Rattle.std.proofs.Common.{◌≡◌, ℕ, zero, suc, ◌+◌, ◌-◌, ◌<◌, ◌≤◌, Bool, true, false, cond, not, ◌&&◌, ◌||◌, List, [], ◌∷◌, ◌++◌, filter, take, drop, length, sym, ap, ◌∙◌, refl, arith, nat_le, nat_lt, ◌==◌, nat_eq, get_or, inl, inr, ◌⊎◌, subst, append_assoc, drop-cons, add-one, append-nil, length-drop, add-zero, min, max, Result, Ok, Err}
-use Rattle.std.specs.List.{list_any, list_all, range_with_len}
+use Rattle.std.specs.List.{range_with_len}
 use Rattle.std.specs.List.Sorted.{IsBinarySearchResult}
 use Rattle.std.specs.Ordering.{nat_cmp}
 use Rattle.std.specs.Result.{is_ok}
@@ -65,16 +65,16 @@ is_member-below m low (n ∷ ns) high r lt =
 cons_from : (p q : ℕ → Bool) (x low n : ℕ) → low ≤ x → x < low + n → p x ≡ true → ((m : ℕ) → m < x → p m ≡ false) → ((m : ℕ) → x < m → p m ≡ q m) → ((m : ℕ) → m ≤ x → q m ≡ false) → filter p (range_with_len low n) ≡ x ∷ filter q (range_with_len low n)
 cons_from p q x low zero le lt at before after none = absurd (omega arith)
 cons_from p q x low (suc n) le lt at before after none = elim (nat_eq low x) as (λ b. nat_eq low x ≡ b → filter p (range_with_len low (suc n)) ≡ x ∷ filter q (range_with_len low (suc n))) [
-  true ↦ λ e. let is : low ≡ x = grind (arith, nat_tests) in
-    let here : p low ≡ true = ap p is ∙ at in
-    let gone : q low ≡ false = none low (omega arith) in
-    let rest = filter-range-agree p q (low + 1) n (λ m more. after m (omega arith)) in
-    rw (here, gone, rest, is)
+  | true ↦ λ e. let is : low ≡ x = grind (arith, nat_tests) in
+      let here : p low ≡ true = ap p is ∙ at in
+      let gone : q low ≡ false = none low (omega arith) in
+      let rest = filter-range-agree p q (low + 1) n (λ m more. after m (omega arith)) in
+      rw (here, gone, rest, is)
   | false ↦ λ e. let less : low < x = grind (arith, nat_tests) in
-    let here : p low ≡ false = before low less in
-    let gone : q low ≡ false = none low (omega arith) in
-    rw (here, gone) (cons_from p q x (low + 1) n (omega arith) (omega arith) at before after none)
-  ] refl
+      let here : p low ≡ false = before low less in
+      let gone : q low ≡ false = none low (omega arith) in
+      rw (here, gone) (cons_from p q x (low + 1) n (omega arith) (omega arith) at before after none)
+] refl
 
 set_of-cons : (p q : ℕ → Bool) (x : ℕ) → x < 256 → p x ≡ true → ((m : ℕ) → m < x → p m ≡ false) → ((m : ℕ) → x < m → p m ≡ q m) → ((m : ℕ) → m ≤ x → q m ≡ false) → set_of p ≡ x ∷ set_of q
 unfolding set_of
@@ -108,8 +108,8 @@ found ns n (Ok i) set s =
 found ns n (Err i) set s =
     let at = searched ns n (Err i) s (λ i j. IsRising-sorted 0 ns 256 i j set) in
     sym (absent n ns (λ k lt. elim (nat_le i k) as (λ b. nat_le i k ≡ b → (get_or ns k 0 == n) ≡ false) [
-      true ↦ λ e. let le : i ≤ k = grind (arith, nat_tests) in let above = at.2 k le lt in grind (arith, nat_tests)
-    | false ↦ λ e. let less : k < i = grind (arith, nat_tests) in let below = at.1 k less in grind (arith, nat_tests)
+      | true ↦ λ e. let le : i ≤ k = grind (arith, nat_tests) in let above = at.2 k le lt in grind (arith, nat_tests)
+      | false ↦ λ e. let less : k < i = grind (arith, nat_tests) in let below = at.1 k less in grind (arith, nat_tests)
     ] refl))
 
 -- ---- choosing
@@ -152,8 +152,8 @@ choice q low (n ∷ ns) r =
     let before : (m : ℕ) → m < n → (is_member m (n ∷ ns) && q m) ≡ false = λ m lt. rw (not_equal_above n m lt, is_member-below m (n + 1) ns 256 r.1 (omega arith)) in
     let gone : (m : ℕ) → m ≤ n → (is_member m ns && q m) ≡ false = λ m le. rw (is_member-below m (n + 1) ns 256 r.1 (omega arith)) in
     elim (q n) as (λ b. q n ≡ b → set_of (λ m. is_member m (n ∷ ns) && q m) ≡ cond b (n ∷ filter q ns) (filter q ns)) [
-      true ↦ λ e. set_of-cons (λ m. is_member m (n ∷ ns) && q m) (λ m. is_member m ns && q m) n top (rw (itself n, e)) before agree gone ∙ ap (λ l. n ∷ l) rest
-    | false ↦ λ e. set_of-agree (λ m. is_member m (n ∷ ns) && q m) (λ m. is_member m ns && q m) (λ m. by_order n m (λ lt. agree m lt) (λ is. let fails : q m ≡ false = ap q (sym is) ∙ e in rw fails (and-false (is_member m (n ∷ ns)) ∙ sym (and-false (is_member m ns)))) (λ lt. before m lt ∙ sym (gone m (omega arith)))) ∙ rest
+      | true ↦ λ e. set_of-cons (λ m. is_member m (n ∷ ns) && q m) (λ m. is_member m ns && q m) n top (rw (itself n, e)) before agree gone ∙ ap (λ l. n ∷ l) rest
+      | false ↦ λ e. set_of-agree (λ m. is_member m (n ∷ ns) && q m) (λ m. is_member m ns && q m) (λ m. by_order n m (λ lt. agree m lt) (λ is. let fails : q m ≡ false = ap q (sym is) ∙ e in rw fails (and-false (is_member m (n ∷ ns)) ∙ sym (and-false (is_member m ns)))) (λ lt. before m lt ∙ sym (gone m (omega arith)))) ∙ rest
     ] refl
 
 and-true : (b : Bool) → (b && true) ≡ b
@@ -179,10 +179,10 @@ union-less x xs y ys r s lt =
     let top : x < 256 = omega (arith, IsRising-le (x + 1) xs 256 r.1) in
     let t : IsRising y (y ∷ ys) 256 = (omega arith, s.1) in
     set_of-cons (λ m. is_member m (x ∷ xs) || is_member m (y ∷ ys)) (λ m. is_member m xs || is_member m (y ∷ ys)) x top
-      (rw (itself x))
-      (λ m less. rw (not_equal_above x m less, is_member-below m (x + 1) xs 256 r.1 (omega arith)) (is_member-below m y (y ∷ ys) 256 t (omega arith)))
-      (λ m more. rw (not_equal x m more))
-      (λ m le. rw (is_member-below m (x + 1) xs 256 r.1 (omega arith)) (is_member-below m y (y ∷ ys) 256 t (omega arith)))
+    (rw (itself x))
+    (λ m less. rw (not_equal_above x m less, is_member-below m (x + 1) xs 256 r.1 (omega arith)) (is_member-below m y (y ∷ ys) 256 t (omega arith)))
+    (λ m more. rw (not_equal x m more))
+    (λ m le. rw (is_member-below m (x + 1) xs 256 r.1 (omega arith)) (is_member-below m y (y ∷ ys) 256 t (omega arith)))
 
 union-swap : (a b : List ℕ) → union a b ≡ union b a
 unfolding union
@@ -196,10 +196,10 @@ unfolding union
 union-same x xs ys r s =
     let top : x < 256 = omega (arith, IsRising-le (x + 1) xs 256 r.1) in
     set_of-cons (λ m. is_member m (x ∷ xs) || is_member m (x ∷ ys)) (λ m. is_member m xs || is_member m ys) x top
-      (rw (itself x))
-      (λ m less. rw (not_equal_above x m less, is_member-below m (x + 1) xs 256 r.1 (omega arith)) (is_member-below m (x + 1) ys 256 s.1 (omega arith)))
-      (λ m more. rw (not_equal x m more))
-      (λ m le. rw (is_member-below m (x + 1) xs 256 r.1 (omega arith)) (is_member-below m (x + 1) ys 256 s.1 (omega arith)))
+    (rw (itself x))
+    (λ m less. rw (not_equal_above x m less, is_member-below m (x + 1) xs 256 r.1 (omega arith)) (is_member-below m (x + 1) ys 256 s.1 (omega arith)))
+    (λ m more. rw (not_equal x m more))
+    (λ m le. rw (is_member-below m (x + 1) xs 256 r.1 (omega arith)) (is_member-below m (x + 1) ys 256 s.1 (omega arith)))
 
 -- a set is what it chooses
 pub set_of-itself : (ns : List ℕ) → IsSet ns → set_of (λ m. is_member m ns) ≡ ns
@@ -248,16 +248,16 @@ module _ (a b out u : List ℕ) (i j m n : ℕ) (a_set : IsSet a) (b_set : IsSet
 
   pub merge_both : (k i' : ℕ) (new : List ℕ) → k ≡ min m n → n ≤ m → new ≡ out ++ k ∷ [] → ((m ≤ n) × (i' ≡ i + 1)) ⊎ ((n < m) × (i' ≡ i)) → new ++ union (drop i' a) (drop (j + 1) b) ≡ u
   merge_both k i' new k_is le e (inl (le', i_is)) =
-    let is : k ≡ m = omega arith in
-    rw (e, is, i_is) (merge_same (omega arith))
+      let is : k ≡ m = omega arith in
+      rw (e, is, i_is) (merge_same (omega arith))
   merge_both k i' new k_is le e (inr (lt, i_is)) =
-    let is : k ≡ n = omega arith in
-    rw (e, is, i_is) (merge_more lt)
+      let is : k ≡ n = omega arith in
+      rw (e, is, i_is) (merge_more lt)
 
   pub merge_one : (k i' : ℕ) (new : List ℕ) → k ≡ min m n → m < n → new ≡ out ++ k ∷ [] → i' ≡ i + 1 → new ++ union (drop i' a) (drop j b) ≡ u
   merge_one k i' new k_is lt e i_is =
-    let is : k ≡ m = omega arith in
-    rw (e, is, i_is) (merge_less lt)
+      let is : k ≡ m = omega arith in
+      rw (e, is, i_is) (merge_less lt)
 
 take_rest : (i : ℕ) (ns : List ℕ) → take (length ns - i) (drop i ns) ≡ drop i ns
 take_rest i ns = take_all (length ns - i) (drop i ns) (omega (arith, length-drop i ns))
@@ -279,9 +279,9 @@ range_member m low (suc n) = rw (range_member m (low + 1) n) (grind (arith, nat_
 
 pub IsSet-range : (low high : ℕ) → high < 256 → IsSet (range_with_len low (high + 1 - low))
 IsSet-range low high lt = elim (cases_lt high low) [
-  inl above ↦ let none : high + 1 - low ≡ 0 = omega arith in rw none (omega arith)
+  | inl above ↦ let none : high + 1 - low ≡ 0 = omega arith in rw none (omega arith)
   | inr le ↦ IsRising-lower 0 low (range_with_len low (high + 1 - low)) 256 (omega arith) (IsRising-range low (high + 1 - low) 256 (omega arith))
-  ]
+]
 
 pub interval-is : (low high : ℕ) → high < 256 → interval low high ≡ range_with_len low (high + 1 - low)
 unfolding interval

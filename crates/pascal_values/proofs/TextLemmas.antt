@@ -1,5 +1,5 @@
 -- The text of a value, one layer at a time, and lists of texts.
-use Rattle.std.proofs.Common.{◌≡◌, ℕ, zero, suc, ◌+◌, ◌-◌, ◌%◌, ◌/◌, ◌^◌, sub-one, Result, Ok, Err, ◌<◌, ◌≤◌, Bool, List, [], ◌∷◌, ◌++◌, map, length, take, drop, get_or, add-one, ap, subst, ◌∙◌, sym, refl, arith, append_assoc, append-nil}
+use Rattle.std.proofs.Common.{◌≡◌, ℕ, ◌+◌, ◌%◌, ◌/◌, ◌^◌, Result, Ok, Err, ◌<◌, ◌≤◌, List, [], ◌∷◌, ◌++◌, map, length, take, get_or, ap, ◌∙◌, sym, refl, arith, append_assoc}
 use Rattle.std.specs.List.{join_with_byte}
 use Rattle.std.specs.Fmt.{decimal}
 use Rattle.std.proofs.lemmas.Fmt.{decimal_digit, decimal_step}
@@ -44,11 +44,11 @@ module _ {X : Type 0} (f : X → List ℕ) (xs : List X) where
   -- one more text of a list
   pub joined_more : (i : ℕ) (x : X) (start at_ mid new : List ℕ) → i < length xs → x ≡ get_or xs i x → at_ ≡ start ++ join_with_byte 44 (map f (take i xs)) → mid ≡ at_ ++ comma_before i → new ≡ mid ++ f x → new ≡ start ++ join_with_byte 44 (map f (take (i + 1) xs))
   joined_more i x start at_ mid new lt x_is before comma last =
-    let t : take (i + 1) xs ≡ take i xs ++ x ∷ [] = take_more xs i x lt ∙ ap (λ y. take i xs ++ y ∷ []) (sym x_is) in
-    let m : map f (take (i + 1) xs) ≡ map f (take i xs) ++ f x ∷ [] = ap (map f) t ∙ map-append f (take i xs) (x ∷ []) in
-    let n : length (map f (take i xs)) ≡ i = length-map (take i xs) f ∙ omega (arith, length-take i xs) in
-    let j : join_with_byte 44 (map f (take (i + 1) xs)) ≡ (join_with_byte 44 (map f (take i xs)) ++ comma_before i) ++ f x = ap (join_with_byte 44) m ∙ (join-push (map f (take i xs)) (f x) ∙ ap (λ k. (join_with_byte 44 (map f (take i xs)) ++ comma_before k) ++ f x) n) in
-    rw (last, comma, before, j) (ap (λ l. l ++ f x) (append_assoc start (join_with_byte 44 (map f (take i xs))) (comma_before i)) ∙ append_assoc start (join_with_byte 44 (map f (take i xs)) ++ comma_before i) (f x))
+      let t : take (i + 1) xs ≡ take i xs ++ x ∷ [] = take_more xs i x lt ∙ ap (λ y. take i xs ++ y ∷ []) (sym x_is) in
+      let m : map f (take (i + 1) xs) ≡ map f (take i xs) ++ f x ∷ [] = ap (map f) t ∙ map-append f (take i xs) (x ∷ []) in
+      let n : length (map f (take i xs)) ≡ i = length-map (take i xs) f ∙ omega (arith, length-take i xs) in
+      let j : join_with_byte 44 (map f (take (i + 1) xs)) ≡ (join_with_byte 44 (map f (take i xs)) ++ comma_before i) ++ f x = ap (join_with_byte 44) m ∙ (join-push (map f (take i xs)) (f x) ∙ ap (λ k. (join_with_byte 44 (map f (take i xs)) ++ comma_before k) ++ f x) n) in
+      rw (last, comma, before, j) (ap (λ l. l ++ f x) (append_assoc start (join_with_byte 44 (map f (take i xs))) (comma_before i)) ∙ append_assoc start (join_with_byte 44 (map f (take i xs)) ++ comma_before i) (f x))
 
   pub joined_all : (i : ℕ) (start at_ : List ℕ) → length xs ≤ i → at_ ≡ start ++ join_with_byte 44 (map f (take i xs)) → at_ ≡ start ++ join_with_byte 44 (map f xs)
   joined_all i start at_ all before = before ∙ ap (λ l. start ++ join_with_byte 44 (map f l)) (take_all i xs all)

@@ -1,5 +1,5 @@
 -- No text has two readings.
-use Rattle.std.proofs.Common.{◌≡◌, ℕ, zero, suc, ◌+◌, ◌-◌, ◌<◌, ◌≤◌, ◌^◌, ◌==◌, nat_le, Bool, true, false, ◌&&◌, if◌then◌else◌, List, [], ◌∷◌, ◌++◌, map, length, inl, inr, ◌⊎◌, ap, subst, ◌∙◌, sym, refl, arith, append_assoc, ℤ, pos, negsuc}
+use Rattle.std.proofs.Common.{◌≡◌, ℕ, zero, suc, ◌+◌, ◌<◌, ◌==◌, Bool, true, false, List, [], ◌∷◌, ◌++◌, map, length, inl, inr, ◌⊎◌, ap, ◌∙◌, sym, refl, arith, append_assoc, ℤ, pos, negsuc}
 use Rattle.std.specs.Prelude.{IsTrue}
 use Rattle.pascal_values.specs.Integers.{is_integer}
 use Rattle.std.specs.List.{AllByRecursion, join_with_byte}
@@ -10,7 +10,7 @@ use Rattle.pascal_values.specs.Sets.{IsRising, IsSet}
 use Rattle.pascal_values.specs.Texts.{text, NoDigit, char_text, is_printable, IsFormed, HasForm}
 use Rattle.pascal_values.specs.Steps.{listed}
 use Rattle.pascal_values.proofs.Decimals.{heads, tails, decimals_apart}
-use Rattle.pascal_values.proofs.KindLemmas.{kind, kind_at, text_at, text_is, first_at, first_digit, integer_in, negative_in, from_out, no_nil}
+use Rattle.pascal_values.proofs.KindLemmas.{kind, text_at, text_is, first_at, first_digit, integer_in, negative_in, from_out, no_nil}
 use Rattle.pascal_values.proofs.ListingLemmas.{joins_apart, join-listed}
 use Rattle.pascal_values.proofs.SetLemmas.{IsRising-le}
 
@@ -40,28 +40,28 @@ pub data CharCase (c : ℕ) : Type 0 where
 pub char_case : (c : ℕ) → CharCase c
 char_case c = by_tests (c == 39) (is_printable c) refl refl
   where
-  by_tests : (q p : Bool) → (c == 39) ≡ q → (is_printable c) ≡ p → CharCase c
-  by_tests true p e f = quote (grind (arith, nat_tests)) (rw e refl)
-  by_tests false true e f = plain (grind (arith, nat_tests)) f (rw (e, f) refl)
-  by_tests false false e f = coded f (rw (e, f) refl)
+    by_tests : (q p : Bool) → (c == 39) ≡ q → (is_printable c) ≡ p → CharCase c
+    by_tests true p e f = quote (grind (arith, nat_tests)) (rw e refl)
+    by_tests false true e f = plain (grind (arith, nat_tests)) f (rw (e, f) refl)
+    by_tests false false e f = coded f (rw (e, f) refl)
 
 chars_apart : (c d : ℕ) (r s : List ℕ) → c < 256 → d < 256 → char_text c ++ r ≡ char_text d ++ s → (c ≡ d) × (r ≡ s)
 chars_apart c d r s c_in d_in e = by_cases (char_case c) (char_case d)
   where
-  by_cases : CharCase c → CharCase d → (c ≡ d) × (r ≡ s)
-  by_cases (quote p a) (quote q b) = let h : 39 ∷ 39 ∷ 39 ∷ 39 ∷ r ≡ 39 ∷ 39 ∷ 39 ∷ 39 ∷ s = sym (ap (λ t. t ++ r) a) ∙ (e ∙ ap (λ t. t ++ s) b) in (p ∙ sym q, cc)
-  by_cases (quote p a) (plain n y b) = let h : 39 ∷ 39 ∷ 39 ∷ 39 ∷ r ≡ 39 ∷ d ∷ 39 ∷ s = sym (ap (λ t. t ++ r) a) ∙ (e ∙ ap (λ t. t ++ s) b) in absurd (n cc)
-  by_cases (quote p a) (coded v b) = let h : 39 ∷ 39 ∷ 39 ∷ 39 ∷ r ≡ 99 ∷ 104 ∷ 114 ∷ 40 ∷ ((decimal d ++ 41 ∷ []) ++ s) = sym (ap (λ t. t ++ r) a) ∙ (e ∙ ap (λ t. t ++ s) b) in absurd (omega (arith, heads 39 99 _ _ h))
-  by_cases (plain n x a) (quote q b) = let h : 39 ∷ c ∷ 39 ∷ r ≡ 39 ∷ 39 ∷ 39 ∷ 39 ∷ s = sym (ap (λ t. t ++ r) a) ∙ (e ∙ ap (λ t. t ++ s) b) in absurd (n cc)
-  by_cases (plain n x a) (plain m y b) = let h : 39 ∷ c ∷ 39 ∷ r ≡ 39 ∷ d ∷ 39 ∷ s = sym (ap (λ t. t ++ r) a) ∙ (e ∙ ap (λ t. t ++ s) b) in (cc, cc)
-  by_cases (plain n x a) (coded v b) = let h : 39 ∷ c ∷ 39 ∷ r ≡ 99 ∷ 104 ∷ 114 ∷ 40 ∷ ((decimal d ++ 41 ∷ []) ++ s) = sym (ap (λ t. t ++ r) a) ∙ (e ∙ ap (λ t. t ++ s) b) in absurd (omega (arith, heads 39 99 _ _ h))
-  by_cases (coded u a) (quote q b) = let h : 99 ∷ 104 ∷ 114 ∷ 40 ∷ ((decimal c ++ 41 ∷ []) ++ r) ≡ 39 ∷ 39 ∷ 39 ∷ 39 ∷ s = sym (ap (λ t. t ++ r) a) ∙ (e ∙ ap (λ t. t ++ s) b) in absurd (omega (arith, heads 99 39 _ _ h))
-  by_cases (coded u a) (plain m y b) = let h : 99 ∷ 104 ∷ 114 ∷ 40 ∷ ((decimal c ++ 41 ∷ []) ++ r) ≡ 39 ∷ d ∷ 39 ∷ s = sym (ap (λ t. t ++ r) a) ∙ (e ∙ ap (λ t. t ++ s) b) in absurd (omega (arith, heads 99 39 _ _ h))
-  by_cases (coded u a) (coded v b) =
-      let h : 99 ∷ 104 ∷ 114 ∷ 40 ∷ ((decimal c ++ 41 ∷ []) ++ r) ≡ 99 ∷ 104 ∷ 114 ∷ 40 ∷ ((decimal d ++ 41 ∷ []) ++ s) = sym (ap (λ t. t ++ r) a) ∙ (e ∙ ap (λ t. t ++ s) b) in
-      let t : (decimal c ++ 41 ∷ []) ++ r ≡ (decimal d ++ 41 ∷ []) ++ s = cc in
-      let w = decimals_apart c d (41 ∷ r) (41 ∷ s) (omega arith) (omega arith) (inl (omega arith)) (inl (omega arith)) (sym (append_assoc (decimal c) (41 ∷ []) r) ∙ (t ∙ append_assoc (decimal d) (41 ∷ []) s)) in
-      (w.0, let z = w.1 in cc)
+    by_cases : CharCase c → CharCase d → (c ≡ d) × (r ≡ s)
+    by_cases (quote p a) (quote q b) = let h : 39 ∷ 39 ∷ 39 ∷ 39 ∷ r ≡ 39 ∷ 39 ∷ 39 ∷ 39 ∷ s = sym (ap (λ t. t ++ r) a) ∙ (e ∙ ap (λ t. t ++ s) b) in (p ∙ sym q, cc)
+    by_cases (quote p a) (plain n y b) = let h : 39 ∷ 39 ∷ 39 ∷ 39 ∷ r ≡ 39 ∷ d ∷ 39 ∷ s = sym (ap (λ t. t ++ r) a) ∙ (e ∙ ap (λ t. t ++ s) b) in absurd (n cc)
+    by_cases (quote p a) (coded v b) = let h : 39 ∷ 39 ∷ 39 ∷ 39 ∷ r ≡ 99 ∷ 104 ∷ 114 ∷ 40 ∷ ((decimal d ++ 41 ∷ []) ++ s) = sym (ap (λ t. t ++ r) a) ∙ (e ∙ ap (λ t. t ++ s) b) in absurd (omega (arith, heads 39 99 _ _ h))
+    by_cases (plain n x a) (quote q b) = let h : 39 ∷ c ∷ 39 ∷ r ≡ 39 ∷ 39 ∷ 39 ∷ 39 ∷ s = sym (ap (λ t. t ++ r) a) ∙ (e ∙ ap (λ t. t ++ s) b) in absurd (n cc)
+    by_cases (plain n x a) (plain m y b) = let h : 39 ∷ c ∷ 39 ∷ r ≡ 39 ∷ d ∷ 39 ∷ s = sym (ap (λ t. t ++ r) a) ∙ (e ∙ ap (λ t. t ++ s) b) in (cc, cc)
+    by_cases (plain n x a) (coded v b) = let h : 39 ∷ c ∷ 39 ∷ r ≡ 99 ∷ 104 ∷ 114 ∷ 40 ∷ ((decimal d ++ 41 ∷ []) ++ s) = sym (ap (λ t. t ++ r) a) ∙ (e ∙ ap (λ t. t ++ s) b) in absurd (omega (arith, heads 39 99 _ _ h))
+    by_cases (coded u a) (quote q b) = let h : 99 ∷ 104 ∷ 114 ∷ 40 ∷ ((decimal c ++ 41 ∷ []) ++ r) ≡ 39 ∷ 39 ∷ 39 ∷ 39 ∷ s = sym (ap (λ t. t ++ r) a) ∙ (e ∙ ap (λ t. t ++ s) b) in absurd (omega (arith, heads 99 39 _ _ h))
+    by_cases (coded u a) (plain m y b) = let h : 99 ∷ 104 ∷ 114 ∷ 40 ∷ ((decimal c ++ 41 ∷ []) ++ r) ≡ 39 ∷ d ∷ 39 ∷ s = sym (ap (λ t. t ++ r) a) ∙ (e ∙ ap (λ t. t ++ s) b) in absurd (omega (arith, heads 99 39 _ _ h))
+    by_cases (coded u a) (coded v b) =
+        let h : 99 ∷ 104 ∷ 114 ∷ 40 ∷ ((decimal c ++ 41 ∷ []) ++ r) ≡ 99 ∷ 104 ∷ 114 ∷ 40 ∷ ((decimal d ++ 41 ∷ []) ++ s) = sym (ap (λ t. t ++ r) a) ∙ (e ∙ ap (λ t. t ++ s) b) in
+        let t : (decimal c ++ 41 ∷ []) ++ r ≡ (decimal d ++ 41 ∷ []) ++ s = cc in
+        let w = decimals_apart c d (41 ∷ r) (41 ∷ s) (omega arith) (omega arith) (inl (omega arith)) (inl (omega arith)) (sym (append_assoc (decimal c) (41 ∷ []) r) ∙ (t ∙ append_assoc (decimal d) (41 ∷ []) s)) in
+        (w.0, let z = w.1 in cc)
 
 -- ---- sets
 
@@ -102,8 +102,8 @@ integers_apart (negsuc m) (negsuc n) r s p q re se e =
     let a = decimals_apart (suc m) (suc n) r s (omega (arith, negative_in m p)) (omega (arith, negative_in n q)) re se (tails 45 45 (decimal (suc m) ++ r) (decimal (suc n) ++ s) e) in
     (ap negsuc (suc_same m n a.0), a.1)
   where
-  suc_same : (a b : ℕ) → suc a ≡ suc b → a ≡ b
-  suc_same a b e' = omega arith
+    suc_same : (a b : ℕ) → suc a ≡ suc b → a ≡ b
+    suc_same a b e' = omega arith
 
 bracket : (a : ℕ) (t : List ℕ) (b : ℕ) (r : List ℕ) → (a ∷ (t ++ b ∷ [])) ++ r ≡ a ∷ (t ++ b ∷ r)
 bracket a t b r = ap (λ u. a ∷ u) (append_assoc t (b ∷ []) r)
@@ -136,9 +136,9 @@ layers_apart p apart l m r s h k re se q e = absurd (omega arith)
 one_kind : (IsPart : Value → Type 0) (l m : Value-F Value) (r s : List ℕ) → IsFormed IsPart l → IsFormed IsPart m → text_at l ++ r ≡ text_at m ++ s → kind l ≡ kind m
 one_kind p l m r s h k e = by_first (text_at l ++ r) refl
   where
-  by_first : (t : List ℕ) → text_at l ++ r ≡ t → kind l ≡ kind m
-  by_first [] n = absurd (no_nil p l r h n)
-  by_first (c ∷ t) n = sym (first_at p l h c r t n) ∙ first_at p m k c s t (sym e ∙ n)
+    by_first : (t : List ℕ) → text_at l ++ r ≡ t → kind l ≡ kind m
+    by_first [] n = absurd (no_nil p l r h n)
+    by_first (c ∷ t) n = sym (first_at p l h c r t n) ∙ first_at p m k c s t (sym e ∙ n)
 
 values_apart_by : (IsPart : Value → Type 0) → Apart IsPart → (v w : Value) (r s : List ℕ) → IsFormed IsPart (out-Value v) → IsFormed IsPart (out-Value w) → Stops (out-Value v) r → Stops (out-Value w) s → text v ++ r ≡ text w ++ s → (v ≡ w) × (r ≡ s)
 values_apart_by p apart v w r s h k re se e =

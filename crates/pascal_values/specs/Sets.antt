@@ -1,5 +1,5 @@
 -- Sets of ordinals from 0 to 255, each as the rising list of its members.
-use Rattle.std.specs.Prelude.{ℕ, ◌+◌, ◌<◌, ◌≤◌, Bool, not, ◌&&◌, ◌||◌, List, [], ◌∷◌, filter, nat_le, ◌==◌}
+use Rattle.std.specs.Prelude.{ℕ, ◌+◌, ◌≤◌, Bool, not, ◌&&◌, ◌||◌, List, [], ◌∷◌, filter, nat_le, ◌==◌}
 use Rattle.std.specs.List.{list_any, list_all, range_with_len}
 
 -- the ordinals rise, from low on, and end below high

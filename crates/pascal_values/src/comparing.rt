@@ -3,11 +3,10 @@
 ghost use Rattle.std.specs.Prelude.{◌≡◌};
 ghost use Rattle.pascal_values.specs.Order.{holds, set_holds, compares};
 
-use std::cmp::Ordering;
-
 use crate::members::Members;
 use crate::sets::is_within;
 use crate::value::{Relation, Value};
+use std::cmp::Ordering;
 
 /// Whether two values of one simple kind, or two sets, stand in the relation. Of other values, of
 /// unset ones, and of sets under `Lt` and `Gt` the answer is no.

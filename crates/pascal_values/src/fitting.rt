@@ -4,10 +4,9 @@ ghost use Rattle.std.specs.Prelude.{◌≡◌, ◌==◌};
 ghost use Rattle.pascal_values.specs.Shapes.{is_within, fit_of, place_of, item_count, each_within, has_ordinal, bool_ordinal};
 ghost use Rattle.std.specs.List.{list_all};
 
-use estelle_lists::Sequence;
-
 use crate::fault::Fault;
 use crate::value::{Shape, Value};
+use estelle_lists::Sequence;
 
 /// Whether a value may be assigned to a variable of this shape. `Unset` exactly where the whole value
 /// is unset, `Range` exactly where a part of it is of another kind or lies outside its shape.

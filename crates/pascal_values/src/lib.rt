@@ -21,9 +21,9 @@ mod reading;
 mod sets;
 mod value;
 mod way;
-mod words;
 #[tactic(auto, using(crate::specs::declared::value::Shape::the_lemmas, crate::proofs::ShapeLemmas::blank_out))]
 mod whole;
+mod words;
 #[tactic(auto, using(crate::specs::declared::value::Value::the_lemmas, crate::proofs::TextLemmas::text_out, crate::proofs::TextLemmas::extends, crate::proofs::TextLemmas::extends_more))]
 mod writing;
 

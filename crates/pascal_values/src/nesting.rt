@@ -4,16 +4,15 @@ ghost use Rattle.std.specs.Prelude.{◌≡◌, ◌<◌, ◌-◌, ◌^◌, IsSome
 ghost use Rattle.pascal_values.specs.Reading.{IsReading};
 ghost use Rattle.pascal_values.specs.Steps.{Stands, IsPartReading, ArePartsRead, IsCloser, separated_of};
 
-use std::alloc::Global;
-
-use estelle_lists::Sequence;
-
 use crate::failing::ValueError;
 use crate::reading::{
-    read_coded, read_enum, read_false, read_natural, read_negative, read_quoted, read_set, read_true,
+    read_coded, read_enum, read_false, read_natural, read_negative, read_quoted, read_set,
+    read_true,
 };
 use crate::value::{Value, Values};
 use crate::words::separator_at;
+use estelle_lists::Sequence;
+use std::alloc::Global;
 
 /// How deep arrays and records may nest in a text.
 const DEPTH: u32 = 200;
@@ -50,7 +49,12 @@ fn read_at(alloc: Global, bytes: &[u8], at: usize, depth: u32) -> Result<(Value,
 }
 
 #[cycle(read)]
-fn read_array(alloc: Global, bytes: &[u8], at: usize, depth: u32) -> Result<(Value, usize), ValueError>
+fn read_array(
+    alloc: Global,
+    bytes: &[u8],
+    at: usize,
+    depth: u32,
+) -> Result<(Value, usize), ValueError>
     requires { Stands bytes.now at 40 }
     ensures { IsReading depth bytes.now at result }
 {
@@ -64,7 +68,12 @@ fn read_array(alloc: Global, bytes: &[u8], at: usize, depth: u32) -> Result<(Val
 }
 
 #[cycle(read)]
-fn read_fields(alloc: Global, bytes: &[u8], at: usize, depth: u32) -> Result<(Value, usize), ValueError>
+fn read_fields(
+    alloc: Global,
+    bytes: &[u8],
+    at: usize,
+    depth: u32,
+) -> Result<(Value, usize), ValueError>
     requires { Stands bytes.now at 123 }
     ensures { IsReading depth bytes.now at result }
 {
@@ -79,7 +88,13 @@ fn read_fields(alloc: Global, bytes: &[u8], at: usize, depth: u32) -> Result<(Va
 
 /// The parts up to the bracket that closes, one at least, and the place after the bracket.
 #[cycle(read)]
-fn read_parts(alloc: Global, bytes: &[u8], at: usize, depth: u32, close: u8) -> Result<(Values, usize), ValueError>
+fn read_parts(
+    alloc: Global,
+    bytes: &[u8],
+    at: usize,
+    depth: u32,
+    close: u8,
+) -> Result<(Values, usize), ValueError>
     requires { IsCloser close }
     ensures { ArePartsRead depth close bytes.now at result }
 {
@@ -103,7 +118,13 @@ fn read_parts(alloc: Global, bytes: &[u8], at: usize, depth: u32, close: u8) -> 
 
 /// A part, the place after the comma or bracket behind it, and whether that is the bracket.
 #[cycle(read)]
-fn read_part(alloc: Global, bytes: &[u8], at: usize, depth: u32, close: u8) -> Result<(Value, usize, bool), ValueError>
+fn read_part(
+    alloc: Global,
+    bytes: &[u8],
+    at: usize,
+    depth: u32,
+    close: u8,
+) -> Result<(Value, usize, bool), ValueError>
     requires { IsCloser close }
     ensures { IsPartReading depth close bytes.now at result }
 {
@@ -114,7 +135,11 @@ fn read_part(alloc: Global, bytes: &[u8], at: usize, depth: u32, close: u8) -> R
 }
 
 /// The part with what stands behind it, if that is a comma or the bracket.
-fn separated(part: Value, end: usize, separator: Option<bool>) -> Result<(Value, usize, bool), ValueError>
+fn separated(
+    part: Value,
+    end: usize,
+    separator: Option<bool>,
+) -> Result<(Value, usize, bool), ValueError>
     requires { IsSome separator → end < 2 ^ 64 - 1 }
     ensures { result ≡ separated_of part end separator }
 {

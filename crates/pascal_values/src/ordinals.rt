@@ -5,14 +5,17 @@ ghost use Rattle.std.specs.Fmt.{decimal};
 ghost use Rattle.pascal_values.specs.Sets.{IsSet};
 ghost use Rattle.pascal_values.specs.Steps.{IsNumber, IsOrdinal, IsItem, NoItem, AreOrdinals};
 
-use std::alloc::Global;
-
 use crate::digits::number;
 use crate::failing::ValueError;
 use crate::words::separator_at;
+use std::alloc::Global;
 
 /// Ordinals up to the bracket that closes a set, one at least, and the place after the bracket.
-pub(crate) fn ordinals(alloc: Global, bytes: &[u8], at: usize) -> Result<(Vec<u32>, usize), ValueError>
+pub(crate) fn ordinals(
+    alloc: Global,
+    bytes: &[u8],
+    at: usize,
+) -> Result<(Vec<u32>, usize), ValueError>
     ensures { AreOrdinals bytes.now at result }
 {
     let mut ordinals = Vec::new(alloc);

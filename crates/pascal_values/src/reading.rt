@@ -5,14 +5,13 @@ ghost use Rattle.std.specs.Fmt.{decimal};
 ghost use Rattle.pascal_values.specs.Reading.{IsReading};
 ghost use Rattle.pascal_values.specs.Steps.{Stands, StandsWord, IsOther, IsNumber, IsItems, IsOrdinal};
 
-use std::alloc::Global;
-
 use crate::digits::number;
+use crate::failing::ValueError;
 use crate::members::Members;
 use crate::ordinals::{ordinals, rise};
-use crate::failing::ValueError;
 use crate::value::Value;
 use crate::words::{follows, is_printed, quoted};
+use std::alloc::Global;
 
 /// A value that was read, and the place after its text.
 type Reading = Result<(Value, usize), ValueError>;

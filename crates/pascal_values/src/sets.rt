@@ -3,9 +3,8 @@
 ghost use Rattle.std.specs.Prelude.{◌≡◌, ◌≤◌, IfOk};
 ghost use Rattle.pascal_values.specs.Sets.{IsSet, is_member, is_subset, union, intersection, difference, interval};
 
-use std::alloc::{AllocError, Global};
-
 use crate::members::Members;
+use std::alloc::{AllocError, Global};
 
 /// `n in a`. It takes no memory.
 pub fn has(a: &Members, n: u32) -> bool

@@ -20,19 +20,32 @@ fn division_and_overflow(rt: HostRuntime) {
 fn sets(rt: HostRuntime) -> Result<(), Fail> {
     let low = span(rt.alloc(), 1, 3)?;
     let high = span(rt.alloc(), 3, 4)?;
-    assert_eq!(rt; unite(rt.alloc(), &low, &high)?.items(), [1, 2, 3, 4].as_slice());
+    assert_eq!(rt;
+        unite(rt.alloc(), &low, &high)?.items(),
+        [1, 2, 3, 4].as_slice()
+    );
     assert_eq!(rt; meet(rt.alloc(), &low, &high)?.items(), [3].as_slice());
     assert_eq!(rt; minus(rt.alloc(), &low, &high)?.items(), [1, 2].as_slice());
     assert_eq!(rt; span(rt.alloc(), 2, 1)?.items().len(), 0);
     assert!(rt; has(&low, 2));
-    assert!(rt; compare(Relation::Le, &Value::Set(span(rt.alloc(), 2, 2)?), &Value::Set(low)));
+    assert!(rt;
+        compare(
+            Relation::Le,
+            &Value::Set(span(rt.alloc(), 2, 2)?),
+            &Value::Set(low)
+        )
+    );
     Ok(())
 }
 
 #[test]
 fn parts_of_a_value(rt: HostRuntime) -> Result<(), Fail> {
     let item = Boxed::new(rt.alloc(), Shape::Int { low: 0, high: 9 })?;
-    let shape = Shape::Array { low: 1, high: 2, item };
+    let shape = Shape::Array {
+        low: 1,
+        high: 2,
+        item,
+    };
     let mut value = blank(rt.alloc(), &shape)?;
     assert_eq!(rt; fits(&shape, &value), Ok(()));
     let way = [1];
@@ -62,20 +75,36 @@ fn reads(rt: &HostRuntime, bytes: &[u8], wanted: usize) -> Result<bool, Fail> {
 #[test]
 fn texts(rt: HostRuntime) -> Result<(), Fail> {
     let whole: [&[u8]; 13] = [
-        b"[1,3,4]", b"[]", b"''''", b"'x'", b"chr(7)", b"#3", b"?", b"(1,(2,3))", b"{true,'x'}",
-        b"false", b"-9223372036854775807", b"#4294967295", b"9223372036854775807",
+        b"[1,3,4]",
+        b"[]",
+        b"''''",
+        b"'x'",
+        b"chr(7)",
+        b"#3",
+        b"?",
+        b"(1,(2,3))",
+        b"{true,'x'}",
+        b"false",
+        b"-9223372036854775807",
+        b"#4294967295",
+        b"9223372036854775807",
     ];
     for text in whole {
         assert!(rt; reads(&rt, text, text.len())?);
     }
     let parts: [(&[u8], usize); 5] = [
-        (b"007", 1), (b"#4294967296", 10), (b"9223372036854775808", 18), (b"12,3", 2), (b"''''x", 4),
+        (b"007", 1),
+        (b"#4294967296", 10),
+        (b"9223372036854775808", 18),
+        (b"12,3", 2),
+        (b"''''x", 4),
     ];
     for (text, wanted) in parts {
         assert!(rt; reads(&rt, text, wanted)?);
     }
     let none: [&[u8]; 12] = [
-        b"-0", b"[2,1]", b"[1,1]", b"[256]", b"()", b"{}", b"(1", b"(1,)", b"chr(65)", b"'''", b"tru", b"",
+        b"-0", b"[2,1]", b"[1,1]", b"[256]", b"()", b"{}", b"(1", b"(1,)", b"chr(65)", b"'''",
+        b"tru", b"",
     ];
     for text in none {
         assert!(rt; reads(&rt, text, 0)?);

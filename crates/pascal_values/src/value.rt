@@ -1,7 +1,6 @@
-use estelle_lists::{Boxed, Items};
-
 use crate::members::Members;
 use crate::parts::Parts;
+use estelle_lists::{Boxed, Items};
 
 /// A value of Pascal, in which parts may be unset.
 #[derive(Debug, Drop)]

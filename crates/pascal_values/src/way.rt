@@ -4,10 +4,9 @@ ghost use Rattle.std.specs.Prelude.{◌≡◌, IsSome, Some, slice_get};
 ghost use Rattle.std.specs.Option.{option_copied};
 ghost use Rattle.pascal_values.specs.Values.{part_of, with_part, changed_at};
 
+use crate::value::{Value, Values};
 use estelle_lists::Sequence;
 use std::mem;
-
-use crate::value::{Value, Values};
 
 /// The part at the way, if it leads to one. A way has the number of a part at each level, from 0.
 pub fn find<'a>(value: &'a Value, way: &[u32]) -> Option<&'a Value>

@@ -3,11 +3,9 @@
 ghost use Rattle.std.specs.Prelude.{◌≡◌, ◌+◌, IfOk, map, replicate};
 ghost use Rattle.pascal_values.specs.Shapes.{blank_of};
 
-use std::alloc::{AllocError, Global};
-
-use estelle_lists::Sequence;
-
 use crate::value::{Shape, Value, Values};
+use estelle_lists::Sequence;
+use std::alloc::{AllocError, Global};
 
 /// A value of the shape whose simple parts and sets are unset.
 #[cycle(blank)]

@@ -5,11 +5,9 @@ ghost use Rattle.std.specs.Fmt.{decimal, signed_decimal};
 ghost use Rattle.std.specs.List.{join_with_byte};
 ghost use Rattle.pascal_values.specs.Texts.{text, char_text, enclosed, comma_before, Extends};
 
-use std::alloc::AllocError;
-
-use estelle_lists::Sequence;
-
 use crate::value::Value;
+use estelle_lists::Sequence;
+use std::alloc::AllocError;
 
 /// Appends the text of a value: an integer in decimal, `true` or `false`, a character as `'x'` or by
 /// its code as `chr(7)`, a value of an enumeration as `#3`, a set as `[1,3,4]`, an array as `(1,2)`,

@@ -1,4 +1,4 @@
-use Rattle.std.proofs.Common.{sym, arith}
+use Rattle.std.proofs.Common.{arith}
 use Rattle.pascal_values.proofs.ShapeLemmas.{fields_fail, fields_more}
 use Rattle.pascal_values.proofs.fitting.+within.Goals as goal
 

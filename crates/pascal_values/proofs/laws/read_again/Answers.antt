@@ -1,5 +1,4 @@
-use Rattle.std.proofs.Common.{refl, sym}
-use Rattle.pascal_values.specs.Texts.{text}
+use Rattle.std.proofs.Common.{refl}
 use Rattle.pascal_values.proofs.ItemLemmas.{part_only}
 use Rattle.pascal_values.proofs.laws.read_again.Goals as goal
 

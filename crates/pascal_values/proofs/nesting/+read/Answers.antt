@@ -1,4 +1,4 @@
-use Rattle.std.proofs.Common.{arith, subst, false, true}
+use Rattle.std.proofs.Common.{subst}
 use Rattle.pascal_values.specs.Texts.{text, HasForm}
 use Rattle.pascal_values.specs.Steps.{IsItem}
 use Rattle.pascal_values.proofs.ListingLemmas.{read_none, read_more, read_last}

@@ -1,8 +1,8 @@
-use Rattle.std.proofs.Common.{arith, inl, false, true, subst}
+use Rattle.std.proofs.Common.{arith, inl, subst}
 use Rattle.std.specs.Fmt.{decimal}
 use Rattle.pascal_values.specs.Steps.{IsOrdinal, IsItem}
 use Rattle.pascal_values.proofs.ItemLemmas.{pushed}
-use Rattle.pascal_values.proofs.ListingLemmas.{read_none, read_more, read_last, read_fails}
+use Rattle.pascal_values.proofs.ListingLemmas.{read_none, read_more, read_last}
 use Rattle.pascal_values.proofs.ordinals.ordinals.Goals as goal
 
 pub loop-n-init : goal.loop-n-init

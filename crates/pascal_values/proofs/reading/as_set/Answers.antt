@@ -1,4 +1,4 @@
-use Rattle.std.proofs.Common.{arith, sym, subst, drop, ◌∙◌}
+use Rattle.std.proofs.Common.{arith, sym, subst}
 use Rattle.pascal_values.specs.Sets.{IsSet}
 use Rattle.pascal_values.proofs.ReadingLemmas.{set_read, set_falls}
 use Rattle.pascal_values.proofs.reading.as_set.Goals as goal

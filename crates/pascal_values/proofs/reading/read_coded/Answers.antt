@@ -1,4 +1,3 @@
-use Rattle.std.proofs.Common.{arith}
 use Rattle.pascal_values.proofs.ReadingLemmas.{coded_no_word, coded_no_number}
 use Rattle.pascal_values.proofs.reading.read_coded.Goals as goal
 

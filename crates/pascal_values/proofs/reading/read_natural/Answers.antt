@@ -1,4 +1,4 @@
-use Rattle.std.proofs.Common.{arith, w64, to_z, ◌≡◌, pos, sym, ap, subst, drop}
+use Rattle.std.proofs.Common.{arith, w64, to_z, ◌≡◌, pos, sym, subst, drop}
 use Rattle.std.proofs.lemmas.Int.{to_z_pos}
 use Rattle.pascal_values.specs.declared.value.Value.TheVariants as value
 use Rattle.pascal_values.specs.Reading.{Reads}

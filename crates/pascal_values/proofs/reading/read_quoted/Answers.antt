@@ -1,4 +1,4 @@
-use Rattle.std.proofs.Common.{arith, ◌∙◌, ap, sym, ◌++◌, drop}
+use Rattle.std.proofs.Common.{arith}
 use Rattle.pascal_values.proofs.ReadingLemmas.{quote_reads, plain_reads, quoted_none}
 use Rattle.pascal_values.proofs.reading.read_quoted.Goals as goal
 

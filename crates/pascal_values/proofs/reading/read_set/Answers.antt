@@ -1,4 +1,3 @@
-use Rattle.std.proofs.Common.{arith}
 use Rattle.pascal_values.proofs.ReadingLemmas.{set_empty, set_error}
 use Rattle.pascal_values.proofs.reading.read_set.Goals as goal
 

@@ -1,4 +1,4 @@
-use Rattle.std.proofs.Common.{◌≡◌, take, filter, not}
+use Rattle.std.proofs.Common.{◌≡◌, take, filter}
 use Rattle.pascal_values.specs.Sets.{is_member}
 use Rattle.pascal_values.proofs.sets.meet.Given as goal
 

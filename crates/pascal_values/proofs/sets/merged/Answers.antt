@@ -7,16 +7,16 @@ pub loop-i-preserved-then-n-m : goal.loop-i-preserved-then-n-m
 loop-i-preserved-then-n-m c =
     let merge = merge_both c.args.a.now c.args.b.now c.loop-i.ordinals.items _ c.loop-i.i c.loop-i.j _ _ c.requires.a_rising c.requires.b_rising c.loop-i-test.true c.if-j-b.true refl refl c.loop-i.invariant.rest c.min.result c.if-m-n.i c.push.new.self.items c.min.ensures c.if-n-m.true c.in_ok-push.ensures.items in
     elim c.if-m-n.branch [
-      then-m-n w ↦ record { i_in = omega arith; j_in = omega arith; rest = merge (inl (w.if-m-n.true, w.i-is)) }
-    | else-m-n w ↦ record { i_in = omega arith; j_in = omega arith; rest = merge (inr (w.if-m-n.false, w.i-is)) }
+      | then-m-n w ↦ record { i_in = omega arith; j_in = omega arith; rest = merge (inl (w.if-m-n.true, w.i-is)) }
+      | else-m-n w ↦ record { i_in = omega arith; j_in = omega arith; rest = merge (inr (w.if-m-n.false, w.i-is)) }
     ]
 
 pub loop-i-preserved : goal.loop-i-preserved
 loop-i-preserved c =
     let merge = merge_one c.args.a.now c.args.b.now c.loop-i.ordinals.items _ c.loop-i.i c.loop-i.j _ _ c.requires.a_rising c.requires.b_rising c.loop-i-test.true c.if-j-b.true refl refl c.loop-i.invariant.rest c.min.result c.if-m-n.i c.push.new.self.items c.min.ensures c.if-n-m.false c.in_ok-push.ensures.items in
     elim c.if-m-n.branch [
-      then-m-n w ↦ record { i_in = omega arith; j_in = omega arith; rest = merge w.i-is }
-    | else-m-n w ↦ absurd (omega arith)
+      | then-m-n w ↦ record { i_in = omega arith; j_in = omega arith; rest = merge w.i-is }
+      | else-m-n w ↦ absurd (omega arith)
     ]
 
 pub returns : goal.returns

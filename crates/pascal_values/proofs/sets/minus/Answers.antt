@@ -1,6 +1,6 @@
-use Rattle.std.proofs.Common.{◌≡◌, ◌∙◌, sym, subst, not, length, ◌≤◌}
+use Rattle.std.proofs.Common.{◌∙◌, sym, subst, not}
 use Rattle.pascal_values.specs.Sets.{IsSet, is_member}
-use Rattle.pascal_values.proofs.SetLemmas.{IsSet-chosen, chosen-is, difference-is}
+use Rattle.pascal_values.proofs.SetLemmas.{IsSet-chosen, difference-is}
 use Rattle.pascal_values.proofs.sets.minus.Goals as goal
 
 pub of-requires : goal.of-requires

@@ -1,4 +1,3 @@
-use Rattle.std.proofs.Common.{arith}
 use Rattle.pascal_values.proofs.ShapeLemmas.{repeated_all}
 use Rattle.pascal_values.proofs.whole.repeated.Goals as goal
 

@@ -1,4 +1,4 @@
-use Rattle.std.proofs.Common.{◌∙◌, ap, ◌++◌, sym, arith}
+use Rattle.std.proofs.Common.{arith}
 use Rattle.pascal_values.proofs.TextLemmas.{on_ok, one_digit, more_digits}
 use Rattle.pascal_values.proofs.writing.+write_decimal.Goals as goal
 

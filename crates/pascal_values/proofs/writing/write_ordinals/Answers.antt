@@ -1,5 +1,3 @@
-use Rattle.std.proofs.Common.{◌∙◌, ap, ◌++◌, get_or}
-use Rattle.std.specs.Fmt.{decimal}
 use Rattle.pascal_values.proofs.TextLemmas.{on_err, ordinals_more, extends_after}
 use Rattle.pascal_values.proofs.writing.write_ordinals.Goals as goal
 

@@ -1,12 +1,10 @@
 -- `Parts` as a list type that a type may hold which it holds.
 use mathlib.Core.Path.{refl}
-use mathlib.Core.List.{List}
 use mathlib.Core.Former.{Former, this, list, via}
 use denote.RattleType.{RattleType}
 use denote.HoleLaws.{Alike}
 use denote.HolePlaces.{Recodes, struct_places, laid}
 use denote.Hole.Fix.{over}
-use denote.Param.Weighed.{Weighed}
 use denote.Model.Placed.{view_places}
 use Rattle.std.specs.formers.vec.Vec as vec
 use Rattle.std.specs.declared.alloc.Global.{Global}
@@ -17,7 +15,6 @@ use Rattle.pascal_values.specs.declared.parts.Parts.TheInside.{Inside}
 use Rattle.pascal_values.specs.declared.parts.Parts.TheView.{view, invariant}
 use Rattle.pascal_values.specs.contracts.parts.Parts as parts
 use Rattle.pascal_values.specs.contracts.parts.Parts.TheInside as inside
-
 pub use Rattle.sqlite_items.specs.formers.items.Items.{the_former, the_weighed, the_empty, the_items, the_items_listed}
 
 abbrev fields : Former {0}
