@@ -1,20 +1,27 @@
 //! The operations on integers, which lie from `-MAXINT` to `MAXINT` (ISO 7185, 6.7.2.2). None takes memory.
 
 ghost use Rattle.std.specs.Prelude.{◌≡◌};
-ghost use Rattle.pascal_values.specs.Integers.{sum_of, difference_of, product_of, quotient_of, remainder_of};
+ghost use Rattle.pascal_values.specs.Integers.{sum_of, difference_of, is_integer, product_of, quotient_of, remainder_of};
 
 use crate::fault::Fault;
 
 /// The greatest integer.
 pub const MAXINT: i64 = i64::MAX;
 
+/// Whether a number of 64 bits is an integer: the least such number is none.
+fn is_whole(n: i64) -> bool
+    ensures { result ≡ is_integer n }
+{
+    n > i64::MIN
+}
+
 /// `a + b`. `Overflow` exactly where it is no integer.
 pub fn add(a: i64, b: i64) -> Result<i64, Fault>
     ensures { result ≡ sum_of a b }
 {
     match a.checked_add(b) {
-        Some(i64::MIN) | None => Err(Fault::Overflow),
-        Some(n) => Ok(n),
+        Some(n) if is_whole(n) => Ok(n),
+        _ => Err(Fault::Overflow),
     }
 }
 
@@ -23,8 +30,8 @@ pub fn sub(a: i64, b: i64) -> Result<i64, Fault>
     ensures { result ≡ difference_of a b }
 {
     match a.checked_sub(b) {
-        Some(i64::MIN) | None => Err(Fault::Overflow),
-        Some(n) => Ok(n),
+        Some(n) if is_whole(n) => Ok(n),
+        _ => Err(Fault::Overflow),
     }
 }
 
@@ -33,8 +40,8 @@ pub fn mul(a: i64, b: i64) -> Result<i64, Fault>
     ensures { result ≡ product_of a b }
 {
     match a.checked_mul(b) {
-        Some(i64::MIN) | None => Err(Fault::Overflow),
-        Some(n) => Ok(n),
+        Some(n) if is_whole(n) => Ok(n),
+        _ => Err(Fault::Overflow),
     }
 }
 
@@ -47,8 +54,8 @@ pub fn divide(a: i64, b: i64) -> Result<i64, Fault>
         return Err(Fault::DivideByZero);
     }
     match a.checked_div(b) {
-        Some(i64::MIN) | None => Err(Fault::Overflow),
-        Some(n) => Ok(n),
+        Some(n) if is_whole(n) => Ok(n),
+        _ => Err(Fault::Overflow),
     }
 }
 
