@@ -1,0 +1,10 @@
+pub mod SetLemmas
+pub mod ShapeLemmas
+pub mod TextLemmas
+pub mod Decimals
+pub mod KindLemmas
+pub mod ListingLemmas
+pub mod UniqueLemmas
+pub mod ReadingLemmas
+pub mod PlaceLemmas
+pub mod ItemLemmas

@@ -1,0 +1,5 @@
+use Rattle.pascal_values.proofs.ShapeLemmas.{repeated_all}
+use Rattle.pascal_values.proofs.whole.repeated.Goals as goal
+
+pub returns : goal.returns
+returns c = repeated_all c.args.copies c.loop.counter c.args.value _ c.loop.values _ c.loop-test.false c.loop.auto.counter-end c.loop.invariant.made c.loop.invariant.same c.in_ok-push-2.ensures.ok
