@@ -7,29 +7,24 @@ ghost use Rattle.pascal_values.specs.Sets.{ChoosesMembers, IsToldByMembers};
 /// The remainder lies where ISO 7185 says.
 pub fn remainder_law()
     ensures { IsRemainder }
-{
-}
+{}
 
 /// The operations on sets, which are defined by a test of the members, have exactly those members.
 pub fn chosen_members()
     ensures { ChoosesMembers }
-{
-}
+{}
 
 /// Two sets with the same members are equal.
 pub fn told_by_members()
     ensures { IsToldByMembers }
-{
-}
+{}
 
 /// No text has two readings.
 pub fn one_reading()
     ensures { HasOneReading }
-{
-}
+{}
 
 /// What is written is read again as the same value.
 pub fn read_again()
     ensures { IsReadAgain }
-{
-}
+{}
