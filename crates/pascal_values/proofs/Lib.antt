@@ -8,3 +8,4 @@ pub mod UniqueLemmas
 pub mod ReadingLemmas
 pub mod PlaceLemmas
 pub mod ItemLemmas
+pub mod IntegerLemmas

@@ -358,3 +358,26 @@ rises_all ns i least all r le = subst IsSet (take_all i ns all) (Rises-rising 0 
 pub rises_not : (ns : List ℕ) (i least n : ℕ) → Rises 0 (take i ns) least → i < length ns → get_or ns i 0 ≡ n → (n < least) ⊎ (255 < n) → ¬ IsSet ns
 rises_not ns i least n r lt is (inl low) set = let a = Rises-at 0 ns least 256 i r set lt in omega (arith, a.0)
 rises_not ns i least n r lt is (inr high) set = let a = Rises-at 0 ns least 256 i r set lt in omega (arith, a.1)
+
+-- ---- members
+
+pub same_members : (a b : List ℕ) → IsSet a → IsSet b → ((n : ℕ) → is_member n a ≡ is_member n b) → a ≡ b
+same_members a b r s same = sym (set_of-itself a r) ∙ (set_of-agree (λ n. is_member n a) (λ n. is_member n b) same ∙ set_of-itself b s)
+
+member_by : (same_ kept others passes : Bool) (here rest : Bool) → (same_ ≡ true → passes ≡ kept) → rest ≡ (others && passes) → here ≡ cond kept (same_ || rest) rest → here ≡ ((same_ || others) && passes)
+member_by true true others passes here rest p r h = rw (p refl) h
+member_by true false others passes here rest p r h = rw (p refl) (h ∙ (r ∙ rw (p refl) (and-false others)))
+member_by false true others passes here rest p r h = h ∙ r
+member_by false false others passes here rest p r h = h ∙ r
+
+is_member-filter : (p : ℕ → Bool) (ns : List ℕ) (n : ℕ) → is_member n (filter p ns) ≡ (is_member n ns && p n)
+is_member-filter p [] n = refl
+is_member-filter p (m ∷ ns) n = member_by (m == n) (p m) (is_member n ns) (p n) (is_member n (filter p (m ∷ ns))) (is_member n (filter p ns)) (λ e. let is : m ≡ n = grind (arith, nat_tests) in ap p (sym is)) (is_member-filter p ns n) (by_kept (p m))
+  where
+    by_kept : (b : Bool) → is_member n (cond b (m ∷ filter p ns) (filter p ns)) ≡ cond b ((m == n) || is_member n (filter p ns)) (is_member n (filter p ns))
+    by_kept true = refl
+    by_kept false = refl
+
+pub is_member-set_of : (p : ℕ → Bool) (n : ℕ) → is_member n (set_of p) ≡ (nat_lt n 256 && p n)
+unfolding set_of
+is_member-set_of p n = is_member-filter p (range_with_len 0 256) n ∙ ap (λ b. b && p n) (range_member n 0 256 ∙ grind (arith, nat_tests))

@@ -1,5 +1,5 @@
 -- The type integer and its operations (ISO 7185, 6.7.2.2), each with its value or its one fault.
-use Rattle.std.specs.Prelude.{◌-◌, ◌^◌, Bool, if◌then◌else◌, ◌&&◌, ℤ, pos, negsuc, ◌+ℤ◌, ◌-ℤ◌, ◌*ℤ◌, Result, Ok, Err}
+use Rattle.std.specs.Prelude.{◌≡◌, ℕ, ◌<◌, ◌-◌, ◌^◌, Bool, if◌then◌else◌, ◌&&◌, ℤ, pos, negsuc, ◌+ℤ◌, ◌-ℤ◌, ◌*ℤ◌, Result, Ok, Err}
 use Rattle.std.specs.Int.{int_rem_euclid}
 use Rattle.std.specs.Int.RustNames.{int_div, int_le}
 use Rattle.pascal_values.specs.declared.fault.Fault.{Fault}
@@ -33,3 +33,7 @@ quotient_of a b = if is_between (pos 0) (pos 0) b then Err DivideByZero else int
 -- `a mod b`, which lies in 0..b-1 and differs from a by a multiple of b
 abbrev pub remainder_of : ℤ → ℤ → Result ℤ Fault
 remainder_of a b = if int_le b (pos 0) then Err ModNotPositive else Ok (int_rem_euclid a b)
+
+-- `a mod b` is the one number of 0..b-1 from which a differs by a multiple of b
+abbrev pub IsRemainder : Type 0
+IsRemainder = (a : ℤ) (b : ℕ) → 0 < b → (k : ℤ) × (r : ℕ) × (remainder_of a (pos b) ≡ Ok (pos r)) × (r < b) × (a ≡ (k *ℤ pos b) +ℤ pos r)

@@ -1,5 +1,5 @@
 -- Sets of ordinals from 0 to 255, each as the rising list of its members.
-use Rattle.std.specs.Prelude.{ℕ, ◌+◌, ◌≤◌, Bool, not, ◌&&◌, ◌||◌, List, [], ◌∷◌, filter, nat_le, ◌==◌}
+use Rattle.std.specs.Prelude.{◌≡◌, ℕ, ◌+◌, ◌≤◌, nat_lt, Bool, not, ◌&&◌, ◌||◌, List, [], ◌∷◌, filter, nat_le, ◌==◌}
 use Rattle.std.specs.List.{list_any, list_all, range_with_len}
 
 -- the ordinals rise, from low on, and end below high
@@ -38,3 +38,11 @@ interval low high = set_of (λ n. nat_le low n && nat_le n high)
 -- each member of a is in b
 abbrev pub is_subset : List ℕ → List ℕ → Bool
 is_subset a b = list_all (λ n. is_member n b) a
+
+-- the members of a set that is chosen are the ordinals up to 255 for which p holds
+abbrev pub ChoosesMembers : Type 0
+ChoosesMembers = (p : ℕ → Bool) → IsSet (set_of p) × ((n : ℕ) → is_member n (set_of p) ≡ (nat_lt n 256 && p n))
+
+-- two sets with the same members are equal
+abbrev pub IsToldByMembers : Type 0
+IsToldByMembers = (a b : List ℕ) → IsSet a → IsSet b → ((n : ℕ) → is_member n a ≡ is_member n b) → a ≡ b
