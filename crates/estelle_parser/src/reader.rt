@@ -296,6 +296,11 @@ fn small(alloc: Global, tokens: &[Token]) -> Result<Spec, ReadError>
 }
 
 /// Reads the text of a small specification.
+///
+/// Letters are taken without regard to their case, and blanks, which are space, tab, CR and LF, may stand
+/// between any two tokens (ISO 7185, 6.1). The answer is `NotSmall` exactly where the text is spelled by no
+/// small specification, if memory lasts, and `Memory` where it does not. The time is linear in the length of
+/// the text.
 pub fn read(alloc: Global, bytes: &[u8]) -> Result<Spec, ReadError>
     // What is read is the tree of the text, and there is no other.
     ensures found { IfOk result (λ t. IsSmall bytes.now t) }
