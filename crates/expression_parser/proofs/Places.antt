@@ -1,5 +1,6 @@
 -- An expression and a variable take at least one token, and begin with one of few kinds.
-use Rattle.std.proofs.Common.{◌≡◌, ◌<◌, ◌≤◌, ℕ, zero, suc, Bool, true, false, List, [], ◌∷◌, Option, Some, None, sym, refl, ap, ◌∙◌, subst, arith}
+use Rattle.std.proofs.Common.{◌≡◌, ◌<◌, ◌≤◌, ℕ, zero, suc, Bool, true, false, List, [], ◌∷◌, Option, Some, None, sym, refl, ap, ◌∙◌, subst, inl, inr, arith}
+use Rattle.std.specs.Prelude.{◌⊎◌}
 use Rattle.estelle_tree.specs.declared.token.Token.{Token}
 use Rattle.estelle_tree.specs.declared.token.Token.TheVariants as token
 use Rattle.estelle_tree.specs.declared.token.Placed.{Placed}
@@ -25,7 +26,7 @@ use Rattle.estelle_tree.specs.Spelling.{Spelling, Takes, Mark, Optional, Chain, 
 use Rattle.estelle_tree.specs.Types.{IsName, of_sign}
 use Rattle.estelle_tree.specs.Expressions.{of_relation, of_adding, of_multiplying, TermOf, SimpleOf, ExprOf, ArgsOf, ElemOf, ElemsOf, SelectorLayerOf, SelectorOf, VariableOf, IsFactorLayer, FactorBelow, IsFactor, IsExpr, IsArgs, IsVariable}
 use Rattle.token_reader.proofs.Complete.{Shrinks, Advances, takes_shrinks, takes_advances, next_left_more, name_advances, chain_shrinks, behind_shrinks, behind_advances, separated_shrinks}
-use Rattle.expression_parser.specs.Expression.{begins_expr}
+use Rattle.expression_parser.specs.Expression.{begins_expr, goes_on_variable}
 
 -- the first token is of one of these kinds
 abbrev pub Begins : {A : Type 0} → (Kind → Bool) → Spelling A → Type 0
@@ -180,6 +181,19 @@ module _ (F : Spelling Factor) (begins : Begins begins_factor F) where
       go [] r = absurd r
       go (e ∷ es) r = expr_over_begins i r.0 e r.1
 
+-- behind its name a variable ends or goes on with a selector
+module _ (room : ℕ) (F : Spelling Factor) where
+  layer_of_selector_goes_on : (l : SelectorLayer) (i j : Input) → SelectorLayerOf room F l i j → goes_on_variable (kind i) ≡ true
+  layer_of_selector_goes_on (Selector-F.Index es) i j r = ap goes_on_variable r.1.opens.kind
+  layer_of_selector_goes_on (Selector-F.Field n) i j r = ap goes_on_variable r.mark.kind
+
+  variable_over_second : (i j : Input) (v : Variable) → VariableOf room F v i j → (next i ≡ j) ⊎ (goes_on_variable (kind (next i)) ≡ true)
+  variable_over_second i j v r = go _ r.selectors
+    where
+      go : (xs : List Selector) → Chain (SelectorOf room F) xs r.mid j → (next i ≡ j) ⊎ (goes_on_variable (kind (next i)) ≡ true)
+      go [] ends = inl (r.name.next ∙ ends)
+      go (x ∷ xs) more = inr (ap (λ m. goes_on_variable (kind m)) r.name.next ∙ layer_of_selector_goes_on (out-Selector x) r.mid more.0 more.1)
+
 -- ---- where this many levels may open
 
 pub factor_below_advances : (room : ℕ) → Advances (FactorBelow room)
@@ -216,3 +230,6 @@ variable_shrinks room i j v r = at_most (IsVariable room) (variable_advances roo
 
 pub variable_begins : (room : ℕ) (i j : Input) (v : Variable) → IsVariable room v i j → kind i ≡ k.Name
 variable_begins room i j v r = variable_over_begins room (FactorBelow room) i j v r
+
+pub variable_second : (room : ℕ) (i j : Input) (v : Variable) → IsVariable room v i j → (next i ≡ j) ⊎ (goes_on_variable (kind (next i)) ≡ true)
+variable_second room i j v r = variable_over_second room (FactorBelow room) i j v r

@@ -6,9 +6,9 @@ ghost use Rattle.token_reader.specs.Reader.{Reads};
 ghost use Rattle.token_reader.specs.Nests.{Nests};
 ghost use Rattle.expression_parser.specs.Expression as spec;
 
+use crate::access::variable_over;
 use crate::factor::FactorOver;
 use crate::operation::{ArgsOver, ExprOver};
-use crate::access::variable_over;
 use estelle_tree::{Args, Expr, Factor, Kind, Variable};
 use std::alloc::Global;
 use token_reader::{Begins, Cursor, Read, ReadError};

@@ -4,8 +4,8 @@ ghost use Rattle.std.specs.Prelude.{◌≡◌};
 ghost use Rattle.token_reader.specs.Reader.{Reads};
 ghost use Rattle.expression_parser.specs.Expression as spec;
 
-use crate::operation::{ArgsOver, ExprOver, elems};
 use crate::access::{nest, variable_after};
+use crate::operation::{ArgsOver, ExprOver, elems};
 use estelle_tree::{Boxed, Factor, Kind, Name};
 use std::alloc::Global;
 use token_reader::{Cursor, Read, ReadError};

@@ -8,21 +8,18 @@ pub fn expr_laws()
     ensures sound { ExprIsSound }
     ensures complete { ExprIsComplete }
     ensures unique { ExprIsUnique }
-{
-}
+{}
 
 /// The same of lists of expressions.
 pub fn args_laws()
     ensures sound { ArgsAreSound }
     ensures complete { ArgsAreComplete }
     ensures unique { ArgsAreUnique }
-{
-}
+{}
 
 /// The same of variables.
 pub fn variable_laws()
     ensures sound { VariableIsSound }
     ensures complete { VariableIsComplete }
     ensures unique { VariableIsUnique }
-{
-}
+{}
