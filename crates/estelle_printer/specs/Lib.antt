@@ -1,0 +1,9 @@
+pub mod Canonical
+pub mod Terminals
+pub mod Forms
+pub mod TypeTokens
+pub mod ExpressionTokens
+pub mod StatementTokens
+pub mod DeclarationTokens
+pub mod ClauseTokens
+pub mod SpecificationTokens

@@ -1,0 +1,4 @@
+//! The canonical text of a specification.
+#![tactic(auto)]
+
+mod terminal;
