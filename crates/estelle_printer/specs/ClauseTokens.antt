@@ -2,6 +2,7 @@
 use Rattle.std.specs.Prelude.{List, [], ◌++◌, Option}
 use Rattle.std.specs.List.{flat_map}
 use Rattle.estelle_tree.specs.declared.kind.Kind.TheVariants as k
+use Rattle.estelle_tree.specs.declared.tree.name.NameList.{NameList}
 use Rattle.estelle_tree.specs.declared.tree.clause.Label.{Label}
 use Rattle.estelle_tree.specs.declared.tree.clause.Block.{Block}
 use Rattle.estelle_tree.specs.declared.tree.clause.AnyDom.{AnyDom}
@@ -42,16 +43,24 @@ abbrev pub delay_high_tokens : DelayHigh → Tokens
 delay_high_tokens (delay_high.Expr e) = expr e
 delay_high_tokens delay_high.Star = mark k.Star
 
+-- `["," (Expr | "*")]`
+abbrev pub may_be_high : Option DelayHigh → Tokens
+may_be_high = optional (λ h. mark k.Comma ++ delay_high_tokens h)
+
+-- `["(" Names ")"]`
+abbrev pub when_params : Option NameList → Tokens
+when_params = optional (λ ns. enclosed k.OpenParenthesis k.CloseParenthesis (names ns))
+
 -- Clause = from Names | to (NAME | same) | when NAME "." NAME ["(" Names ")"] | provided Expr
 --        | priority Const | any AnyDom {";" AnyDom} do | delay "(" Expr ["," (Expr | "*")] ")"
 abbrev pub clause_tokens : Clause → Tokens
 clause_tokens (clause.From states span) = mark k.From ++ names states
 clause_tokens (clause.To state span) = mark k.To ++ next_state_tokens state
-clause_tokens (clause.When ip interaction params span) = mark k.When ++ name ip ++ mark k.Dot ++ name interaction ++ optional (λ ns. enclosed k.OpenParenthesis k.CloseParenthesis (names ns)) params
+clause_tokens (clause.When ip interaction params span) = mark k.When ++ name ip ++ mark k.Dot ++ name interaction ++ when_params params
 clause_tokens (clause.Provided condition span) = mark k.Provided ++ expr condition
 clause_tokens (clause.Priority value span) = mark k.Priority ++ constant value
 clause_tokens (clause.Any domains span) = enclosed k.Any k.Do (separated k.Semicolon any_dom domains)
-clause_tokens (clause.Delay low high span) = mark k.Delay ++ enclosed k.OpenParenthesis k.CloseParenthesis (expr low ++ optional (λ h. mark k.Comma ++ delay_high_tokens h) high)
+clause_tokens (clause.Delay low high span) = mark k.Delay ++ enclosed k.OpenParenthesis k.CloseParenthesis (expr low ++ may_be_high high)
 
 -- TransBody = Block | {Group}+
 abbrev pub trans_body_layer : TransBody-F Tokens Tokens → Tokens

@@ -1,4 +1,5 @@
 pub mod Canonical
+pub mod Laws
 pub mod Terminals
 pub mod Forms
 pub mod TypeTokens
@@ -7,3 +8,4 @@ pub mod StatementTokens
 pub mod DeclarationTokens
 pub mod ClauseTokens
 pub mod SpecificationTokens
+pub mod Writing

@@ -2,6 +2,7 @@
 use Rattle.std.specs.Prelude.{List, [], ◌++◌, Option}
 use Rattle.std.specs.List.{flat_map}
 use Rattle.estelle_tree.specs.declared.kind.Kind.TheVariants as k
+use Rattle.estelle_tree.specs.declared.tree.name.Name.{Name}
 use Rattle.estelle_tree.specs.declared.tree.specification.Spec.{Spec}
 use Rattle.estelle_tree.specs.declared.tree.specification.SysAttr.{SysAttr}
 use Rattle.estelle_tree.specs.declared.tree.specification.SysAttr.TheVariants as sys_attr
@@ -27,7 +28,7 @@ use Rattle.estelle_tree.specs.declared.tree.specification.IpDecl.{IpDecl}
 use Rattle.estelle_tree.specs.declared.tree.specification.ModvarDecl.{ModvarDecl}
 use Rattle.estelle_tree.specs.declared.tree.specification.StatesetDef.{StatesetDef}
 use Rattle.estelle_tree.specs.declared.tree.specification.Body.{Body}
-use Rattle.estelle_printer.specs.Forms.{Tokens, mark, optional, each_behind, separated, lines, may_be_lines, enclosed}
+use Rattle.estelle_printer.specs.Forms.{Tokens, mark, optional, separated, lines, may_be_lines, enclosed}
 use Rattle.estelle_printer.specs.TypeTokens.{name, names, typed_names}
 use Rattle.estelle_printer.specs.DeclarationTokens.{const_def, type_def, routine}
 use Rattle.estelle_printer.specs.ClauseTokens.{block, trans_body}
@@ -69,13 +70,13 @@ may_be_params = optional (λ ps. enclosed k.OpenParenthesis k.CloseParenthesis (
 abbrev pub inter : Inter → Tokens
 inter x = name x.name ++ may_be_params x.params
 
--- `Names ":" {Inter ";"}+`
+-- `by Names ":" {Inter ";"}+`
 abbrev pub inter_group : InterGroup → Tokens
-inter_group g = names g.roles ++ mark k.Colon ++ lines inter g.inters
+inter_group g = mark k.By ++ names g.roles ++ mark k.Colon ++ lines inter g.inters
 
 -- Channel = channel NAME "(" NAME "," NAME ")" ";" {by Names ":" {Inter ";"}+}+
 abbrev pub channel : Channel → Tokens
-channel c = mark k.Channel ++ name c.name ++ enclosed k.OpenParenthesis k.CloseParenthesis (name c.first_role ++ mark k.Comma ++ name c.second_role) ++ mark k.Semicolon ++ each_behind k.By inter_group c.groups
+channel c = mark k.Channel ++ name c.name ++ enclosed k.OpenParenthesis k.CloseParenthesis (name c.first_role ++ mark k.Comma ++ name c.second_role) ++ mark k.Semicolon ++ flat_map inter_group c.groups
 
 -- IpDecl = Names ":" NAME "(" NAME ")" [Disc queue]
 abbrev pub ip_decl : IpDecl → Tokens
@@ -93,17 +94,25 @@ stateset_def s = name s.name ++ mark k.Equal ++ enclosed k.OpenBracket k.CloseBr
 abbrev pub header : Header → Tokens
 header h = mark k.Module ++ name h.name ++ optional attr_tokens h.attr ++ may_be_params h.params ++ mark k.Semicolon ++ may_be_lines k.Ip ip_decl h.ips ++ may_be_lines k.Export typed_names h.exports ++ mark k.End ++ mark k.Semicolon
 
+-- `[to NAME]`
+abbrev pub first_state : Option Name → Tokens
+first_state = optional (λ n. mark k.To ++ name n)
+
 -- Init = initialize [to NAME] Block
 abbrev pub init : Init → Tokens
-init x = mark k.Initialize ++ optional (λ n. mark k.To ++ name n) x.to ++ block x.block
+init x = mark k.Initialize ++ first_state x.to ++ block x.block
 
 -- `trans TransBody`
 abbrev pub trans : Trans → Tokens
 trans t = mark k.Trans ++ trans_body t.body
 
+-- `body NAME for NAME ";"`
+abbrev pub body_head : Name → Name → Tokens
+body_head n h = mark k.Body ++ name n ++ mark k.For ++ name h ++ mark k.Semicolon
+
 -- Body = body NAME for NAME ";" Parts end ";"
 abbrev pub body_layer : Body-F Tokens Tokens Tokens → Tokens
-body_layer b = mark k.Body ++ name b.name ++ mark k.For ++ name b.header ++ mark k.Semicolon ++ b.parts ++ mark k.End ++ mark k.Semicolon
+body_layer b = body_head b.name b.header ++ b.parts ++ mark k.End ++ mark k.Semicolon
 
 -- Decl = const {NAME "=" Const ";"}+ | type {NAME "=" Type ";"}+ | Channel | Header | Body
 --      | ip {IpDecl ";"}+ | modvar {Names ":" NAME ";"}+ | var {Names ":" Type ";"}+
