@@ -37,7 +37,7 @@ use Rattle.estelle_tree.specs.Spelling.{Spelling, Takes}
 use Rattle.estelle_tree.specs.Types.{IsNumber}
 use Rattle.estelle_tree.specs.Expressions.{IsExpr, IsFactor, IsFactorLayer, FactorBelow}
 use Rattle.estelle_tree.specs.Statements.{StmtBelow, IsStmtLayer}
-use Rattle.estelle_tree.specs.Clauses.{of_clause, IsBlock, TransBodyOf, TransBodyLayerOf, AreGroups, GroupOf, GroupWithin, IsTransBody, Follows, holds_block_layer}
+use Rattle.estelle_tree.specs.Clauses.{stands, of_clause, IsBlock, TransBodyOf, TransBodyLayerOf, AreGroups, GroupOf, GroupWithin, IsTransBody, Follows, holds_block_layer}
 use Rattle.estelle_tree.specs.Specification.{IsParts}
 use Rattle.estelle_tree.specs.Spells.{Spells, IsToken, max_nesting}
 
@@ -284,7 +284,7 @@ module _ (room : ℕ) (G : List Kind → Spelling Group) where
   groups_body way i j gs h = subst (λ l. TransBodyLayerOf room G way l i j) (sym (outs-Groups gs (between i j))) (h, refl)
 
 first_is : (room : ℕ) (G : List Kind → Spelling Group) → GroupOf (suc room) G (k.From ∷ []) first (r 2) (r 7)
-unfolding kind kind_of_word next start token_at between
+unfolding kind kind_of_word next start token_at between stands
 first_is room G = record {
   mid = r 4;
   fresh = refl;
@@ -294,7 +294,7 @@ first_is room G = record {
 }
 
 second_is : (room : ℕ) (G : List Kind → Spelling Group) → GroupOf (suc room) G (k.From ∷ []) second (r 7) (r 12)
-unfolding kind kind_of_word next start token_at between
+unfolding kind kind_of_word next start token_at between stands
 second_is room G = record {
   mid = r 9;
   fresh = refl;
@@ -304,7 +304,7 @@ second_is room G = record {
 }
 
 both_are : (room : ℕ) → IsTransBody (suc room) (trans_body.Groups (both ∷ []) (at 0 50)) (r 0) (r 12)
-unfolding kind kind_of_word next start token_at between
+unfolding kind kind_of_word next start token_at between stands
 both_are room = groups_body (suc room) (GroupWithin (suc room) 7) [] (r 0) (r 12) (both ∷ []) (r 12, one, refl)
   where
     inside : AreGroups (suc room) (GroupWithin (suc room) 6) (k.From ∷ []) (first ∷ second ∷ []) (r 2) (r 12)
@@ -320,6 +320,7 @@ both_are room = groups_body (suc room) (GroupWithin (suc room) 7) [] (r 0) (r 12
     }
 
 not_apart : (room : ℕ) (G : List Kind → Spelling Group) (i j : Input) → AreGroups room G [] apart i j → ⊥
+unfolding stands
 not_apart room G i j h = neither h.2.0
   where
     neither : Follows [] (group from_a (trans_body.Groups (first ∷ []) (at 7 28)) (at 0 28)) second → ⊥
@@ -330,11 +331,13 @@ not_apart room G i j h = neither h.2.0
 -- the last clause comes after an open group of its own kind: that is beside it, since `to` stands on its way
 beside : (provided : List Group) (b c : Clause) (y : TransBody) (l m n : Span) → of_clause b ≡ k.To → of_clause c ≡ k.To
     → Follows (k.From ∷ []) (group b (trans_body.Groups provided l) m) (group c y n)
+unfolding stands
 beside provided b c y l m n b_is c_is = inr (rw b_is (rw c_is refl))
 
 -- from a to b provided p begin end; provided q begin end; priority 1 begin end;
 -- but a clause of a kind that does not stand there goes on inside it
 inside_only : (provided : List Group) (b c : Clause) (y : TransBody) (l m n : Span) → of_clause b ≡ k.To → of_clause c ≡ k.Priority
     → Follows (k.From ∷ []) (group b (trans_body.Groups provided l) m) (group c y n) → ⊥
+unfolding stands
 inside_only provided b c y l m n b_is c_is (inl closed) = let no : false ≡ true = sym (ap holds_block_layer (outs-Groups provided l)) ∙ closed in absurd (cc)
 inside_only provided b c y l m n b_is c_is (inr on_way) = let no : false ≡ true = rw b_is at (rw c_is at on_way) in absurd (cc)

@@ -26,6 +26,7 @@ pub data OpenIn : List Kind → Group → List Kind → Type 0 where
 
 -- the ways of the groups inside go on from that of the group round them
 stays : (x : Kind) (way : List Kind) (g : Group) (w : List Kind) → OpenIn way g w → stands x way ≡ true → stands x w ≡ true
+unfolding stands
 stays x way g w (itself way' g' open_) on = more (sameb the_type x (of_clause (out-Group g').clause)) on
   where
     more : (b : Bool) → stands x way' ≡ true → (b || stands x way') ≡ true

@@ -118,7 +118,7 @@ abbrev pub clause_kinds : List Kind
 clause_kinds = k.From ∷ k.To ∷ k.When ∷ k.Provided ∷ k.Priority ∷ k.Any ∷ k.Delay ∷ []
 
 -- whether a kind stands among these
-abbrev pub stands : Kind → List Kind → Bool
+unfoldable pub stands : Kind → List Kind → Bool
 stands x [] = false
 stands x (y ∷ ys) = sameb the_type x y || stands x ys
 

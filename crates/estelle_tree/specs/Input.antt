@@ -1,5 +1,5 @@
 -- A place in a list of tokens.
-use Rattle.std.specs.Prelude.{ℕ, if◌then◌else◌, ◌==◌, List, [], ◌∷◌, length, Option, Some, None}
+use Rattle.std.specs.Prelude.{ℕ, zero, suc, if◌then◌else◌, ◌==◌, List, [], ◌∷◌, length, Option, Some, None}
 use Rattle.estelle_tree.specs.declared.span.Span.{Span}
 use Rattle.estelle_tree.specs.declared.token.Token.{Token}
 use Rattle.estelle_tree.specs.declared.token.Placed.{Placed}
@@ -45,6 +45,11 @@ start i = first_start i.end i.tokens
 
 unfoldable pub next : Input → Input
 next i = after_first i.end i.tokens
+
+-- the place after so many tokens
+abbrev pub skip : ℕ → Input → Input
+skip zero i = i
+skip (suc n) i = skip n (next i)
 
 -- how many tokens come
 unfoldable pub left : Input → ℕ

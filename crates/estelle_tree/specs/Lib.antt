@@ -9,3 +9,11 @@ pub mod Declarations
 pub mod Clauses
 pub mod Specification
 pub mod Spells
+pub mod Lexed
+pub mod Beginning
+pub mod BeginsTypes
+pub mod BeginsExpressions
+pub mod BeginsStatements
+pub mod BeginsDeclarations
+pub mod BeginsClauses
+pub mod BeginsSpecification

@@ -3,6 +3,7 @@
 
 mod flat;
 mod kind;
+mod laws;
 mod link;
 mod names;
 mod path;
@@ -15,6 +16,7 @@ mod word;
 pub use estelle_lists::{Boxed, Items, Sequence};
 pub use flat::{Flat, FlatTrans, Limit};
 pub use kind::{Kind, RESERVED, is_identifier, kind_of};
+pub use laws::prefixes_begin;
 pub use link::{IpAddr, Link, LinkKind};
 pub use names::{Names, Use};
 pub use path::Path;

@@ -1,0 +1,103 @@
+//! One call of the program, over devices in memory.
+
+use estelle_cli::{Status, estelle_plain};
+use outside::{MemorySink, MemorySource, VirtualClock};
+use std::alloc::{AllocError, Global};
+
+/// How a device moves bytes.
+#[derive(Clone, Copy)]
+pub struct Device {
+    /// How many bytes a call moves at most. None is taken as one.
+    pub piece: usize,
+    /// Which of its calls fails, counted from 1. None is 0.
+    pub fails: u64,
+}
+
+/// A device that moves much at a time and never fails.
+pub const STEADY: Device = Device {
+    piece: 1_000_000,
+    fails: 0,
+};
+
+#[derive(Clone, Copy)]
+pub struct Devices {
+    pub source: Device,
+    pub out: Device,
+    pub err: Device,
+}
+
+pub const ALL_STEADY: Devices = Devices {
+    source: STEADY,
+    out: STEADY,
+    err: STEADY,
+};
+
+/// How many bytes out has room for.
+const OUT_ROOM: usize = 400_000;
+
+/// How many bytes err has room for.
+const ERR_ROOM: usize = 100;
+
+/// What a call answered, and what the devices are after it.
+#[derive(Drop)]
+pub struct Answer {
+    pub status: Status,
+    pub out: Vec<u8>,
+    pub err: Vec<u8>,
+    /// How many bytes of the input were read.
+    pub bytes_read: usize,
+    pub source_calls: u64,
+    pub out_calls: u64,
+    pub moment: u64,
+}
+
+fn source(alloc: Global, device: Device, input: &[u8]) -> Result<MemorySource, AllocError> {
+    Ok(MemorySource {
+        bytes: input.to_vec(alloc)?,
+        at: 0,
+        piece: device.piece.max(1),
+        failing: vec![in alloc; device.fails]?,
+        calls: 0,
+        faults: 0,
+    })
+}
+
+fn sink(alloc: Global, device: Device, room: usize) -> Result<MemorySink, AllocError> {
+    let held = Vec::with_capacity(alloc, room)?;
+    Ok(MemorySink {
+        held,
+        piece: device.piece.max(1),
+        failing: vec![in alloc; device.fails]?,
+        calls: 0,
+        room,
+        faults: 0,
+    })
+}
+
+/// Calls the program with these words on this input.
+pub fn call(
+    alloc: Global,
+    words: &[&str],
+    devices: Devices,
+    input: &[u8],
+) -> Result<Answer, AllocError> {
+    let mut source = source(alloc, devices.source, input)?;
+    let mut out = sink(alloc, devices.out, OUT_ROOM)?;
+    let mut err = sink(alloc, devices.err, ERR_ROOM)?;
+    let clock = VirtualClock { moment: 7 };
+    let (status, clock) = estelle_plain(alloc, words, &mut source, &mut out, &mut err, clock);
+    Ok(Answer {
+        status,
+        out: out.held,
+        err: err.held,
+        bytes_read: source.at,
+        source_calls: source.calls,
+        out_calls: out.calls,
+        moment: clock.moment,
+    })
+}
+
+/// Calls it with the word `run`.
+pub fn run(alloc: Global, devices: Devices, input: &[u8]) -> Result<Answer, AllocError> {
+    call(alloc, &["run"], devices, input)
+}

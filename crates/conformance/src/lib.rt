@@ -1,0 +1,19 @@
+//! Tests alone: what whole calls of the program write and answer, on worked specifications and on
+//! devices that fail.
+//!
+//! It stands on `estelle_cli` and the devices in memory. The wanted texts are written by hand, or
+//! built by a loop of the test's own.
+#![tactic(auto)]
+
+#[cfg(test)]
+mod calls;
+#[cfg(test)]
+mod faults;
+#[cfg(test)]
+mod forms;
+#[cfg(test)]
+mod memory;
+#[cfg(test)]
+mod rows;
+#[cfg(test)]
+mod texts;

@@ -1,0 +1,210 @@
+//! Worked calls with all that they write.
+
+use crate::calls::{ALL_STEADY, Device, Devices, STEADY, call, run};
+use crate::texts::{COUNTER, COUNTER_TRACE, OVERFLOW_TRACE, OVERFLOWING, TURNS, filled, trace};
+use estelle_cli::{Command, Settings, Status, settings};
+use std::test::Fail;
+
+/// It reads its variable before there is a value.
+const UNSET: &str = "specification count systemprocess;
+var n: integer;
+state go;
+initialize to go begin n := n + 1 end;
+trans
+from go to go provided n < 3 name tick: begin n := n + 1 end;
+end.
+";
+
+const UNSET_TRACE: &str = "estelle trace 1
+fault / 0 Unset
+end fault Unset
+";
+
+/// It counts on beyond the limit of firings.
+const LONG: &str = "specification count systemprocess;
+var n: integer;
+state go;
+initialize to go begin n := 0 end;
+trans
+from go to go provided n < 20000 name tick: begin n := n + 1 end;
+end.
+";
+
+const NOT_BUILT: &str = "estelle: form not built\n";
+
+const TOO_LONG: &str = "estelle: too long\n";
+
+const UNSET_LINE: &str = "estelle: fault Unset\n";
+
+const OVERFLOW_LINE: &str = "estelle: fault Overflow\n";
+
+/// The name of a row; the words and the input; what out and err then hold, and the status.
+type Row = (
+    &'static str,
+    &'static [&'static str],
+    &'static str,
+    &'static str,
+    &'static str,
+    Status,
+);
+
+const ROWS: [Row; 4] = [
+    (
+        "counter",
+        &["run"],
+        COUNTER,
+        COUNTER_TRACE,
+        "",
+        Status::Done,
+    ),
+    (
+        "overflow",
+        &["run"],
+        OVERFLOWING,
+        OVERFLOW_TRACE,
+        OVERFLOW_LINE,
+        Status::PascalFault,
+    ),
+    (
+        "unset",
+        &["run"],
+        UNSET,
+        UNSET_TRACE,
+        UNSET_LINE,
+        Status::PascalFault,
+    ),
+    ("empty", &["run"], "", "", NOT_BUILT, Status::Refused),
+];
+
+/// Words that have no meaning.
+const MEANINGLESS: [&[&str]; 8] = [
+    &[],
+    &[""],
+    &["Run"],
+    &["run "],
+    &["check"],
+    &["--help"],
+    &["run", "run"],
+    &["run", "--turns=1"],
+];
+
+/// The name of a row; a text, and how long it is with blanks behind it; how many bytes of that are read; what
+/// out and err then hold, and the status.
+const LENGTHS: [(&str, &str, usize, usize, &str, &str, Status); 4] = [
+    (
+        "longest",
+        COUNTER,
+        1_048_576,
+        1_048_576,
+        COUNTER_TRACE,
+        "",
+        Status::Done,
+    ),
+    (
+        "longest, no specification",
+        "x",
+        1_048_576,
+        1_048_576,
+        "",
+        NOT_BUILT,
+        Status::Refused,
+    ),
+    (
+        "one byte more",
+        COUNTER,
+        1_048_577,
+        1_048_577,
+        "",
+        TOO_LONG,
+        Status::Refused,
+    ),
+    (
+        "far more, no specification",
+        "x",
+        1_060_000,
+        1_048_577,
+        "",
+        TOO_LONG,
+        Status::Refused,
+    ),
+];
+
+const CODES: [(Status, u8); 8] = [
+    (Status::Done, 0),
+    (Status::Refused, 1),
+    (Status::Usage, 2),
+    (Status::ReadFault, 3),
+    (Status::WriteFault, 4),
+    (Status::ClockFault, 5),
+    (Status::Memory, 6),
+    (Status::PascalFault, 7),
+];
+
+// What the definitions of runs and of traces say in full: a mistake that the definitions and the code have both.
+#[test]
+fn worked_runs(rt: HostRuntime) -> Result<(), Fail> {
+    for (name, words, input, out, err, status) in &ROWS {
+        let answer = call(rt.alloc(), words, ALL_STEADY, input.as_bytes())?;
+        assert_eq!(rt; answer.status, *status, "{name}");
+        assert_eq!(rt; answer.out.as_slice(), out.as_bytes(), "{name}");
+        assert_eq!(rt; answer.err.as_slice(), err.as_bytes(), "{name}");
+        assert_eq!(rt; answer.bytes_read, input.len(), "{name}");
+        assert_eq!(rt; answer.moment, 7, "{name}");
+    }
+    let answer = run(rt.alloc(), ALL_STEADY, LONG.as_bytes())?;
+    assert_eq!(rt; answer.status, Status::Done);
+    assert!(rt; answer.out == trace(rt.alloc(), 10_000, TURNS)?);
+    assert_eq!(rt; answer.err.len(), 0);
+    Ok(())
+}
+
+// Which words have a meaning; and that the words are looked at before the source is called.
+#[test]
+fn meaningless_words(rt: HostRuntime) -> Result<(), Fail> {
+    let source = Device { fails: 1, ..STEADY };
+    let devices = Devices {
+        source,
+        ..ALL_STEADY
+    };
+    for words in &MEANINGLESS {
+        let answer = call(rt.alloc(), words, devices, COUNTER.as_bytes())?;
+        assert_eq!(rt; answer.status, Status::Usage);
+        assert_eq!(rt; answer.out.len(), 0);
+        assert_eq!(rt; answer.err.as_slice(), b"estelle: usage\n".as_slice());
+        assert_eq!(rt; answer.bytes_read, 0);
+        assert_eq!(rt; answer.source_calls, 0);
+        assert_eq!(rt; answer.out_calls, 0);
+    }
+    Ok(())
+}
+
+// The meaning of `run`, and the numbers of the statuses.
+#[test]
+fn settings_and_codes(rt: HostRuntime) {
+    let meant = Settings {
+        command: Command::Run,
+        turns: 10_000,
+        budget: 1_000_000,
+    };
+    assert_eq!(rt; settings(&["run"]), Some(meant));
+    assert_eq!(rt; meant.limits().turns, 10_000);
+    assert_eq!(rt; meant.limits().budget, 1_000_000);
+    for (status, code) in &CODES {
+        assert_eq!(rt; status.code(), *code);
+    }
+}
+
+// The longest input, to the byte; the length is looked at before the text; and no more than one byte
+// beyond the limit is read.
+#[test]
+fn lengths(rt: HostRuntime) -> Result<(), Fail> {
+    for (name, text, length, read, out, err, status) in &LENGTHS {
+        let input = filled(rt.alloc(), text, *length)?;
+        let answer = run(rt.alloc(), ALL_STEADY, &input)?;
+        assert_eq!(rt; answer.status, *status, "{name}");
+        assert_eq!(rt; answer.out.as_slice(), out.as_bytes(), "{name}");
+        assert_eq!(rt; answer.err.as_slice(), err.as_bytes(), "{name}");
+        assert_eq!(rt; answer.bytes_read, *read, "{name}");
+    }
+    Ok(())
+}

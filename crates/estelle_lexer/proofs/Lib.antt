@@ -1,0 +1,5 @@
+pub mod Fronts
+pub mod Lexes
+pub mod Turns
+pub mod Answers
+pub mod Blanks

@@ -1,0 +1,5 @@
+pub mod Front
+pub mod Lex
+pub mod Tokens
+pub mod Place
+pub mod Blank

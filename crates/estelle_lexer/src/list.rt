@@ -1,0 +1,18 @@
+ghost use Rattle.std.specs.Prelude.{◌≡◌};
+
+use estelle_tree::{Items, Placed};
+
+/// The tokens of a text in order, and the place after the `.` that follows `end`, or the text's length.
+#[derive(Debug, Drop)]
+pub struct Tokens {
+    pub items: Items<Placed>,
+    pub rest: u32,
+}
+
+impl Tokens {
+    pub fn items(&self) -> &[Placed]
+        ensures { result.now ≡ self.now.items }
+    {
+        self.items.as_slice()
+    }
+}

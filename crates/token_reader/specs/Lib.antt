@@ -1,0 +1,4 @@
+pub mod Cursor
+pub mod Reader
+pub mod Lists
+pub mod Nests

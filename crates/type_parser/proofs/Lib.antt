@@ -1,0 +1,5 @@
+pub mod Begin
+pub mod Sound
+pub mod Complete
+pub mod Definitions
+pub mod AtMostOne
