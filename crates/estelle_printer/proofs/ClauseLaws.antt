@@ -30,7 +30,7 @@ use Rattle.estelle_printer.specs.DeclarationTokens.{block_decl_tokens}
 use Rattle.estelle_printer.specs.ClauseTokens.{label, block, any_dom, next_state_tokens, delay_high_tokens, may_be_high, when_params, clause_tokens, trans_body_layer, trans_body, group}
 use Rattle.estelle_printer.proofs.WritingLemmas.{chain_map}
 use Rattle.estelle_printer.proofs.FormLaws.{Stand, ◌⋯◌, none, same_tokens, regrouped, takes, Tells, behind, chained, may_be, separate, enclosed_in, joined}
-use Rattle.estelle_printer.proofs.TypeLaws.{name_tells, names_tells, constant_tells, ordinal_tells}
+use Rattle.estelle_printer.proofs.TypeLaws.{name_tells, names_dot, names_tells, constant_tells, ordinal_tells}
 use Rattle.estelle_printer.proofs.ExpressionLaws.{is_expr_tells}
 use Rattle.estelle_printer.proofs.DeclarationLaws.{block_decl_tells, statement_part_tells}
 use Rattle.estelle_printer.proofs.ClauseEquations.{trans_body_is, group_is}
@@ -61,7 +61,7 @@ module _ (room : ℕ) where
   clause_tells (clause.From states span) i j h = behind IsNames names names_tells k.From refl states i j h.0
   clause_tells (clause.To state span) i j h = behind IsNextState next_state_tokens next_state_tells k.To refl state i j h.0
   clause_tells (clause.When ip interaction params span) i j h = regrouped (takes k.When i h.0.at refl h.0.word
-      ⋯ joined IsName IsName name name k.Dot refl name_tells name_tells ip interaction h.0.at h.0.mid h.0.names
+      ⋯ names_dot ip interaction h.0.at h.0.mid h.0.names
       ⋯ may_be (Enclosed k.OpenParenthesis k.CloseParenthesis IsNames) (λ ns. enclosed k.OpenParenthesis k.CloseParenthesis (names ns)) (enclosed_in IsNames names names_tells k.OpenParenthesis k.CloseParenthesis refl refl) params h.0.mid j h.0.params) (simp append_assoc)
   clause_tells (clause.Provided condition span) i j h = behind (IsExpr room) expr (is_expr_tells room) k.Provided refl condition i j h.0
   clause_tells (clause.Priority value span) i j h = behind IsConst constant constant_tells k.Priority refl value i j h.0

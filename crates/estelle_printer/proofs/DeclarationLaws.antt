@@ -21,7 +21,7 @@ use Rattle.estelle_printer.specs.Forms.{Tokens, mark, flag, optional, separated,
 use Rattle.estelle_printer.specs.TypeTokens.{name, names, constant, type_expr, typed_names}
 use Rattle.estelle_printer.specs.StatementTokens.{stmts}
 use Rattle.estelle_printer.specs.DeclarationTokens.{const_def, type_def, block_decl_tokens, statement_part, formal, formals, routine_kind, result_type, routine}
-use Rattle.estelle_printer.proofs.TerminalLaws.{has_one}
+use Rattle.estelle_printer.proofs.TerminalLaws.{is_plain}
 use Rattle.estelle_printer.proofs.FormLaws.{Stand, ◌⋯◌, none, same_tokens, regrouped, takes, Tells, flagged, behind, chained, may_be, ended, in_lines, separate, enclosed_in, joined}
 use Rattle.estelle_printer.proofs.TypeLaws.{name_tells, names_tells, constant_tells, type_tells, typed_names_tells}
 use Rattle.estelle_printer.proofs.StatementLaws.{stmts_of_tells, stmt_below_tells}
@@ -55,7 +55,7 @@ result_tells : (room : ℕ) → Tells (IsResult room) result_type
 result_tells room form.Procedure i j h = none h
 result_tells room (form.Function result) i j h = behind IsName name name_tells k.Colon refl result i j h
 
-form_one : (room : ℕ) (f : RoutineForm) → has_one (of_form room f) ≡ true
+form_one : (room : ℕ) (f : RoutineForm) → is_plain (of_form room f) ≡ true
 form_one room form.Procedure = refl
 form_one room (form.Function result) = refl
 

@@ -13,3 +13,5 @@ pub mod DeclarationLaws
 pub mod ClauseLaws
 pub mod SpecificationLaws
 pub mod LoopLaws
+pub mod LexemeLaws
+pub mod LexingLaws

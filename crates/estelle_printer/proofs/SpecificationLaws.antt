@@ -1,5 +1,5 @@
 -- Which tokens channels, headers, bodies and a specification spell.
-use Rattle.std.proofs.Common.{◌≡◌, ℕ, zero, suc, Bool, true, List, [], ◌∷◌, ◌++◌, refl, sym, ap, ◌∙◌, Option, append_assoc, append-nil}
+use Rattle.std.proofs.Common.{◌≡◌, ℕ, zero, suc, Bool, true, false, List, [], ◌∷◌, ◌++◌, refl, sym, ap, ◌∙◌, Option, append_assoc, append-nil}
 use Rattle.std.specs.List.{flat_map}
 use Rattle.estelle_tree.specs.declared.token.Placed.{Placed}
 use Rattle.estelle_tree.specs.declared.kind.Kind.TheVariants as k
@@ -40,8 +40,8 @@ use Rattle.estelle_printer.specs.Forms.{Tokens, mark, optional, separated, lines
 use Rattle.estelle_printer.specs.TypeTokens.{name, names, typed_names}
 use Rattle.estelle_printer.specs.DeclarationTokens.{const_def, type_def, routine}
 use Rattle.estelle_printer.specs.ClauseTokens.{block, trans_body}
-use Rattle.estelle_printer.specs.SpecificationTokens.{sys_attr_tokens, attr_tokens, queue, head_tokens, param_group, params, may_be_params, inter, inter_group, channel, ip_decl, modvar_decl, stateset_def, header, first_state, init, trans, decl_layer, decl, body, parts, specification}
-use Rattle.estelle_printer.proofs.FormLaws.{Stand, ◌⋯◌, none, same_tokens, regrouped, takes, Tells, behind, chained, may_be, several, in_lines, may_be_in_lines, separate, enclosed_in, joined}
+use Rattle.estelle_printer.specs.SpecificationTokens.{sys_attr_tokens, attr_tokens, queue, head_tokens, param_group, params, may_be_params, inter, inter_group, channel, ip_decl, modvar_decl, stateset_def, header, first_state, init, trans, decl_layer, decl, body, parts, before_dot, specification}
+use Rattle.estelle_printer.proofs.FormLaws.{Stand, ◌⋯◌, is_calm, follow, terminal_taken, none, same_tokens, regrouped, takes, Tells, behind, chained, may_be, several, in_lines, may_be_in_lines, separate, enclosed_in, joined}
 use Rattle.estelle_printer.proofs.TypeLaws.{name_tells, names_tells}
 use Rattle.estelle_printer.proofs.DeclarationLaws.{const_def_tells, type_def_tells, vars_tells, routine_tells}
 use Rattle.estelle_printer.proofs.ClauseLaws.{block_tells, trans_body_tells}
@@ -157,18 +157,25 @@ parts_below_tells : (room : ℕ) → Tells (PartsBelow room) parts
 parts_below_tells zero ps i j h = absurd h
 parts_below_tells (suc room) ps i j h = parts_of_tells room (PartsBelow room) (parts_below_tells room) ps i j h
 
-spec_tells : (room : ℕ) → Tells (IsSpec room) specification
-spec_tells room s i j h = regrouped (behind IsName name name_tells k.Specification refl s.name i h.after_name h.name
+before_dot_tells : (room : ℕ) (s : Spec) (i j : Input) (h : IsSpec room s i j) → Stand (before_dot s) i h.after_end
+before_dot_tells room s i j h = regrouped
+    (behind IsName name name_tells k.Specification refl s.name i h.after_name h.name
     ⋯ may_be IsSysAttr sys_attr_tokens sys_attr_tells s.attr h.after_name h.after_attr h.attr
     ⋯ takes k.Semicolon h.after_attr h.after_head refl h.semicolon
     ⋯ chained IsHead head_tokens head_tells s.heads h.after_head h.after_heads h.heads.heads
     ⋯ parts_below_tells (suc room) s.parts h.after_heads h.after_parts h.parts
-    ⋯ takes k.End h.after_parts h.after_end refl h.ends
-    ⋯ takes k.Dot h.after_end j refl h.dot) (simp append_assoc)
+    ⋯ takes k.End h.after_parts h.after_end refl h.ends) (simp append_assoc)
 
 -- the tokens that a tree spells are those of the tree
 pub spells_tokens : (s : Spec) (tokens : List Placed) → Spells s tokens → bare tokens ≡ specification s
-spells_tokens s tokens h = (spec_tells max_nesting s (input tokens 0) (input [] h.end) h.whole).is ∙ append-nil (specification s)
+spells_tokens s tokens h =
+    let i = input tokens 0 in
+    let j = input [] h.end in
+    follow (before_dot s) (mark k.Dot) i h.whole.after_end j (before_dot_tells max_nesting s i j h.whole).is (terminal_taken k.Dot h.whole.after_end j refl h.whole.dot) ∙ append-nil (specification s)
+
+-- in them no `.` stands behind the word `end` but the last
+pub spells_calm : (s : Spec) (tokens : List Placed) → Spells s tokens → is_calm false (before_dot s) ≡ true
+spells_calm s tokens h = (before_dot_tells max_nesting s (input tokens 0) (input [] h.end) h.whole).calm false
 
 pub canonical_of : (s : Spec) (text : List ℕ) → text ≡ canonical (specification s) → IsCanonicalText s text
 canonical_of s text e tokens h = e ∙ ap canonical (sym (spells_tokens s tokens h))

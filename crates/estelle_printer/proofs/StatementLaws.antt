@@ -14,7 +14,7 @@ use Rattle.estelle_tree.specs.declared.tree.statement.Stmts.{Stmts, out-Stmts}
 use Rattle.estelle_tree.specs.declared.tree.statement.Case.{Case, out-Case}
 use Rattle.estelle_tree.specs.Input.{Input}
 use Rattle.estelle_tree.specs.Spans.{StmtLayer}
-use Rattle.estelle_tree.specs.Spelling.{Spelling, Behind, Joined, Separated, Enclosed}
+use Rattle.estelle_tree.specs.Spelling.{Spelling, Optional, Behind, Joined, Separated, Enclosed}
 use Rattle.estelle_tree.specs.Types.{IsName, IsConst}
 use Rattle.estelle_tree.specs.Expressions.{IsExpr, IsArgs, IsVariable, ExprBelow}
 use Rattle.estelle_tree.specs.Statements.{IsIp, MayBeArgs, of_direction, StmtsOf, CaseOf, IsIf, IsChoice, IsStmtLayer, StmtBelow}
@@ -22,24 +22,28 @@ use Rattle.estelle_printer.specs.Forms.{Tokens, mark, flag, optional, separated,
 use Rattle.estelle_printer.specs.TypeTokens.{name, constant}
 use Rattle.estelle_printer.specs.ExpressionTokens.{expr, args, variable}
 use Rattle.estelle_printer.specs.StatementTokens.{ip, may_be_args, stmt_layer, stmt, case_, stmts}
-use Rattle.estelle_printer.proofs.TerminalLaws.{has_one}
+use Rattle.estelle_printer.proofs.TerminalLaws.{is_plain}
 use Rattle.estelle_printer.proofs.WritingLemmas.{separated_map}
 use Rattle.estelle_printer.proofs.FormLaws.{Stand, ◌⋯◌, none, same_tokens, regrouped, takes, Tells, flagged, behind, may_be, separate, enclosed_in, joined}
-use Rattle.estelle_printer.proofs.TypeLaws.{name_tells, constant_tells}
+use Rattle.estelle_printer.proofs.TypeLaws.{name_tells, constant_tells, behind_name, dot_name, names_dot}
 use Rattle.estelle_printer.proofs.ExpressionLaws.{expr_below_tells, is_expr_tells, is_args_tells, is_variable_tells}
 use Rattle.estelle_printer.proofs.StatementEquations.{stmt_is, case_is, stmts_is}
 
 ip_tells : Tells IsIp ip
-ip_tells p i j h = name_tells p.name i h.mid h.name ⋯ may_be (Behind k.Dot IsName) (λ part. mark k.Dot ++ name part) (behind IsName name name_tells k.Dot refl) p.part h.mid j h.part
+ip_tells p i j h = go p.part h.part
+  where
+    go : (part : Option Name) → Optional (Behind k.Dot IsName) part h.mid j → Stand (name p.name ++ optional (λ n. mark k.Dot ++ name n) part) i j
+    go None e = name_tells p.name i h.mid h.name ⋯ none e
+    go (Some n) e = behind_name p.name (mark k.Dot ++ name n) i h.mid j h.name (dot_name n h.mid e.at j e.mark e.item) refl
 
-direction_one : (d : Direction) → has_one (of_direction d) ≡ true
+direction_one : (d : Direction) → is_plain (of_direction d) ≡ true
 direction_one direction_of.To = refl
 direction_one direction_of.Downto = refl
 
 may_be_args_tells : (room : ℕ) → Tells (MayBeArgs room) may_be_args
 may_be_args_tells room = may_be (Enclosed k.OpenParenthesis k.CloseParenthesis (IsArgs room)) (λ a. enclosed k.OpenParenthesis k.CloseParenthesis (args a)) (enclosed_in (IsArgs room) args (is_args_tells room) k.OpenParenthesis k.CloseParenthesis refl refl)
 
-names_joined : (k' : Kind) → has_one k' ≡ true → (a b : Name) (i j : Input) → Joined k' IsName IsName a b i j → Stand (name a ++ mark k' ++ name b) i j
+names_joined : (k' : Kind) → is_plain k' ≡ true → (a b : Name) (i j : Input) → Joined k' IsName IsName a b i j → Stand (name a ++ mark k' ++ name b) i j
 names_joined k' one a b i j h = joined IsName IsName name name k' one name_tells name_tells a b i j h
 
 module _ (room : ℕ) (S : Bool → Spelling Stmt) (tells : (whole : Bool) → Tells (S whole) stmt) where
@@ -80,9 +84,9 @@ module _ (room : ℕ) (S : Bool → Spelling Stmt) (tells : (whole : Bool) → T
   stmt_layer_tells whole (Stmt-F.Connect first second span) i j h = regrouped (takes k.Connect i h.0.at refl h.0.word ⋯ joined IsIp IsIp ip ip k.To refl ip_tells ip_tells first second h.0.at j h.0.ips) (simp append_assoc)
   stmt_layer_tells whole (Stmt-F.Disconnect p span) i j h = behind IsIp ip ip_tells k.Disconnect refl p i j h.0
   stmt_layer_tells whole (Stmt-F.Attach own modvar p span) i j h =
-      regrouped (takes k.Attach i h.0.at refl h.0.word ⋯ name_tells own h.0.at h.0.mid h.0.own ⋯ takes k.To h.0.mid h.0.after refl h.0.to ⋯ names_joined k.Dot refl modvar p h.0.after j h.0.lower) (simp append_assoc)
+      regrouped (takes k.Attach i h.0.at refl h.0.word ⋯ name_tells own h.0.at h.0.mid h.0.own ⋯ takes k.To h.0.mid h.0.after refl h.0.to ⋯ names_dot modvar p h.0.after j h.0.lower) (simp append_assoc)
   stmt_layer_tells whole (Stmt-F.Detach own span) i j h = behind IsName name name_tells k.Detach refl own i j h.0
-  stmt_layer_tells whole (Stmt-F.Output p interaction a span) i j h = regrouped (takes k.Output i h.0.at refl h.0.word ⋯ names_joined k.Dot refl p interaction h.0.at h.0.mid h.0.names ⋯ may_be_args_tells room a h.0.mid j h.0.args) (simp append_assoc)
+  stmt_layer_tells whole (Stmt-F.Output p interaction a span) i j h = regrouped (takes k.Output i h.0.at refl h.0.word ⋯ names_dot p interaction h.0.at h.0.mid h.0.names ⋯ may_be_args_tells room a h.0.mid j h.0.args) (simp append_assoc)
 
 pub stmt_below_tells : (room : ℕ) (whole : Bool) → Tells (StmtBelow room whole) stmt
 stmt_below_tells zero whole s i j h = absurd h

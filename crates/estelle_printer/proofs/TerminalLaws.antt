@@ -12,6 +12,7 @@ use Rattle.estelle_tree.specs.declared.kind.Kind.{Kind}
 use Rattle.estelle_tree.specs.declared.kind.Kind.TheVariants as k
 use Rattle.estelle_tree.specs.declared.kind.TheConstants.{RESERVED}
 use Rattle.estelle_tree.specs.Kind.{kind_of, kind_of_word, kind_of_symbol, lookup}
+use Rattle.estelle_tree.specs.Lexed.{is_dot}
 use Rattle.estelle_printer.specs.Terminals.{terminal}
 
 -- whether the terminal has but one token
@@ -21,6 +22,26 @@ has_one k.Number = false
 has_one k.Char = false
 has_one k.Nothing = false
 has_one _ = true
+
+-- and is not the dot
+abbrev pub is_plain : Kind → Bool
+is_plain k.Dot = false
+is_plain k.Name = false
+is_plain k.Number = false
+is_plain k.Char = false
+is_plain k.Nothing = false
+is_plain _ = true
+
+pub plain_one : (k : Kind) → is_plain k ≡ true → has_one k ≡ true
+plain_one k.Name e = absurd (cc)
+plain_one k.Number e = absurd (cc)
+plain_one k.Char e = absurd (cc)
+plain_one k.Nothing e = absurd (cc)
+plain_one _ e = refl
+
+pub plain_no_dot : (k : Kind) → is_plain k ≡ true → is_dot (terminal k) ≡ false
+plain_no_dot k.Dot e = absurd (cc)
+plain_no_dot _ e = refl
 
 -- the table agrees with the tokens
 abbrev Agrees : List ℕ × Kind → Type 0

@@ -65,7 +65,8 @@ appended : (text : List ℕ) (t : Token) (rest : List ℕ) → text ++ (written 
 unfolding put
 appended text t rest = simp append_assoc
 
-spaced : (t : Token) (ts : List Token) (u : Token) → canonical (t ∷ (ts ++ u ∷ [])) ≡ written t ++ gap_after t ∷ canonical (ts ++ u ∷ [])
+-- a token that is not the last
+pub spaced : (t : Token) (ts : List Token) (u : Token) → canonical (t ∷ (ts ++ u ∷ [])) ≡ written t ++ gap_after t ∷ canonical (ts ++ u ∷ [])
 spaced t [] u = refl
 spaced t (v ∷ ts) u = refl
 

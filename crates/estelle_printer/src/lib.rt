@@ -1,4 +1,8 @@
 //! The canonical text of a specification.
+//!
+//! It stands on `estelle_tree` for tokens, trees and which tokens a tree spells. It promises that the text is
+//! the canonical one of the tokens that the tree spells, that a tree spells at most one list of tokens, their
+//! places aside, and that the text is lexed to these tokens again.
 #![tactic(auto, using(crate::proofs::WritingLemmas::writes))]
 
 mod canonical;
@@ -19,7 +23,7 @@ mod types;
 mod writer;
 
 pub use canonical::spell;
-pub use laws::spells_one_list;
+pub use laws::{canonical_text_is_lexed, spells_one_list};
 
 #[cfg(test)]
 mod tests;
