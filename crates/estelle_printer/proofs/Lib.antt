@@ -1,0 +1,17 @@
+pub mod WritingLemmas
+pub mod TypeEquations
+pub mod ExpressionEquations
+pub mod StatementEquations
+pub mod ClauseEquations
+pub mod SpecificationEquations
+pub mod TerminalLaws
+pub mod FormLaws
+pub mod TypeLaws
+pub mod ExpressionLaws
+pub mod StatementLaws
+pub mod DeclarationLaws
+pub mod ClauseLaws
+pub mod SpecificationLaws
+pub mod LoopLaws
+pub mod LexemeLaws
+pub mod LexingLaws

@@ -1,0 +1,10 @@
+use Rattle.std.proofs.Common.{arith, ◌++◌}
+use Rattle.estelle_tree.specs.declared.kind.Kind.TheVariants as k
+use Rattle.estelle_printer.specs.Forms.{mark}
+use Rattle.estelle_printer.proofs.WritingLemmas.{writes, chain_more}
+use Rattle.estelle_printer.proofs.node.lines.Goals as goal
+
+pub loop-node-preserved : goal.loop-node-preserved
+loop-node-preserved g c =
+    let e = chain_more (λ x. g.N.Node.tokens x ++ mark k.Semicolon) c.args.nodes.now c.loop-node.node-index c.node-item.result c.args.out.now c.loop-node-test.true c.node-item.is in
+    grind (arith, writes)

@@ -1,0 +1,11 @@
+pub mod Canonical
+pub mod Laws
+pub mod Terminals
+pub mod Forms
+pub mod TypeTokens
+pub mod ExpressionTokens
+pub mod StatementTokens
+pub mod DeclarationTokens
+pub mod ClauseTokens
+pub mod SpecificationTokens
+pub mod Writing

@@ -1,0 +1,112 @@
+-- The tokens of the terminals that have one.
+use Rattle.std.specs.Prelude.{List, [], codes}
+use Rattle.estelle_tree.specs.declared.token.Token.{Token}
+use Rattle.estelle_tree.specs.declared.token.Token.TheVariants as token
+use Rattle.estelle_tree.specs.declared.token.Symbol.TheVariants as symbol
+use Rattle.estelle_tree.specs.declared.kind.Kind.{Kind}
+use Rattle.estelle_tree.specs.declared.kind.Kind.TheVariants as k
+
+-- the token of a special symbol or a reserved word; of the other terminals, which have many, the empty word stands here
+abbrev pub terminal : Kind → Token
+terminal k.Plus = token.Symbol symbol.Plus
+terminal k.Minus = token.Symbol symbol.Minus
+terminal k.Star = token.Symbol symbol.Star
+terminal k.Equal = token.Symbol symbol.Equal
+terminal k.NotEqual = token.Symbol symbol.NotEqual
+terminal k.Less = token.Symbol symbol.Less
+terminal k.AtMost = token.Symbol symbol.AtMost
+terminal k.Greater = token.Symbol symbol.Greater
+terminal k.AtLeast = token.Symbol symbol.AtLeast
+terminal k.OpenParenthesis = token.Symbol symbol.OpenParenthesis
+terminal k.CloseParenthesis = token.Symbol symbol.CloseParenthesis
+terminal k.OpenBracket = token.Symbol symbol.OpenBracket
+terminal k.CloseBracket = token.Symbol symbol.CloseBracket
+terminal k.Dot = token.Symbol symbol.Dot
+terminal k.Dots = token.Symbol symbol.Dots
+terminal k.Comma = token.Symbol symbol.Comma
+terminal k.Semicolon = token.Symbol symbol.Semicolon
+terminal k.Colon = token.Symbol symbol.Colon
+terminal k.Becomes = token.Symbol symbol.Becomes
+terminal k.Activity = token.Word (codes "activity")
+terminal k.All = token.Word (codes "all")
+terminal k.And = token.Word (codes "and")
+terminal k.Any = token.Word (codes "any")
+terminal k.Array = token.Word (codes "array")
+terminal k.Attach = token.Word (codes "attach")
+terminal k.Begin = token.Word (codes "begin")
+terminal k.Body = token.Word (codes "body")
+terminal k.By = token.Word (codes "by")
+terminal k.Case = token.Word (codes "case")
+terminal k.Channel = token.Word (codes "channel")
+terminal k.Common = token.Word (codes "common")
+terminal k.Connect = token.Word (codes "connect")
+terminal k.Const = token.Word (codes "const")
+terminal k.Default = token.Word (codes "default")
+terminal k.Delay = token.Word (codes "delay")
+terminal k.Detach = token.Word (codes "detach")
+terminal k.Disconnect = token.Word (codes "disconnect")
+terminal k.Div = token.Word (codes "div")
+terminal k.Do = token.Word (codes "do")
+terminal k.Downto = token.Word (codes "downto")
+terminal k.Else = token.Word (codes "else")
+terminal k.End = token.Word (codes "end")
+terminal k.Exist = token.Word (codes "exist")
+terminal k.Export = token.Word (codes "export")
+terminal k.External = token.Word (codes "external")
+terminal k.File = token.Word (codes "file")
+terminal k.For = token.Word (codes "for")
+terminal k.Forone = token.Word (codes "forone")
+terminal k.From = token.Word (codes "from")
+terminal k.Function = token.Word (codes "function")
+terminal k.Goto = token.Word (codes "goto")
+terminal k.If = token.Word (codes "if")
+terminal k.In = token.Word (codes "in")
+terminal k.Individual = token.Word (codes "individual")
+terminal k.Init = token.Word (codes "init")
+terminal k.Initialize = token.Word (codes "initialize")
+terminal k.Ip = token.Word (codes "ip")
+terminal k.Label = token.Word (codes "label")
+terminal k.Mod = token.Word (codes "mod")
+terminal k.Module = token.Word (codes "module")
+terminal k.Modvar = token.Word (codes "modvar")
+terminal k.NameWord = token.Word (codes "name")
+terminal k.Nil = token.Word (codes "nil")
+terminal k.Not = token.Word (codes "not")
+terminal k.Of = token.Word (codes "of")
+terminal k.Or = token.Word (codes "or")
+terminal k.Otherwise = token.Word (codes "otherwise")
+terminal k.Output = token.Word (codes "output")
+terminal k.Packed = token.Word (codes "packed")
+terminal k.Primitive = token.Word (codes "primitive")
+terminal k.Priority = token.Word (codes "priority")
+terminal k.Procedure = token.Word (codes "procedure")
+terminal k.Process = token.Word (codes "process")
+terminal k.Program = token.Word (codes "program")
+terminal k.Provided = token.Word (codes "provided")
+terminal k.Queue = token.Word (codes "queue")
+terminal k.Record = token.Word (codes "record")
+terminal k.Release = token.Word (codes "release")
+terminal k.Repeat = token.Word (codes "repeat")
+terminal k.Same = token.Word (codes "same")
+terminal k.Set = token.Word (codes "set")
+terminal k.Specification = token.Word (codes "specification")
+terminal k.State = token.Word (codes "state")
+terminal k.Stateset = token.Word (codes "stateset")
+terminal k.Suchthat = token.Word (codes "suchthat")
+terminal k.Systemactivity = token.Word (codes "systemactivity")
+terminal k.Systemprocess = token.Word (codes "systemprocess")
+terminal k.Terminate = token.Word (codes "terminate")
+terminal k.Then = token.Word (codes "then")
+terminal k.Timescale = token.Word (codes "timescale")
+terminal k.To = token.Word (codes "to")
+terminal k.Trans = token.Word (codes "trans")
+terminal k.Type = token.Word (codes "type")
+terminal k.Until = token.Word (codes "until")
+terminal k.Var = token.Word (codes "var")
+terminal k.When = token.Word (codes "when")
+terminal k.While = token.Word (codes "while")
+terminal k.With = token.Word (codes "with")
+terminal k.Name = token.Word []
+terminal k.Number = token.Word []
+terminal k.Char = token.Word []
+terminal k.Nothing = token.Word []
