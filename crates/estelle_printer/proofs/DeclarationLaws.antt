@@ -43,7 +43,7 @@ block_decl_tells room (block_decl.Var vars span) i j h = behind (Lines (AreVars 
 pub statement_part_tells : (room : ℕ) → Tells (IsStatementPart room) statement_part
 statement_part_tells room ss i j h =
     ended (Enclosed k.Begin k.End (StmtsOf (StmtBelow room false))) (λ x. enclosed k.Begin k.End (stmts x))
-      (enclosed_in (StmtsOf (StmtBelow room false)) stmts (stmts_of_tells room (StmtBelow room) (stmt_below_tells room) false) k.Begin k.End refl refl) k.Semicolon refl ss i j h.stmts
+    (enclosed_in (StmtsOf (StmtBelow room false)) stmts (stmts_of_tells room (StmtBelow room) (stmt_below_tells room) false) k.Begin k.End refl refl) k.Semicolon refl ss i j h.stmts
 
 formal_tells : Tells IsFormal formal
 formal_tells f i j h = regrouped (flagged k.Var refl f.is_var i h.at h.is_var ⋯ joined IsNames IsName names name k.Colon refl names_tells name_tells f.names f.type_name h.at j h.names) (simp append_assoc)

@@ -50,18 +50,18 @@ module _ (F : Spelling Factor) (tells : Tells F factor) where
   pub term_tells : Tells (TermOf F) term
   term_tells t i j h = same_tokens (term_is t) (tells (out-Term t).first i h.mid h.first
       ⋯ chained (λ x. Behind (of_multiplying x.0) F x.1) (λ x. mark (of_multiplying x.0) ++ factor x.1)
-          (λ x m n b. behind F factor tells (of_multiplying x.0) (multiplying_one x.0) x.1 m n b) (out-Term t).others h.mid j h.others)
+      (λ x m n b. behind F factor tells (of_multiplying x.0) (multiplying_one x.0) x.1 m n b) (out-Term t).others h.mid j h.others)
 
   pub simple_tells : Tells (SimpleOf F) simple
   simple_tells s i j h = same_tokens (simple_is s) (sign_tells (out-Simple s).sign i h.at h.sign
       ⋯ term_tells (out-Simple s).first h.at h.mid h.first
       ⋯ chained (λ x. Behind (of_adding x.0) (TermOf F) x.1) (λ x. mark (of_adding x.0) ++ term x.1)
-          (λ x m n b. behind (TermOf F) term term_tells (of_adding x.0) (adding_one x.0) x.1 m n b) (out-Simple s).others h.mid j h.others)
+      (λ x m n b. behind (TermOf F) term term_tells (of_adding x.0) (adding_one x.0) x.1 m n b) (out-Simple s).others h.mid j h.others)
 
   pub expr_tells : Tells (ExprOf F) expr
   expr_tells e i j h = same_tokens (expr_is e) (simple_tells (out-Expr e).left i h.mid h.left
       ⋯ may_be (λ x. Behind (of_relation x.0) (SimpleOf F) x.1) (λ x. mark (of_relation x.0) ++ simple x.1)
-          (λ x m n b. behind (SimpleOf F) simple simple_tells (of_relation x.0) (relation_one x.0) x.1 m n b) (out-Expr e).right h.mid j h.right)
+      (λ x m n b. behind (SimpleOf F) simple simple_tells (of_relation x.0) (relation_one x.0) x.1 m n b) (out-Expr e).right h.mid j h.right)
 
   pub exprs_tell : Tells (Separated k.Comma (ExprOf F)) (separated k.Comma expr)
   exprs_tell = separate (ExprOf F) expr expr_tells k.Comma refl

@@ -72,7 +72,7 @@ ending b at u form = go (b && is_dot u) refl
       behind = [];
       parts = sym (append-nil (written u ++ line_feed ∷ []));
       lexed = subst (λ n. Lexed b at (written u ++ line_feed ∷ []) (placed at u (written u) ∷ []) n) (omega (arith, length-append (written u) (line_feed ∷ [])))
-        (Lexed.item b at u (written u) (line_feed ∷ []) [] (at + length (written u) + 1) (fed_lexeme u form []) e
+          (Lexed.item b at u (written u) (line_feed ∷ []) [] (at + length (written u) + 1) (fed_lexeme u form []) e
           (Lexed.separator (is_end u) (at + length (written u)) (line_feed ∷ []) [] [] (at + length (written u) + 1) feed (Lexed.done (is_end u) (at + length (written u) + 1))));
       blank = IsBlank.none;
     }
@@ -96,9 +96,9 @@ cuts b at (t ∷ ts) u forms form calm =
       behind = r.behind;
       parts = spaced t ts u ∙ ap (λ x. written t ++ gap ∷ x) r.parts ∙ sym (append_assoc (written t) (gap ∷ r.front) r.behind);
       lexed = subst (λ x. Lexed b at x (placed at t (written t) ∷ tokens) (at + length (written t ++ gap ∷ r.front))) (sym (spaced t ts u))
-        (subst (λ n. Lexed b at (written t ++ gap ∷ rest) (placed at t (written t) ∷ tokens) n) (omega (arith, length-append (written t) (gap ∷ r.front)))
+          (subst (λ n. Lexed b at (written t ++ gap ∷ rest) (placed at t (written t) ∷ tokens) n) (omega (arith, length-append (written t) (gap ∷ r.front)))
           (Lexed.item b at t (written t) (gap ∷ rest) tokens (next + length r.front) (gap_lexeme t (All-head spells.IsToken t ts forms) rest) (not_so (b && is_dot t) p.0)
-            (Lexed.separator (is_end t) (at + length (written t)) (gap ∷ []) rest tokens (next + length r.front) (gap_separator t) r.lexed)));
+          (Lexed.separator (is_end t) (at + length (written t)) (gap ∷ []) rest tokens (next + length r.front) (gap_separator t) r.lexed)));
       blank = r.blank;
     }
 

@@ -27,7 +27,7 @@ simple_written s ys i text o1 o2 o3 e all e1 e2 e3 =
     let b = term (out-Simple s).first in
     let c = flat_map (λ y. mark (of_adding y.0) ++ term y.1) (out-Simple s).others in
     whole (λ y. mark (of_adding y.0) ++ term y.1) (out-Simple s).others ys i o2 o3 e all e3
-      ∙ ap (λ o. write o c) (e2 ∙ ap (λ o. write o b) e1 ∙ sym (write-append text a b)) ∙ sym (write-append text (a ++ b) c) ∙ ap (write text) (sym (simple_is s))
+    ∙ ap (λ o. write o c) (e2 ∙ ap (λ o. write o b) e1 ∙ sym (write-append text a b)) ∙ sym (write-append text (a ++ b) c) ∙ ap (write text) (sym (simple_is s))
 
 pub term_written : (t : Term) (ys : List (Multiplying × Factor)) (i : ℕ) (text o1 o2 : List ℕ) → ys ≡ (out-Term t).others → length ys ≤ i → o1 ≡ write text (factor (out-Term t).first)
     → o2 ≡ write o1 (flat_map (λ y. mark (of_multiplying y.0) ++ factor y.1) (take i ys)) → o2 ≡ write text (term t)
@@ -35,10 +35,10 @@ term_written t ys i text o1 o2 e all e1 e2 =
     let a = factor (out-Term t).first in
     let c = flat_map (λ y. mark (of_multiplying y.0) ++ factor y.1) (out-Term t).others in
     whole (λ y. mark (of_multiplying y.0) ++ factor y.1) (out-Term t).others ys i o1 o2 e all e2
-      ∙ ap (λ o. write o c) e1 ∙ sym (write-append text a c) ∙ ap (write text) (sym (term_is t))
+    ∙ ap (λ o. write o c) e1 ∙ sym (write-append text a c) ∙ ap (write text) (sym (term_is t))
 
 pub variable_written : (v : Variable) (ys : List Selector) (i : ℕ) (text o1 o2 : List ℕ) → ys ≡ (out-Variable v).selectors → length ys ≤ i → o1 ≡ write text (name (out-Variable v).name)
     → o2 ≡ write o1 (flat_map selector (take i ys)) → o2 ≡ write text (variable v)
 variable_written v ys i text o1 o2 e all e1 e2 =
     whole selector (out-Variable v).selectors ys i o1 o2 e all e2
-      ∙ ap (λ o. write o (flat_map selector (out-Variable v).selectors)) e1 ∙ sym (write-append text (name (out-Variable v).name) (flat_map selector (out-Variable v).selectors)) ∙ ap (write text) (sym (variable_is v))
+    ∙ ap (λ o. write o (flat_map selector (out-Variable v).selectors)) e1 ∙ sym (write-append text (name (out-Variable v).name) (flat_map selector (out-Variable v).selectors)) ∙ ap (write text) (sym (variable_is v))

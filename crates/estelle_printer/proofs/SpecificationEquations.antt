@@ -33,7 +33,7 @@ body_written b text o1 o2 o3 o4 e1 e2 e3 e4 =
     let h = body_head (out-Body b).name (out-Body b).header in
     let p = parts (out-Body b).parts in
     e4 ∙ ap (λ o. put o (terminal k.Semicolon))
-        (e3 ∙ ap (λ o. put o (terminal k.End)) (e2 ∙ ap (λ o. write o p) e1 ∙ sym (write-append text h p)) ∙ sym (write-append text (h ++ p) (mark k.End)))
-      ∙ sym (write-append text (h ++ p ++ mark k.End) (mark k.Semicolon)) ∙ ap (write text) (sym (body_is b))
+    (e3 ∙ ap (λ o. put o (terminal k.End)) (e2 ∙ ap (λ o. write o p) e1 ∙ sym (write-append text h p)) ∙ sym (write-append text (h ++ p) (mark k.End)))
+    ∙ sym (write-append text (h ++ p ++ mark k.End) (mark k.Semicolon)) ∙ ap (write text) (sym (body_is b))
 
 pub ruleset bodies = (decl_is, body_is, parts_is)

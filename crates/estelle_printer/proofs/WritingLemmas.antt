@@ -1,5 +1,5 @@
 -- What is written of lists of tokens.
-use Rattle.std.proofs.Common.{◌≡◌, ℕ, ◌+◌, ◌<◌, List, [], ◌∷◌, ◌++◌, fold, refl, map, take, drop, get_or, length, arith, ap, append_assoc, append-nil,  ◌∙◌, sym, add-one, zero, suc, false}
+use Rattle.std.proofs.Common.{◌≡◌, ℕ, ◌+◌, ◌<◌, List, [], ◌∷◌, ◌++◌, fold, refl, map, take, drop, get_or, length, arith, ap, append_assoc, append-nil, ◌∙◌, sym, add-one, zero, suc, false}
 use Rattle.std.proofs.lemmas.List.Concat.{flat_map-append}
 use Rattle.std.proofs.lemmas.Bool.Decides.{nat_tests}
 use Rattle.std.specs.List.{flat_map}
@@ -44,10 +44,10 @@ separated_more k f (y ∷ ys) zero x text h e = rw (append-nil (f y), write-nil 
 separated_more {X = X} k f (y ∷ ys) (suc i) x text h e =
     let g = λ (z : X). mark k ++ f z in
     rw (add-one, not_first i) (write-append text (f y) (flat_map g (take (suc i) ys))
-      ∙ ap (write (write text (f y))) (longer g ys i x (omega arith) e)
-      ∙ write-append (write text (f y)) (flat_map g (take i ys)) (mark k ++ f x)
-      ∙ ap (λ out. write out (mark k ++ f x)) (sym (write-append text (f y) (flat_map g (take i ys))))
-      ∙ write-append (write text (f y ++ flat_map g (take i ys))) (mark k) (f x))
+    ∙ ap (write (write text (f y))) (longer g ys i x (omega arith) e)
+    ∙ write-append (write text (f y)) (flat_map g (take i ys)) (mark k ++ f x)
+    ∙ ap (λ out. write out (mark k ++ f x)) (sym (write-append text (f y) (flat_map g (take i ys))))
+    ∙ write-append (write text (f y ++ flat_map g (take i ys))) (mark k) (f x))
 
 pub separated_map : {X : Type 0} (k : Kind) (f : X → Tokens) (xs : List X) → separated k (λ x. x) (map f xs) ≡ separated k f xs
 separated_map k f [] = refl

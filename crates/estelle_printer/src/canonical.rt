@@ -5,11 +5,10 @@ ghost use Rattle.estelle_printer.specs.Canonical.{IsCanonicalText, canonical};
 ghost use Rattle.estelle_printer.specs.SpecificationTokens as tokens;
 ghost use Rattle.estelle_printer.specs.Writing.{write};
 
-use estelle_tree::{Kind, Sequence, Spec, Text};
-use std::alloc::{AllocError, Global};
-
 use crate::node::{Node, chain, optional};
 use crate::writer::Writer;
+use estelle_tree::{Kind, Sequence, Spec, Text};
+use std::alloc::{AllocError, Global};
 
 /// All tokens but the last.
 fn write_before_dot(spec: &Spec, out: &mut Writer) -> Result<(), AllocError>

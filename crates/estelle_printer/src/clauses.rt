@@ -5,14 +5,13 @@ ghost use Rattle.std.specs.List.{flat_map};
 ghost use Rattle.estelle_printer.specs.ClauseTokens as spec;
 ghost use Rattle.estelle_printer.specs.Writing.{write};
 
+use crate::declarations::write_statement_part;
+use crate::node::{Node, chain, optional, separated};
+use crate::writer::Writer;
 use estelle_tree::{
     AnyDom, Block, Clause, DelayHigh, Group, Kind, Label, NameList, NextState, Sequence, TransBody,
 };
 use std::alloc::AllocError;
-
-use crate::declarations::write_statement_part;
-use crate::node::{Node, chain, optional, separated};
-use crate::writer::Writer;
 
 impl Node for Label {
     ghost tokens = { spec.label };

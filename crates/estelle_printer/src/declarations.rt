@@ -4,13 +4,12 @@ ghost use Rattle.std.specs.Prelude.{◌≡◌, OnOk};
 ghost use Rattle.estelle_printer.specs.DeclarationTokens as spec;
 ghost use Rattle.estelle_printer.specs.Writing.{write};
 
+use crate::node::{Node, chain, lines, optional, separated};
+use crate::writer::Writer;
 use estelle_tree::{
     BlockDecl, ConstDef, Formal, Formals, Kind, Routine, RoutineForm, Sequence, Stmts, TypeDef,
 };
 use std::alloc::AllocError;
-
-use crate::node::{Node, chain, lines, optional, separated};
-use crate::writer::Writer;
 
 impl Node for ConstDef {
     ghost tokens = { spec.const_def };

@@ -7,15 +7,14 @@ ghost use Rattle.estelle_printer.specs.Forms.{separated};
 ghost use Rattle.estelle_printer.specs.ExpressionTokens as spec;
 ghost use Rattle.estelle_printer.specs.Writing.{write};
 
+use crate::node::Node;
+use crate::types::write_sign;
+use crate::writer::Writer;
 use estelle_tree::{
     Adding, Args, Elem, Expr, Factor, Kind, Multiplying, Relation, Selector, Sequence, Simple,
     Term, Variable,
 };
 use std::alloc::AllocError;
-
-use crate::node::Node;
-use crate::types::write_sign;
-use crate::writer::Writer;
 
 fn kind_of_relation(relation: Relation) -> Kind
     ensures { result ≡ of_relation relation }

@@ -5,10 +5,9 @@ ghost use Rattle.std.specs.List.{flat_map};
 ghost use Rattle.estelle_printer.specs.Forms.{optional, separated, lines, may_be_lines};
 ghost use Rattle.estelle_printer.specs.Writing.{write};
 
+use crate::writer::Writer;
 use estelle_tree::Kind;
 use std::alloc::AllocError;
-
-use crate::writer::Writer;
 
 /// What has tokens.
 pub trait Node {

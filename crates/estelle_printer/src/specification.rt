@@ -5,14 +5,13 @@ ghost use Rattle.std.specs.List.{flat_map};
 ghost use Rattle.estelle_printer.specs.SpecificationTokens as spec;
 ghost use Rattle.estelle_printer.specs.Writing.{write};
 
+use crate::node::{Node, chain, lines, may_be_lines, optional, separated};
+use crate::writer::Writer;
 use estelle_tree::{
     Attr, Body, Channel, Decl, Disc, Head, Header, Init, Inter, InterGroup, IpDecl, Kind,
     ModvarDecl, Name, ParamGroup, Params, Parts, Sequence, StatesetDef, SysAttr, Trans,
 };
 use std::alloc::AllocError;
-
-use crate::node::{Node, chain, lines, may_be_lines, optional, separated};
-use crate::writer::Writer;
 
 impl Node for SysAttr {
     ghost tokens = { spec.sys_attr_tokens };

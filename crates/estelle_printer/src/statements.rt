@@ -7,11 +7,10 @@ ghost use Rattle.estelle_printer.specs.Forms.{separated};
 ghost use Rattle.estelle_printer.specs.StatementTokens as spec;
 ghost use Rattle.estelle_printer.specs.Writing.{write};
 
-use estelle_tree::{Args, Case, Direction, Ip, Kind, Sequence, Stmt, Stmts};
-use std::alloc::AllocError;
-
 use crate::node::{Node, separated};
 use crate::writer::Writer;
+use estelle_tree::{Args, Case, Direction, Ip, Kind, Sequence, Stmt, Stmts};
+use std::alloc::AllocError;
 
 impl Node for Ip {
     ghost tokens = { spec.ip };
@@ -58,7 +57,9 @@ fn write_stmt(stmt: &Stmt, out: &mut Writer) -> Result<(), AllocError>
     match stmt {
         Stmt::Empty => Ok(()),
         Stmt::Assign {
-            variable, value, ..
+            variable,
+            value,
+            ..
         } => {
             variable.write(out)?;
             out.mark(Kind::Becomes)?;
@@ -92,7 +93,9 @@ fn write_stmt(stmt: &Stmt, out: &mut Writer) -> Result<(), AllocError>
             }
         }
         Stmt::While {
-            condition, body, ..
+            condition,
+            body,
+            ..
         } => {
             out.mark(Kind::While)?;
             condition.write(out)?;
@@ -100,7 +103,9 @@ fn write_stmt(stmt: &Stmt, out: &mut Writer) -> Result<(), AllocError>
             write_stmt(body.get(), out)
         }
         Stmt::Repeat {
-            stmts, condition, ..
+            stmts,
+            condition,
+            ..
         } => {
             out.mark(Kind::Repeat)?;
             write_stmts(stmts, out)?;
@@ -138,7 +143,10 @@ fn write_stmt(stmt: &Stmt, out: &mut Writer) -> Result<(), AllocError>
             out.mark(Kind::End)
         }
         Stmt::Init {
-            modvar, body, args, ..
+            modvar,
+            body,
+            args,
+            ..
         } => {
             out.mark(Kind::Init)?;
             modvar.write(out)?;
@@ -161,7 +169,10 @@ fn write_stmt(stmt: &Stmt, out: &mut Writer) -> Result<(), AllocError>
             ip.write(out)
         }
         Stmt::Attach {
-            own, modvar, ip, ..
+            own,
+            modvar,
+            ip,
+            ..
         } => {
             out.mark(Kind::Attach)?;
             own.write(out)?;

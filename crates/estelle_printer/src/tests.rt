@@ -1,12 +1,11 @@
+use super::spell;
 use estelle_tree::{
-    Adding, Block, Clause, Const, Decl, Expr, Factor, Fields, Group, Init, Items, Label,
-    Name, NameList, NextState, Ordinal, Parts, Relation, Sequence, Simple, Span, Spec,
-    Stmt, Stmts, SysAttr, Term, Trans, TransBody, TypeDef, TypeExpr, TypedNames, Variable, Word,
+    Adding, Block, Clause, Const, Decl, Expr, Factor, Fields, Group, Init, Items, Label, Name,
+    NameList, NextState, Ordinal, Parts, Relation, Sequence, Simple, Span, Spec, Stmt, Stmts,
+    SysAttr, Term, Trans, TransBody, TypeDef, TypeExpr, TypedNames, Variable, Word,
 };
 use std::alloc::Global;
 use std::test::Fail;
-
-use super::spell;
 
 /// The text does not depend on the places.
 const SPAN: Span = Span { start: 0, end: 0 };

@@ -6,13 +6,12 @@ ghost use Rattle.estelle_printer.specs.Forms.{separated};
 ghost use Rattle.estelle_printer.specs.TypeTokens as spec;
 ghost use Rattle.estelle_printer.specs.Writing.{write};
 
+use crate::node::{Node, separated};
+use crate::writer::Writer;
 use estelle_tree::{
     Const, Fields, Kind, Name, NameList, Ordinal, Sequence, Sign, TypeExpr, TypedNames,
 };
 use std::alloc::AllocError;
-
-use crate::node::{Node, separated};
-use crate::writer::Writer;
 
 impl Node for Name {
     ghost tokens = { spec.name };

@@ -7,12 +7,11 @@ ghost use Rattle.estelle_printer.specs.Forms.{flag};
 ghost use Rattle.estelle_printer.specs.Terminals.{terminal};
 ghost use Rattle.estelle_printer.specs.Writing.{put, write};
 
+use crate::terminal::{gap_after, text_of};
 use estelle_tree::{Kind, Text, Word};
 use itoa::Buffer;
 use std::alloc::{AllocError, Global};
 use std::marker::Model;
-
-use crate::terminal::{gap_after, text_of};
 
 /// A text to which tokens are added, seen as its bytes.
 #[derive(Drop)]
@@ -77,7 +76,8 @@ impl Writer {
         ensures { OnOk result (self.new ≡ put self.old (token.Number value)) }
     {
         let mut buffer = Buffer::new();
-        self.bytes.extend_from_slice(buffer.format(value).as_bytes())?;
+        self.bytes
+            .extend_from_slice(buffer.format(value).as_bytes())?;
         self.bytes.push(b' ')?;
         Ok(())
     }

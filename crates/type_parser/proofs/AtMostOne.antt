@@ -111,9 +111,9 @@ module _ (room : ℕ) (below : Parser TypeExpr) (T : Spelling TypeExpr) (complet
       let s = b.1 in
       let first = packed_same packed packed' i r.at s.at k.Array r.packed s.packed r.array.kind s.array.kind (λ e. cc) in
       let bounds = enclosed_same k.OpenBracket k.CloseBracket (separated k.Comma ordinal) (Separated k.Comma IsOrdinal) (λ j. EndsOrdinal j × (kind j ≡ k.Comma → ⊥))
-          (separated_complete ordinal IsOrdinal EndsOrdinal ordinal_complete ordinal_shrinks k.Comma (λ e. cc) (λ j e f. let no : k.Comma ≡ k.Dots = sym e ∙ f in cc))
-          (λ j e. (λ f. let no : k.CloseBracket ≡ k.Dots = sym e ∙ f in cc, λ f. let no : k.CloseBracket ≡ k.Comma = sym e ∙ f in cc))
-          indices indices' r.after s.after r.mid s.mid (sym r.array.next ∙ ap next first.1 ∙ s.array.next) r.indices s.indices in
+      (separated_complete ordinal IsOrdinal EndsOrdinal ordinal_complete ordinal_shrinks k.Comma (λ e. cc) (λ j e f. let no : k.Comma ≡ k.Dots = sym e ∙ f in cc))
+      (λ j e. (λ f. let no : k.CloseBracket ≡ k.Dots = sym e ∙ f in cc, λ f. let no : k.CloseBracket ≡ k.Comma = sym e ∙ f in cc))
+      indices indices' r.after s.after r.mid s.mid (sym r.array.next ∙ ap next first.1 ∙ s.array.next) r.indices s.indices in
       let inner = behind_same k.Of T one component component' r.mid s.mid j bounds.1 r.component s.component in
       rw (first.0, bounds.0, inner, a.2, b.2)
   same_layer (TypeExpr-F.Fields packed fields span) (TypeExpr-F.Fields packed' fields' span') i j a b =
@@ -121,8 +121,8 @@ module _ (room : ℕ) (below : Parser TypeExpr) (T : Spelling TypeExpr) (complet
       let s = b.1 in
       let first = packed_same packed packed' i r.at s.at k.Record r.packed s.packed r.fields.opens.kind s.fields.opens.kind (λ e. cc) in
       let inner = enclosed_same k.Record k.End (fields_over below) (AreFields T) EndsFields (fields_over_complete below T complete advances)
-          (λ j e. (λ f. let no : k.End ≡ k.Semicolon = sym e ∙ f in cc, ap begins_name e, λ f. let no : k.End ≡ k.Dots = sym e ∙ f in cc))
-          fields fields' r.at s.at j j first.1 r.fields s.fields in
+      (λ j e. (λ f. let no : k.End ≡ k.Semicolon = sym e ∙ f in cc, ap begins_name e, λ f. let no : k.End ≡ k.Dots = sym e ∙ f in cc))
+      fields fields' r.at s.at j j first.1 r.fields s.fields in
       rw (first.0, inner.0, a.2, b.2)
   same_layer (TypeExpr-F.Set packed base span) (TypeExpr-F.Set packed' base' span') i j a b =
       let r = a.1 in

@@ -160,8 +160,8 @@ module _ (below : Parser TypeExpr) (T : Spelling TypeExpr) (complete : Complete 
   unfolding fields_over between
   fields_over_complete i j fs h end =
       let sections = separated_if_complete (typed_over below) (AreTyped T) EndsOrdinal typed_over_complete (shrinking (AreTyped T) (typed_over_advances T advances))
-          k.Semicolon begins_name (λ e. cc) (λ j e f. let no : k.Semicolon ≡ k.Dots = sym e ∙ f in cc) (typed_over_begins T advances)
-          i h.mid (out-Fields fs).sections h.sections (sections_end (out-Fields fs).semicolon h.mid j h.semicolon end) in
+      k.Semicolon begins_name (λ e. cc) (λ j e f. let no : k.Semicolon ≡ k.Dots = sym e ∙ f in cc) (typed_over_begins T advances)
+      i h.mid (out-Fields fs).sections h.sections (sections_end (out-Fields fs).semicolon h.mid j h.semicolon end) in
       let last = eaten k.Semicolon h.mid j (out-Fields fs).semicolon (eat_complete k.Semicolon h.mid j (out-Fields fs).semicolon h.semicolon end.0) in
       rw (sections, last.0, last.1, ← h.span, roll-out-Fields fs)
 

@@ -166,7 +166,7 @@ pub part_complete : {A : Type 0} (item : Parser A) (P : Spelling A) (end : After
 unfolding part
 part_complete item P end complete advances first begins starts ends i j xs h stop =
     let lines = several_complete (ended k.Semicolon item) (Ended k.Semicolon P) Anything (ended_complete item P end complete k.Semicolon ends) (ended_advances k.Semicolon P advances)
-        begins (λ i j x h. starts i h.mid x h.item) (λ i j x h. tt) h.at j xs h.item (tt, stop) in
+    begins (λ i j x h. starts i h.mid x h.item) (λ i j x h. tt) h.at j xs h.item (tt, stop) in
     rw (expect_complete first i h.at h.mark, lines)
 
 pub const_def_complete : Complete const_def IsConstDef Anything

@@ -61,13 +61,16 @@ enumeration_sound i j o h =
     through (expect k.OpenParenthesis i) _ _ h (λ u a opens h.
     through (names a) _ _ h (λ found b are h.
     through (expect k.CloseParenthesis b) _ _ h (λ v c closes h.
-    answered IsOrdinal i j c (an_ordinal.Enumeration found (between i c)) o (record {
-      at = a;
-      mid = b;
-      opens = expect_sound k.OpenParenthesis i a u opens;
-      inside = names_sound a b found are;
-      closes = expect_sound k.CloseParenthesis b c v closes;
-    }, refl) h)))
+    answered IsOrdinal i j c (an_ordinal.Enumeration found (between i c)) o (
+      record {
+        at = a;
+        mid = b;
+        opens = expect_sound k.OpenParenthesis i a u opens;
+        inside = names_sound a b found are;
+        closes = expect_sound k.CloseParenthesis b c v closes;
+      },
+      refl,
+    ) h)))
 
 subrange_sound : Sound subrange IsOrdinal
 unfolding subrange between
@@ -75,13 +78,16 @@ subrange_sound i j o h =
     through (constant i) _ _ h (λ low a is h.
     through (expect k.Dots a) _ _ h (λ u b dots h.
     through (constant b) _ _ h (λ high c too h.
-    answered IsOrdinal i j c (an_ordinal.Subrange low high (between i c)) o (record {
-      mid = a;
-      at = b;
-      first = constant_sound i a low is;
-      mark = expect_sound k.Dots a b u dots;
-      second = constant_sound b c high too;
-    }, refl) h)))
+    answered IsOrdinal i j c (an_ordinal.Subrange low high (between i c)) o (
+      record {
+        mid = a;
+        at = b;
+        first = constant_sound i a low is;
+        mark = expect_sound k.Dots a b u dots;
+        second = constant_sound b c high too;
+      },
+      refl,
+    ) h)))
 
 ordinal_name_sound : Sound ordinal_name IsOrdinal
 unfolding ordinal_name
@@ -158,21 +164,25 @@ module _ (below : Parser TypeExpr) (T : Spelling TypeExpr) (sound : Sound below 
           through (expect k.CloseBracket d) _ _ h (λ w e closes h.
           through (expect k.Of e) _ _ h (λ x f of h.
           through (below f) _ _ h (λ component g is h.
-          layered i j g t (outs-Array packed indices component (between i g)) (fits, record {
-            at = a;
-            after = b;
-            mid = e;
-            packed = flag;
-            array = expect_sound k.Array a b u array;
-            indices = record {
-              at = c;
-              mid = d;
-              opens = expect_sound k.OpenBracket b c v opens;
-              inside = separated_sound ordinal IsOrdinal ordinal_sound k.Comma c d indices are;
-              closes = expect_sound k.CloseBracket d e w closes;
-            };
-            component = record { at = f; mark = expect_sound k.Of e f x of; item = sound f g component is };
-          }, refl) h))))))
+          layered i j g t (outs-Array packed indices component (between i g)) (
+            fits,
+            record {
+              at = a;
+              after = b;
+              mid = e;
+              packed = flag;
+              array = expect_sound k.Array a b u array;
+              indices = record {
+                at = c;
+                mid = d;
+                opens = expect_sound k.OpenBracket b c v opens;
+                inside = separated_sound ordinal IsOrdinal ordinal_sound k.Comma c d indices are;
+                closes = expect_sound k.CloseBracket d e w closes;
+              };
+              component = record { at = f; mark = expect_sound k.Of e f x of; item = sound f g component is };
+            },
+            refl,
+          ) h))))))
 
       record_sound : 0 < room → record_over below (start i) packed a ≡ Ok (t, j) → Is t i j
       unfolding record_over between
@@ -180,11 +190,15 @@ module _ (below : Parser TypeExpr) (T : Spelling TypeExpr) (sound : Sound below 
           through (expect k.Record a) _ _ h (λ u b opens h.
           through (fields_over below b) _ _ h (λ fields c are h.
           through (expect k.End c) _ _ h (λ v d closes h.
-          layered i j d t (outs-Fields packed fields (between i d)) (fits, record {
-            at = a;
-            packed = flag;
-            fields = record { at = b; mid = c; opens = expect_sound k.Record a b u opens; inside = fields_over_sound b c fields are; closes = expect_sound k.End c d v closes };
-          }, refl) h)))
+          layered i j d t (outs-Fields packed fields (between i d)) (
+            fits,
+            record {
+              at = a;
+              packed = flag;
+              fields = record { at = b; mid = c; opens = expect_sound k.Record a b u opens; inside = fields_over_sound b c fields are; closes = expect_sound k.End c d v closes };
+            },
+            refl,
+          ) h)))
 
       set_sound : 0 < room → set_type (start i) packed a ≡ Ok (t, j) → Is t i j
       unfolding set_type between
@@ -192,13 +206,17 @@ module _ (below : Parser TypeExpr) (T : Spelling TypeExpr) (sound : Sound below 
           through (expect k.Set a) _ _ h (λ u b set h.
           through (expect k.Of b) _ _ h (λ v c of h.
           through (ordinal c) _ _ h (λ base d is h.
-          layered i j d t (outs-Set packed base (between i d)) (fits, record {
-            at = a;
-            after = b;
-            packed = flag;
-            set = expect_sound k.Set a b u set;
-            base = record { at = c; mark = expect_sound k.Of b c v of; item = ordinal_sound c d base is };
-          }, refl) h)))
+          layered i j d t (outs-Set packed base (between i d)) (
+            fits,
+            record {
+              at = a;
+              after = b;
+              packed = flag;
+              set = expect_sound k.Set a b u set;
+              base = record { at = c; mark = expect_sound k.Of b c v of; item = ordinal_sound c d base is };
+            },
+            refl,
+          ) h)))
 
     ordinal_type_sound : Sound ordinal_type Is
     unfolding ordinal_type
