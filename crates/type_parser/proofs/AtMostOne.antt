@@ -1,5 +1,5 @@
 -- At most one thing spells the tokens from one place to another.
-use Rattle.std.proofs.Common.{◌≡◌, ◌<◌, ◌≤◌, ℕ, zero, suc, Bool, true, false, List, [], ◌∷◌, sym, refl, ap, ◌∙◌, subst, arith}
+use Rattle.std.proofs.Common.{◌≡◌, ℕ, zero, suc, Bool, true, false, List, [], ◌∷◌, sym, refl, ap, ◌∙◌, subst, arith}
 use Rattle.estelle_tree.specs.declared.kind.Kind.{Kind}
 use Rattle.estelle_tree.specs.declared.kind.Kind.TheVariants as k
 use Rattle.estelle_tree.specs.declared.tree.name.Name.{Name}
@@ -13,22 +13,22 @@ use Rattle.estelle_tree.specs.declared.tree.declaration.BlockDecl.TheVariants as
 use Rattle.estelle_tree.specs.Input.{Input, kind, next, left}
 use Rattle.estelle_tree.specs.Spans.{TypeExprLayer}
 use Rattle.estelle_tree.specs.Spelling.{Spelling, Flag, Chain, Several, Behind, Ended, Enclosed, Separated, Lines}
-use Rattle.estelle_tree.specs.Types.{IsName, IsConst, IsOrdinal, AreFields, IsTypeLayer, TypeBelow}
+use Rattle.estelle_tree.specs.Types.{IsName, IsConst, IsOrdinal, AreFields, IsTypeLayer, TypeBelow, IsType}
 use Rattle.estelle_tree.specs.Declarations.{IsConstDef, IsTypeDef, AreVars, IsBlockDecl}
-use Rattle.token_reader.specs.Reader.{Parser, sees, after, name}
+use Rattle.token_reader.specs.Reader.{Parser, after, name}
 use Rattle.token_reader.specs.Lists.{ended, separated}
 use Rattle.token_reader.proofs.Sound.{ok_pair}
 use Rattle.token_reader.proofs.Complete.{After, Anything, Complete, Advances, unique, takes_advances, chain_shrinks, name_complete, ended_complete, separated_complete}
 use Rattle.type_parser.specs.Types.{begins_name, begins_ordinal, constant, ordinal, fields_over, type_below, typed_names}
 use Rattle.type_parser.specs.Definitions.{const_def, type_def}
-use Rattle.type_parser.specs.Laws.{AtMostOne, OneConstant, OneOrdinal, OneType, OneBlockDecl}
+use Rattle.type_parser.specs.Laws.{AtMostOne}
 use Rattle.type_parser.proofs.Begin.{shrinking, constant_shrinks, ordinal_begins, ordinal_shrinks, type_below_advances, typed_names_advances}
-use Rattle.type_parser.proofs.Complete.{EndsOrdinal, EndsFields, is_closed, closed_complete, named_alone, packed_first, constant_complete, ordinal_complete, fields_over_complete, type_below_complete, typed_names_complete}
+use Rattle.type_parser.proofs.Complete.{EndsOrdinal, EndsFields, closed_complete, named_alone, packed_first, constant_complete, ordinal_complete, fields_over_complete, type_below_complete, typed_names_complete}
 use Rattle.type_parser.proofs.Definitions.{ended_advances, const_def_complete, const_def_advances, type_def_complete, type_def_advances, no_dots}
 
 -- ---- constants and ordinal types
 
-pub one_constant : OneConstant
+pub one_constant : AtMostOne IsConst
 one_constant x y i j a b = ap (λ p. p.0) (unique constant IsConst Anything constant_complete x y i j j a b tt tt)
 
 -- the tokens of a name are no other ordinal type's
@@ -41,7 +41,7 @@ named_only n (an_ordinal.Subrange low high span) i j a b =
     let two = constant_shrinks b.0.at j high b.0.second in
     absurd (omega arith)
 
-pub one_ordinal : OneOrdinal
+pub one_ordinal : AtMostOne IsOrdinal
 one_ordinal (an_ordinal.Name n) y i j a b = named_only n y i j a b
 one_ordinal x (an_ordinal.Name m) i j a b = sym (named_only m x i j b a)
 one_ordinal x y i j a b = ap (λ p. p.0) (ok_pair x y j j (sym (closed_complete x refl i j a) ∙ closed_complete y refl i j b))
@@ -138,7 +138,7 @@ one_below (suc room) x y i j a b =
     let same = same_layer room (type_below room) (TypeBelow room) (type_below_complete room) (type_below_advances room) (one_below room) (out-TypeExpr x) (out-TypeExpr y) i j a b in
     sym (roll-out-TypeExpr x) ∙ ap roll-TypeExpr same ∙ roll-out-TypeExpr y
 
-pub one_type : OneType
+pub one_type : (room : ℕ) → AtMostOne (IsType room)
 one_type room = one_below (suc room)
 
 -- ---- definition parts
@@ -180,7 +180,7 @@ part_kind room (a_decl.Const defs span) i j h = h.0.mark.kind
 part_kind room (a_decl.Types defs span) i j h = h.0.mark.kind
 part_kind room (a_decl.Var vars span) i j h = h.0.mark.kind
 
-pub one_block_decl : OneBlockDecl
+pub one_block_decl : (room : ℕ) → AtMostOne (IsBlockDecl room)
 one_block_decl room (a_decl.Const defs span) (a_decl.Const defs' span') i j a b =
     rw (part_same const_def IsConstDef Anything const_def_complete const_def_advances (λ j e. tt) k.Const defs defs' i j a.0 b.0, a.1, b.1)
 one_block_decl room (a_decl.Types defs span) (a_decl.Types defs' span') i j a b =

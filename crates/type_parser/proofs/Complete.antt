@@ -1,5 +1,5 @@
 -- What is spelled is read, where what stands after it cannot go on with it.
-use Rattle.std.proofs.Common.{◌≡◌, ◌<◌, ℕ, zero, suc, Bool, true, false, Option, Some, None, Ok, sym, refl, ap, ◌∙◌, subst, arith}
+use Rattle.std.proofs.Common.{◌≡◌, ◌<◌, ℕ, zero, suc, Bool, true, false, Some, None, Ok, sym, refl, ap, ◌∙◌, arith}
 use Rattle.std.specs.Prelude.{◌==◌, ◌&&◌}
 use Rattle.std.proofs.lemmas.Bool.{ne_eqb}
 use Rattle.estelle_tree.specs.declared.kind.Kind.{Kind}
@@ -15,25 +15,18 @@ use Rattle.estelle_tree.specs.declared.tree.type_expr.TypeExpr.{TypeExpr, out-Ty
 use Rattle.estelle_tree.specs.declared.tree.type_expr.TypeExpr.TheOpen.{TypeExpr-F}
 use Rattle.estelle_tree.specs.declared.tree.type_expr.TypeExpr.TheVariants.{rolls-Ordinal, rolls-Array, rolls-Fields, rolls-Set}
 use Rattle.estelle_tree.specs.declared.tree.type_expr.TypeExpr.TheViews.{roll-out-TypeExpr, roll-out-Fields, roll-out-TypedNames}
-use Rattle.estelle_tree.specs.declared.tree.type_expr.Fields.{Fields, out-Fields}
-use Rattle.estelle_tree.specs.declared.tree.type_expr.TypedNames.{TypedNames, out-TypedNames}
+use Rattle.estelle_tree.specs.declared.tree.type_expr.Fields.{out-Fields}
+use Rattle.estelle_tree.specs.declared.tree.type_expr.TypedNames.{out-TypedNames}
 use Rattle.estelle_tree.specs.Input.{Input, kind, next, start, between}
 use Rattle.estelle_tree.specs.Spans.{TypeExprLayer}
 use Rattle.estelle_tree.specs.Spelling.{Spelling, Flag, Enclosed, Joined}
-use Rattle.estelle_tree.specs.Types.{IsName, IsNames, of_sign, Signed, IsConst, IsOrdinal, AreTyped, AreFields, IsTypeLayer, TypeBelow, IsType}
+use Rattle.estelle_tree.specs.Types.{IsName, IsNames, of_sign, IsConst, IsOrdinal, AreTyped, AreFields, IsTypeLayer, TypeBelow, IsType}
 use Rattle.token_reader.specs.Reader.{Parser, sees, after, eat, name}
 use Rattle.token_reader.proofs.Sound.{ok_pair}
 use Rattle.token_reader.proofs.Complete.{After, Anything, Complete, Advances, sees_takes, unseen, expect_complete, eat_complete, number_complete, char_complete, name_complete, mark_complete, separated_complete, separated_if_complete}
-use Rattle.type_parser.specs.Types.{begins_name, begins_constant, begins_ordinal, names, sign_of, number_from, name_from, char_from, constant_by, constant, enumeration, subrange, ordinal_name, named_by, ordinal_by, ordinal, typed_over, fields_over, array_over, record_over, set_type, ordinal_type, opening, type_by, type_over, type_below, type_expr, typed_names}
+use Rattle.type_parser.specs.Types.{begins_name, begins_constant, begins_ordinal, names, sign_of, number_from, name_from, char_from, constant, enumeration, subrange, ordinal_name, named_by, ordinal_by, ordinal, typed_over, fields_over, array_over, record_over, set_type, ordinal_type, type_by, type_over, type_below, type_expr, typed_names}
+pub use Rattle.type_parser.specs.Laws.{EndsNames, EndsOrdinal}
 use Rattle.type_parser.proofs.Begin.{number_kind, char_kind, shrinking, name_shrinks, constant_begins, ordinal_begins, ordinal_shrinks, typed_over_begins, typed_over_advances, type_below_advances, type_advances}
-
--- names go on with a comma
-abbrev pub EndsNames : After
-EndsNames j = kind j ≡ k.Comma → ⊥
-
--- a name goes on with `..`
-abbrev pub EndsOrdinal : After
-EndsOrdinal j = kind j ≡ k.Dots → ⊥
 
 -- ---- names and constants
 

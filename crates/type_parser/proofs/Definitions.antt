@@ -1,26 +1,22 @@
 -- The laws of definitions and formal parameters.
-use Rattle.std.proofs.Common.{◌≡◌, ◌<◌, ◌≤◌, ℕ, Bool, true, false, List, [], ◌∷◌, Ok, sym, refl, ap, ◌∙◌, subst, arith}
+use Rattle.std.proofs.Common.{◌≡◌, ℕ, Bool, true, false, [], ◌∷◌, sym, refl, ap, ◌∙◌, arith}
 use Rattle.estelle_tree.specs.declared.kind.Kind.{Kind}
 use Rattle.estelle_tree.specs.declared.kind.Kind.TheVariants as k
-use Rattle.estelle_tree.specs.declared.tree.declaration.BlockDecl.{BlockDecl}
 use Rattle.estelle_tree.specs.declared.tree.declaration.BlockDecl.TheVariants as a_decl
-use Rattle.estelle_tree.specs.Input.{Input, kind, next, start, left, between}
-use Rattle.estelle_tree.specs.Spelling.{Spelling, Flag, Behind, Ended, Lines, Several, Separated}
+use Rattle.estelle_tree.specs.Input.{Input, kind, between}
+use Rattle.estelle_tree.specs.Spelling.{Spelling, Flag, Behind, Ended, Lines, Separated}
 use Rattle.estelle_tree.specs.Types.{IsName, IsNames, IsConst, IsType}
 use Rattle.estelle_tree.specs.Declarations.{IsConstDef, IsTypeDef, AreVars, IsFormal, AreFormals, IsBlockDecl}
-use Rattle.token_reader.specs.Reader.{Parser, sees, after, eat, expect, name}
-use Rattle.token_reader.specs.Lists.{ended, several, separated}
+use Rattle.token_reader.specs.Reader.{Parser, eat, expect, name}
+use Rattle.token_reader.specs.Lists.{ended, separated}
 use Rattle.token_reader.proofs.Sound.{Sound, through, answered, expect_sound, eat_sound, name_sound, ended_sound, several_sound, separated_sound}
 use Rattle.token_reader.proofs.Complete.{After, Anything, Complete, Advances, Shrinks, takes_shrinks, takes_advances, chain_shrinks, name_advances, name_complete, expect_complete, eat_complete, ended_complete, several_complete, separated_complete}
 use Rattle.type_parser.specs.Types.{begins_name, names, constant, type_expr, typed_names}
 use Rattle.type_parser.specs.Definitions.{begins_formal, begins_formals, begins_block_decl, part, const_def, type_def, formal, formals, const_part, type_part, var_part, block_decl_by, block_decl}
+pub use Rattle.type_parser.specs.Laws.{EndsPart}
 use Rattle.type_parser.proofs.Sound.{names_sound, constant_sound, type_expr_sound, typed_names_sound}
 use Rattle.type_parser.proofs.Begin.{Begins, shrinking, flag_shrinks, enclosed_advances, separated_advances, joined_advances, name_shrinks, name_begins, names_begins, names_advances, constant_shrinks, type_advances, typed_names_begins, typed_names_advances}
 use Rattle.type_parser.proofs.Complete.{EndsOrdinal, eaten, names_complete, constant_complete, type_expr_complete, typed_names_complete}
-
--- a part goes on with another item
-abbrev pub EndsPart : (Kind → Bool) → After
-EndsPart begins j = begins (kind j) ≡ false
 
 -- ---- what is read is spelled so
 

@@ -1,5 +1,5 @@
 -- What is read is spelled so.
-use Rattle.std.proofs.Common.{◌≡◌, ◌<◌, ℕ, zero, suc, Bool, true, false, List, Option, Some, None, Ok, Err, sym, refl, ap, ◌∙◌, subst, arith}
+use Rattle.std.proofs.Common.{◌≡◌, ◌<◌, ℕ, zero, suc, Bool, true, false, Option, Some, None, Ok, sym, refl, subst, arith}
 use Rattle.std.specs.Prelude.{◌==◌, if◌then◌else◌}
 use Rattle.estelle_tree.specs.declared.kind.Kind.{Kind}
 use Rattle.estelle_tree.specs.declared.kind.Kind.TheVariants as k
@@ -7,19 +7,17 @@ use Rattle.estelle_tree.specs.declared.tree.type_expr.Sign.{Sign}
 use Rattle.estelle_tree.specs.declared.tree.type_expr.Sign.TheVariants as sign
 use Rattle.estelle_tree.specs.declared.tree.type_expr.Const.{Const}
 use Rattle.estelle_tree.specs.declared.tree.type_expr.Const.TheVariants as const
-use Rattle.estelle_tree.specs.declared.tree.type_expr.Ordinal.{Ordinal}
 use Rattle.estelle_tree.specs.declared.tree.type_expr.Ordinal.TheVariants as an_ordinal
 use Rattle.estelle_tree.specs.declared.tree.type_expr.TypeExpr.{TypeExpr, out-TypeExpr}
-use Rattle.estelle_tree.specs.declared.tree.type_expr.TypeExpr.TheVariants as a_type
 use Rattle.estelle_tree.specs.declared.tree.type_expr.TypeExpr.TheVariants.{outs-Ordinal, outs-Array, outs-Fields, outs-Set}
 use Rattle.estelle_tree.specs.declared.tree.type_expr.TypeExpr.TheViews.{out-roll-Fields}
-use Rattle.estelle_tree.specs.declared.tree.type_expr.Fields.{Fields, roll-Fields}
-use Rattle.estelle_tree.specs.declared.tree.type_expr.TypedNames.{TypedNames, roll-TypedNames}
+use Rattle.estelle_tree.specs.declared.tree.type_expr.Fields.{roll-Fields}
+use Rattle.estelle_tree.specs.declared.tree.type_expr.TypedNames.{roll-TypedNames}
 use Rattle.estelle_tree.specs.Input.{Input, kind, start, next, between}
 use Rattle.estelle_tree.specs.Spans.{TypeExprLayer}
 use Rattle.estelle_tree.specs.Spelling.{Spelling, Flag, Mark}
 use Rattle.estelle_tree.specs.Types.{IsName, IsNames, of_sign, IsConst, IsOrdinal, AreTyped, AreFields, IsTypeLayer, TypeBelow, IsType}
-use Rattle.token_reader.specs.Reader.{Parser, pure, refuse, sees, after, eat, expect, name, number, char}
+use Rattle.token_reader.specs.Reader.{Parser, pure, refuse, eat, expect, name, number, char}
 use Rattle.token_reader.specs.Lists.{mark, separated, separated_if}
 use Rattle.token_reader.proofs.Sound.{Sound, through, answered, expect_sound, eat_sound, number_sound, char_sound, name_sound, mark_sound, separated_sound, separated_if_sound}
 use Rattle.type_parser.specs.Types.{begins_name, names, sign_of, number_from, name_from, char_from, constant_by, constant, enumeration, subrange, ordinal_name, named_by, ordinal_by, ordinal, typed_over, fields_over, array_over, record_over, set_type, ordinal_type, opening, type_by, type_over, type_below, type_expr, typed_names}

@@ -1,0 +1,13 @@
+use Rattle.type_parser.proofs.Sound.{constant_sound}
+use Rattle.type_parser.proofs.Complete.{constant_complete}
+use Rattle.type_parser.proofs.AtMostOne.{one_constant}
+use Rattle.type_parser.proofs.laws.constants_are_read.Goals as goal
+
+pub returns-clause-only : goal.returns-clause-only
+returns-clause-only c = constant_sound
+
+pub returns-clause-all : goal.returns-clause-all
+returns-clause-all c = constant_complete
+
+pub returns-clause-one : goal.returns-clause-one
+returns-clause-one c = one_constant
