@@ -1,5 +1,5 @@
 -- One equation of the tokens for each type of node in groups of clauses.
-use Rattle.std.proofs.Common.{◌≡◌, ◌++◌, ap, ◌∙◌, refl, map}
+use Rattle.std.proofs.Common.{◌≡◌, ◌++◌}
 use Rattle.estelle_tree.specs.declared.tree.clause.TransBody.{TransBody, out-TransBody, map-TransBody, fold_out-TransBody}
 use Rattle.estelle_tree.specs.declared.tree.clause.TransBody.TheFolds.{fold_out-Group}
 use Rattle.estelle_tree.specs.declared.tree.clause.Group.{Group, out-Group}

@@ -1,17 +1,10 @@
 -- Which tokens blocks, clauses and groups of clauses spell.
-use Rattle.std.proofs.Common.{◌≡◌, ℕ, zero, suc, Bool, true, false, List, [], ◌∷◌, ◌++◌, refl, Option, append_assoc, length}
+use Rattle.std.proofs.Common.{ℕ, zero, suc, List, [], ◌∷◌, ◌++◌, refl, append_assoc, length}
 use Rattle.std.specs.List.{flat_map}
 use Rattle.estelle_tree.specs.declared.kind.Kind.{Kind}
 use Rattle.estelle_tree.specs.declared.kind.Kind.TheVariants as k
-use Rattle.estelle_tree.specs.declared.tree.name.NameList.{NameList}
-use Rattle.estelle_tree.specs.declared.tree.clause.Label.{Label}
-use Rattle.estelle_tree.specs.declared.tree.clause.Block.{Block}
-use Rattle.estelle_tree.specs.declared.tree.clause.AnyDom.{AnyDom}
-use Rattle.estelle_tree.specs.declared.tree.clause.NextState.{NextState}
 use Rattle.estelle_tree.specs.declared.tree.clause.NextState.TheVariants as next_state
-use Rattle.estelle_tree.specs.declared.tree.clause.DelayHigh.{DelayHigh}
 use Rattle.estelle_tree.specs.declared.tree.clause.DelayHigh.TheVariants as delay_high
-use Rattle.estelle_tree.specs.declared.tree.clause.Clause.{Clause}
 use Rattle.estelle_tree.specs.declared.tree.clause.Clause.TheVariants as clause
 use Rattle.estelle_tree.specs.declared.tree.clause.TransBody.{TransBody, out-TransBody, map-TransBody}
 use Rattle.estelle_tree.specs.declared.tree.clause.TransBody.TheOpen.{TransBody-F}
@@ -19,15 +12,15 @@ use Rattle.estelle_tree.specs.declared.tree.clause.Group.{Group, out-Group}
 use Rattle.estelle_tree.specs.Input.{Input}
 use Rattle.estelle_tree.specs.Spans.{TransBodyLayer}
 use Rattle.estelle_tree.specs.Spelling.{Spelling, Behind, Enclosed, Separated}
-use Rattle.estelle_tree.specs.Types.{IsName, IsNames, IsConst, IsOrdinal}
+use Rattle.estelle_tree.specs.Types.{IsNames, IsConst, IsOrdinal}
 use Rattle.estelle_tree.specs.Expressions.{IsExpr}
 use Rattle.estelle_tree.specs.Declarations.{IsBlockDecl}
-use Rattle.estelle_tree.specs.Clauses.{IsLabel, IsAnyDom, IsNextState, IsWhen, IsBlock, IsDelayHigh, IsDelay, IsClause, MoreGroups, AreGroups, TransBodyLayerOf, TransBodyOf, GroupOf, GroupWithin, IsTransBody, clause_kinds, way_of}
-use Rattle.estelle_printer.specs.Forms.{Tokens, mark, optional, separated, enclosed}
-use Rattle.estelle_printer.specs.TypeTokens.{name, names, constant, ordinal_type}
+use Rattle.estelle_tree.specs.Clauses.{IsLabel, IsAnyDom, IsNextState, IsBlock, IsDelayHigh, IsClause, MoreGroups, AreGroups, TransBodyLayerOf, TransBodyOf, GroupWithin, IsTransBody, clause_kinds, way_of}
+use Rattle.estelle_printer.specs.Forms.{Tokens, mark, separated, enclosed}
+use Rattle.estelle_printer.specs.TypeTokens.{names, constant, ordinal_type}
 use Rattle.estelle_printer.specs.ExpressionTokens.{expr}
 use Rattle.estelle_printer.specs.DeclarationTokens.{block_decl_tokens}
-use Rattle.estelle_printer.specs.ClauseTokens.{label, block, any_dom, next_state_tokens, delay_high_tokens, may_be_high, when_params, clause_tokens, trans_body_layer, trans_body, group}
+use Rattle.estelle_printer.specs.ClauseTokens.{label, block, any_dom, next_state_tokens, delay_high_tokens, clause_tokens, trans_body_layer, trans_body, group}
 use Rattle.estelle_printer.proofs.WritingLemmas.{chain_map}
 use Rattle.estelle_printer.proofs.FormLaws.{Stand, ◌⋯◌, none, same_tokens, regrouped, takes, Tells, behind, chained, may_be, separate, enclosed_in, joined}
 use Rattle.estelle_printer.proofs.TypeLaws.{name_tells, names_dot, names_tells, constant_tells, ordinal_tells}

@@ -1,28 +1,19 @@
 -- Which tokens definitions and routines spell.
-use Rattle.std.proofs.Common.{◌≡◌, ℕ, Bool, true, false, List, ◌++◌, refl, Option, append_assoc}
-use Rattle.std.specs.List.{flat_map}
+use Rattle.std.proofs.Common.{◌≡◌, ℕ, true, false, refl, append_assoc}
 use Rattle.estelle_tree.specs.declared.kind.Kind.TheVariants as k
-use Rattle.estelle_tree.specs.declared.tree.statement.Stmts.{Stmts}
-use Rattle.estelle_tree.specs.declared.tree.declaration.ConstDef.{ConstDef}
-use Rattle.estelle_tree.specs.declared.tree.declaration.TypeDef.{TypeDef}
-use Rattle.estelle_tree.specs.declared.tree.declaration.BlockDecl.{BlockDecl}
 use Rattle.estelle_tree.specs.declared.tree.declaration.BlockDecl.TheVariants as block_decl
-use Rattle.estelle_tree.specs.declared.tree.declaration.Formal.{Formal}
-use Rattle.estelle_tree.specs.declared.tree.declaration.Formals.{Formals}
-use Rattle.estelle_tree.specs.declared.tree.declaration.Routine.{Routine}
 use Rattle.estelle_tree.specs.declared.tree.declaration.RoutineForm.{RoutineForm}
 use Rattle.estelle_tree.specs.declared.tree.declaration.RoutineForm.TheVariants as form
-use Rattle.estelle_tree.specs.Input.{Input}
-use Rattle.estelle_tree.specs.Spelling.{Spelling, Behind, Enclosed, Separated, Lines}
-use Rattle.estelle_tree.specs.Types.{IsName, IsNames, IsConst, IsType, AreTyped}
+use Rattle.estelle_tree.specs.Spelling.{Enclosed, Separated, Lines}
+use Rattle.estelle_tree.specs.Types.{IsName, IsNames, IsConst, IsType}
 use Rattle.estelle_tree.specs.Statements.{StmtsOf, StmtBelow}
 use Rattle.estelle_tree.specs.Declarations.{IsConstDef, IsTypeDef, AreVars, IsBlockDecl, IsStatementPart, IsFormal, AreFormals, IsResult, IsRoutine, of_form}
-use Rattle.estelle_printer.specs.Forms.{Tokens, mark, flag, optional, separated, lines, enclosed}
+use Rattle.estelle_printer.specs.Forms.{mark, separated, lines, enclosed}
 use Rattle.estelle_printer.specs.TypeTokens.{name, names, constant, type_expr, typed_names}
 use Rattle.estelle_printer.specs.StatementTokens.{stmts}
 use Rattle.estelle_printer.specs.DeclarationTokens.{const_def, type_def, block_decl_tokens, statement_part, formal, formals, routine_kind, result_type, routine}
 use Rattle.estelle_printer.proofs.TerminalLaws.{is_plain}
-use Rattle.estelle_printer.proofs.FormLaws.{Stand, ◌⋯◌, none, same_tokens, regrouped, takes, Tells, flagged, behind, chained, may_be, ended, in_lines, separate, enclosed_in, joined}
+use Rattle.estelle_printer.proofs.FormLaws.{◌⋯◌, none, same_tokens, regrouped, takes, Tells, flagged, behind, chained, may_be, ended, in_lines, separate, enclosed_in, joined}
 use Rattle.estelle_printer.proofs.TypeLaws.{name_tells, names_tells, constant_tells, type_tells, typed_names_tells}
 use Rattle.estelle_printer.proofs.StatementLaws.{stmts_of_tells, stmt_below_tells}
 

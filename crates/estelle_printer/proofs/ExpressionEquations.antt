@@ -1,5 +1,5 @@
 -- One equation of the tokens for each type of node in expressions.
-use Rattle.std.proofs.Common.{◌≡◌, ◌++◌, ap, ◌∙◌, refl, map, Option, Some, None}
+use Rattle.std.proofs.Common.{◌≡◌, ◌++◌, ap, ◌∙◌, refl, Option, Some, None}
 use Rattle.estelle_tree.specs.declared.span.Span.{Span}
 use Rattle.std.specs.List.{flat_map}
 use Rattle.estelle_tree.specs.declared.kind.Kind.TheVariants as k

@@ -1,5 +1,5 @@
 -- Which tokens an expression spells.
-use Rattle.std.proofs.Common.{◌≡◌, ℕ, zero, suc, Bool, true, false, List, [], ◌∷◌, ◌++◌, map, refl, sym, ap, ◌∙◌, Option}
+use Rattle.std.proofs.Common.{◌≡◌, ℕ, zero, suc, true, false, List, [], ◌∷◌, ◌++◌, map, refl, sym, ap, ◌∙◌}
 use Rattle.std.specs.List.{flat_map}
 use Rattle.estelle_tree.specs.declared.kind.Kind.TheVariants as k
 use Rattle.estelle_tree.specs.declared.token.Token.TheVariants as token
@@ -22,15 +22,13 @@ use Rattle.estelle_tree.specs.declared.tree.expression.Variable.{Variable, out-V
 use Rattle.estelle_tree.specs.Input.{Input}
 use Rattle.estelle_tree.specs.Spans.{FactorLayer, SelectorLayer}
 use Rattle.estelle_tree.specs.Spelling.{Spelling, Chain, Behind, Separated}
-use Rattle.estelle_tree.specs.Types.{IsName}
-use Rattle.estelle_tree.specs.Expressions.{of_relation, of_adding, of_multiplying, TermOf, SimpleOf, ExprOf, ArgsOf, ElemOf, ElemsOf, SelectorLayerOf, SelectorOf, VariableOf, CallOf, IsFactorLayer, FactorBelow, ExprBelow, IsFactor, IsExpr, IsArgs, IsVariable}
-use Rattle.estelle_printer.specs.Forms.{Tokens, mark, optional, separated, enclosed}
+use Rattle.estelle_tree.specs.Expressions.{of_relation, of_adding, of_multiplying, TermOf, SimpleOf, ExprOf, ArgsOf, ElemOf, ElemsOf, SelectorLayerOf, SelectorOf, VariableOf, IsFactorLayer, FactorBelow, ExprBelow, IsFactor, IsExpr, IsArgs, IsVariable}
+use Rattle.estelle_printer.specs.Forms.{Tokens, mark, separated, enclosed}
 use Rattle.estelle_printer.specs.Canonical.{bare}
-use Rattle.estelle_printer.specs.TypeTokens.{name, sign}
 use Rattle.estelle_printer.specs.ExpressionTokens.{factor_layer, selector_layer, factor, selector, args, elem, expr, simple, term, variable}
 use Rattle.estelle_printer.proofs.TerminalLaws.{is_plain}
 use Rattle.estelle_printer.proofs.WritingLemmas.{separated_map}
-use Rattle.estelle_printer.proofs.FormLaws.{Stand, ◌⋯◌, is_calm, ends_so, calm_join, ends_join, follow, none, same_tokens, regrouped, one_token, takes, Tells, behind, chained, may_be, separate, enclosed_in}
+use Rattle.estelle_printer.proofs.FormLaws.{Stand, ◌⋯◌, is_calm, ends_so, calm_join, ends_join, follow, none, same_tokens, one_token, Tells, behind, chained, may_be, separate, enclosed_in}
 use Rattle.estelle_printer.proofs.TypeLaws.{name_tells, sign_tells, name_no_end, behind_name, dot_name}
 use Rattle.estelle_printer.proofs.ExpressionEquations.{factor_is, selector_is, args_is, elem_is, expr_is, simple_is, term_is, variable_is}
 

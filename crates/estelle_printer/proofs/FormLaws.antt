@@ -1,18 +1,17 @@
 -- What the forms of the grammar spell, as tokens without their places.
-use Rattle.std.proofs.Common.{◌≡◌, ℕ, Bool, true, false, List, [], ◌∷◌, ◌++◌, map, Some, None, Option, refl, sym, ap, ◌∙◌, append_assoc}
+use Rattle.std.proofs.Common.{◌≡◌, ℕ, Bool, true, false, List, [], ◌∷◌, ◌++◌, Some, None, refl, sym, ap, ◌∙◌, append_assoc}
 use Rattle.std.specs.List.{flat_map}
 use Rattle.std.specs.Prelude.{not, ◌&&◌}
 use Rattle.estelle_tree.specs.declared.token.Token.{Token}
 use Rattle.estelle_tree.specs.declared.token.Placed.{Placed}
 use Rattle.estelle_tree.specs.declared.kind.Kind.{Kind}
 use Rattle.estelle_tree.specs.declared.kind.Kind.TheVariants as k
-use Rattle.estelle_tree.specs.Kind.{kind_of}
-use Rattle.estelle_tree.specs.Input.{Input, input, kind, next, token_at, first_kind, first_token, after_first}
+use Rattle.estelle_tree.specs.Input.{Input, kind, next, token_at, first_kind, first_token, after_first}
 use Rattle.estelle_tree.specs.Spelling.{Spelling, Takes, Flag, Mark, Optional, Chain, Several, Behind, Ended, Joined, Separated, Enclosed, Lines, MayBeLines}
 use Rattle.estelle_tree.specs.Lexed.{is_end, is_dot}
 use Rattle.estelle_printer.specs.Canonical.{bare}
 use Rattle.estelle_printer.specs.Terminals.{terminal}
-use Rattle.estelle_printer.specs.Forms.{Tokens, mark, flag, optional, each_behind, separated, lines, may_be_lines, enclosed}
+use Rattle.estelle_printer.specs.Forms.{Tokens, mark, flag, optional, separated, lines, may_be_lines, enclosed}
 use Rattle.estelle_printer.proofs.TerminalLaws.{has_one, token_terminal, is_plain, plain_one, plain_no_dot}
 
 -- no `.` stands right behind the word `end`, where the flag says whether that word stands before these

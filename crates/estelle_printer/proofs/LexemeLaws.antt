@@ -1,6 +1,6 @@
 -- How a token is written is read as that token, where a space or a line feed follows.
-use Rattle.std.proofs.Common.{◌≡◌, ◌≢◌, ℕ, zero, suc, ◌+◌, ◌-◌, ◌*◌, ◌^◌, ◌<◌, ◌≤◌, Bool, true, false, List, [], ◌∷◌, ◌++◌, fold, map, length, inl, inr, refl, sym, ap, subst, ◌∙◌, arith, rules, ℤ}
-use Rattle.std.specs.Prelude.{◌⊎◌, ◌&&◌, ◌||◌, ◌==◌, if◌then◌else◌, codes, IsTrue, ◌≤ℤ◌}
+use Rattle.std.proofs.Common.{◌≡◌, ℕ, ◌+◌, ◌-◌, ◌*◌, ◌^◌, ◌<◌, ◌≤◌, Bool, true, false, List, [], ◌∷◌, fold, map, length, refl, sym, ap, subst, ◌∙◌, arith, rules, ℤ}
+use Rattle.std.specs.Prelude.{◌||◌, ◌==◌, if◌then◌else◌, codes, ◌≤ℤ◌}
 use lib.IntN.{pos, negsuc}
 use Rattle.std.proofs.lemmas.Int.{ints}
 use Rattle.estelle_printer.proofs.FormLaws.{both, each_of}
@@ -14,7 +14,7 @@ use Rattle.estelle_tree.specs.declared.token.Token.{Token}
 use Rattle.estelle_tree.specs.declared.token.Token.TheVariants as token
 use Rattle.estelle_tree.specs.declared.token.Symbol.{Symbol}
 use Rattle.estelle_tree.specs.declared.token.Symbol.TheVariants as symbol
-use Rattle.estelle_tree.specs.Lexed.{first_is, is_word_byte, decimal, number_limit, IsWordToken, IsNumberToken, IsCharToken, IsSymbolToken, IsToken}
+use Rattle.estelle_tree.specs.Lexed.{first_is, is_word_byte, decimal, IsWordToken, IsNumberToken, IsCharToken, IsSymbolToken, IsToken}
 use Rattle.estelle_tree.specs.Spells.{is_word_form}
 use Rattle.estelle_tree.specs.Spells as spells
 use Rattle.estelle_printer.specs.Canonical.{symbol_text, char_text, written, space, line_feed}

@@ -1,23 +1,19 @@
 -- The canonical text of tokens is cut into these tokens.
-use Rattle.std.proofs.Common.{◌≡◌, ℕ, zero, suc, ◌+◌, Bool, true, false, List, [], ◌∷◌, ◌++◌, map, length, drop, refl, sym, ap, subst, ◌∙◌, append_assoc, append-nil, length-append, arith, rules}
+use Rattle.std.proofs.Common.{◌≡◌, ℕ, ◌+◌, Bool, true, false, List, [], ◌∷◌, ◌++◌, length, drop, refl, sym, ap, subst, ◌∙◌, append_assoc, append-nil, length-append, arith}
 use Rattle.std.specs.Prelude.{not, ◌&&◌, All}
 use Rattle.std.proofs.lemmas.List.Elements.{All-nil, All-cons, All-head, All-tail, All-map}
 use Rattle.estelle_tree.specs.declared.token.Token.{Token}
 use Rattle.estelle_tree.specs.declared.token.Token.TheVariants as token
-use Rattle.estelle_tree.specs.declared.token.Symbol.{Symbol}
 use Rattle.estelle_tree.specs.declared.token.Symbol.TheVariants as symbol
 use Rattle.estelle_tree.specs.declared.token.Placed.{Placed}
 use Rattle.estelle_tree.specs.declared.kind.Kind.TheVariants as k
-use Rattle.estelle_tree.specs.declared.tree.specification.Spec.{Spec}
 use Rattle.estelle_tree.specs.Lexed.{is_end, is_dot, placed, Lexed, IsLexed, IsBlank, IsBlankFrom, IsSeparator, IsToken}
 use Rattle.std.proofs.lemmas.List.{drop_at}
-use Rattle.estelle_tree.specs.Spells.{Spells}
 use Rattle.estelle_tree.specs.Spells as spells
 use Rattle.estelle_printer.specs.Canonical.{bare, written, gap_after, canonical, line_feed, space}
 use Rattle.estelle_printer.specs.Laws.{CanonicalTextIsLexed}
-use Rattle.estelle_printer.specs.Forms.{mark}
 use Rattle.estelle_printer.specs.Terminals.{terminal}
-use Rattle.estelle_printer.specs.SpecificationTokens.{before_dot, specification}
+use Rattle.estelle_printer.specs.SpecificationTokens.{before_dot}
 use Rattle.estelle_printer.proofs.WritingLemmas.{spaced}
 use Rattle.estelle_printer.proofs.FormLaws.{is_calm, each_of}
 use Rattle.estelle_printer.proofs.LexemeLaws.{spaced_lexeme, fed_lexeme}

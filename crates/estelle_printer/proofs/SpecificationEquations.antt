@@ -1,5 +1,5 @@
 -- One equation of the tokens for each type of node in bodies.
-use Rattle.std.proofs.Common.{◌≡◌, ◌++◌, ap, ◌∙◌, refl, map, sym, ℕ, List}
+use Rattle.std.proofs.Common.{◌≡◌, ◌++◌, ap, ◌∙◌, sym, ℕ, List}
 use Rattle.std.specs.List.{flat_map}
 use Rattle.estelle_tree.specs.declared.kind.Kind.TheVariants as k
 use Rattle.estelle_tree.specs.declared.tree.specification.Decl.{Decl, out-Decl, map-Decl, fold_out-Decl}
@@ -10,7 +10,6 @@ use Rattle.estelle_printer.proofs.WritingLemmas.{chain_map, write-append}
 use Rattle.estelle_printer.specs.Terminals.{terminal}
 use Rattle.estelle_printer.specs.Writing.{put, write}
 use Rattle.estelle_printer.specs.Forms.{Tokens, mark, optional}
-use Rattle.estelle_printer.specs.TypeTokens.{name}
 use Rattle.estelle_printer.specs.SpecificationTokens.{init, trans, body_head, decl_layer, body_layer, parts_layer, decl, body, parts}
 
 pub decl_is : (x : Decl) → decl x ≡ decl_layer (map-Decl Decl Body Parts Tokens Tokens Tokens decl body parts (out-Decl x))

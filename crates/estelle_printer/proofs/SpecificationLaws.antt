@@ -1,47 +1,30 @@
 -- Which tokens channels, headers, bodies and a specification spell.
-use Rattle.std.proofs.Common.{◌≡◌, ℕ, zero, suc, Bool, true, false, List, [], ◌∷◌, ◌++◌, refl, sym, ap, ◌∙◌, Option, append_assoc, append-nil}
-use Rattle.std.specs.List.{flat_map}
+use Rattle.std.proofs.Common.{◌≡◌, ℕ, zero, suc, true, false, List, [], ◌++◌, refl, sym, ap, ◌∙◌, append_assoc, append-nil}
 use Rattle.estelle_tree.specs.declared.token.Placed.{Placed}
 use Rattle.estelle_tree.specs.declared.kind.Kind.TheVariants as k
 use Rattle.estelle_tree.specs.declared.tree.specification.Spec.{Spec}
-use Rattle.estelle_tree.specs.declared.tree.specification.SysAttr.{SysAttr}
 use Rattle.estelle_tree.specs.declared.tree.specification.SysAttr.TheVariants as sys_attr
-use Rattle.estelle_tree.specs.declared.tree.specification.Attr.{Attr}
 use Rattle.estelle_tree.specs.declared.tree.specification.Attr.TheVariants as attr
-use Rattle.estelle_tree.specs.declared.tree.specification.Head.{Head}
 use Rattle.estelle_tree.specs.declared.tree.specification.Head.TheVariants as head
-use Rattle.estelle_tree.specs.declared.tree.specification.Disc.{Disc}
 use Rattle.estelle_tree.specs.declared.tree.specification.Disc.TheVariants as disc
 use Rattle.estelle_tree.specs.declared.tree.specification.Parts.{Parts, out-Parts}
-use Rattle.estelle_tree.specs.declared.tree.specification.Trans.{Trans}
-use Rattle.estelle_tree.specs.declared.tree.specification.Init.{Init}
 use Rattle.estelle_tree.specs.declared.tree.specification.Decl.{Decl, out-Decl, map-Decl}
 use Rattle.estelle_tree.specs.declared.tree.specification.Decl.TheOpen.{Decl-F}
-use Rattle.estelle_tree.specs.declared.tree.specification.Channel.{Channel}
-use Rattle.estelle_tree.specs.declared.tree.specification.InterGroup.{InterGroup}
-use Rattle.estelle_tree.specs.declared.tree.specification.Inter.{Inter}
-use Rattle.estelle_tree.specs.declared.tree.specification.Params.{Params}
-use Rattle.estelle_tree.specs.declared.tree.specification.ParamGroup.{ParamGroup}
-use Rattle.estelle_tree.specs.declared.tree.specification.Header.{Header}
-use Rattle.estelle_tree.specs.declared.tree.specification.IpDecl.{IpDecl}
-use Rattle.estelle_tree.specs.declared.tree.specification.ModvarDecl.{ModvarDecl}
-use Rattle.estelle_tree.specs.declared.tree.specification.StatesetDef.{StatesetDef}
 use Rattle.estelle_tree.specs.declared.tree.specification.Body.{Body, out-Body}
 use Rattle.estelle_tree.specs.Input.{Input, input}
 use Rattle.estelle_tree.specs.Spans.{DeclLayer}
-use Rattle.estelle_tree.specs.Spelling.{Spelling, Takes, Behind, Enclosed, Separated, Lines}
+use Rattle.estelle_tree.specs.Spelling.{Spelling, Behind, Enclosed, Lines}
 use Rattle.estelle_tree.specs.Types.{IsName, IsNames}
 use Rattle.estelle_tree.specs.Declarations.{IsConstDef, IsTypeDef, AreVars}
-use Rattle.estelle_tree.specs.Specification.{IsSysAttr, IsAttr, IsQueue, IsHead, AreParams, IsParams, MayBeParams, IsInter, AreInters, IsChannel, IsIpDecl, AreModvars, IsStateset, IsHeader, IsInit, IsTrans, BodyOf, DeclLayerOf, DeclOf, PartsOf, PartsBelow, IsParts, IsSpec}
+use Rattle.estelle_tree.specs.Specification.{IsSysAttr, IsAttr, IsQueue, IsHead, AreParams, IsParams, MayBeParams, IsInter, AreInters, IsChannel, IsIpDecl, AreModvars, IsStateset, IsHeader, IsInit, IsTrans, BodyOf, DeclLayerOf, DeclOf, PartsOf, PartsBelow, IsSpec}
 use Rattle.estelle_tree.specs.Spells.{Spells, max_nesting}
 use Rattle.estelle_printer.specs.Canonical.{bare, canonical, IsCanonicalText}
 use Rattle.estelle_printer.specs.Laws.{SpellsOneList}
-use Rattle.estelle_printer.specs.Forms.{Tokens, mark, optional, separated, lines, may_be_lines, enclosed}
+use Rattle.estelle_printer.specs.Forms.{Tokens, mark, lines, enclosed}
 use Rattle.estelle_printer.specs.TypeTokens.{name, names, typed_names}
-use Rattle.estelle_printer.specs.DeclarationTokens.{const_def, type_def, routine}
-use Rattle.estelle_printer.specs.ClauseTokens.{block, trans_body}
-use Rattle.estelle_printer.specs.SpecificationTokens.{sys_attr_tokens, attr_tokens, queue, head_tokens, param_group, params, may_be_params, inter, inter_group, channel, ip_decl, modvar_decl, stateset_def, header, first_state, init, trans, decl_layer, decl, body, parts, before_dot, specification}
-use Rattle.estelle_printer.proofs.FormLaws.{Stand, ◌⋯◌, is_calm, follow, terminal_taken, none, same_tokens, regrouped, takes, Tells, behind, chained, may_be, several, in_lines, may_be_in_lines, separate, enclosed_in, joined}
+use Rattle.estelle_printer.specs.DeclarationTokens.{const_def, type_def}
+use Rattle.estelle_printer.specs.SpecificationTokens.{sys_attr_tokens, attr_tokens, queue, head_tokens, param_group, params, may_be_params, inter, inter_group, channel, ip_decl, modvar_decl, stateset_def, header, init, trans, decl_layer, decl, body, parts, before_dot, specification}
+use Rattle.estelle_printer.proofs.FormLaws.{Stand, ◌⋯◌, is_calm, follow, terminal_taken, same_tokens, regrouped, takes, Tells, behind, chained, may_be, several, in_lines, may_be_in_lines, separate, enclosed_in, joined}
 use Rattle.estelle_printer.proofs.TypeLaws.{name_tells, names_tells}
 use Rattle.estelle_printer.proofs.DeclarationLaws.{const_def_tells, type_def_tells, vars_tells, routine_tells}
 use Rattle.estelle_printer.proofs.ClauseLaws.{block_tells, trans_body_tells}

@@ -1,13 +1,11 @@
 -- Which tokens a statement spells.
-use Rattle.std.proofs.Common.{◌≡◌, ℕ, zero, suc, Bool, true, false, List, ◌++◌, refl, ap, sym, Option, Some, None, append_assoc, append-nil}
+use Rattle.std.proofs.Common.{◌≡◌, ℕ, zero, suc, Bool, true, false, ◌++◌, refl, ap, sym, Option, Some, None, append_assoc}
 use Rattle.estelle_tree.specs.declared.kind.Kind.{Kind}
 use Rattle.estelle_tree.specs.declared.kind.Kind.TheVariants as k
 use Rattle.estelle_tree.specs.declared.tree.name.Name.{Name}
-use Rattle.estelle_tree.specs.declared.tree.expression.Args.{Args}
 use Rattle.estelle_tree.specs.declared.tree.expression.Expr.{Expr}
 use Rattle.estelle_tree.specs.declared.tree.statement.Direction.{Direction}
 use Rattle.estelle_tree.specs.declared.tree.statement.Direction.TheVariants as direction_of
-use Rattle.estelle_tree.specs.declared.tree.statement.Ip.{Ip}
 use Rattle.estelle_tree.specs.declared.tree.statement.Stmt.{Stmt, out-Stmt, map-Stmt}
 use Rattle.estelle_tree.specs.declared.tree.statement.Stmt.TheOpen.{Stmt-F}
 use Rattle.estelle_tree.specs.declared.tree.statement.Stmts.{Stmts, out-Stmts}
@@ -17,7 +15,7 @@ use Rattle.estelle_tree.specs.Spans.{StmtLayer}
 use Rattle.estelle_tree.specs.Spelling.{Spelling, Optional, Behind, Joined, Separated, Enclosed}
 use Rattle.estelle_tree.specs.Types.{IsName, IsConst}
 use Rattle.estelle_tree.specs.Expressions.{IsExpr, IsArgs, IsVariable, ExprBelow}
-use Rattle.estelle_tree.specs.Statements.{IsIp, MayBeArgs, of_direction, StmtsOf, CaseOf, IsIf, IsChoice, IsStmtLayer, StmtBelow}
+use Rattle.estelle_tree.specs.Statements.{IsIp, MayBeArgs, of_direction, StmtsOf, CaseOf, IsIf, IsStmtLayer, StmtBelow}
 use Rattle.estelle_printer.specs.Forms.{Tokens, mark, flag, optional, separated, enclosed}
 use Rattle.estelle_printer.specs.TypeTokens.{name, constant}
 use Rattle.estelle_printer.specs.ExpressionTokens.{expr, args, variable}

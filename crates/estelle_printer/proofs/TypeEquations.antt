@@ -1,5 +1,5 @@
 -- One equation of the tokens for each type of node.
-use Rattle.std.proofs.Common.{◌≡◌, ◌++◌, ap, ◌∙◌, refl, map}
+use Rattle.std.proofs.Common.{◌≡◌, ◌++◌, ap, ◌∙◌}
 use Rattle.estelle_tree.specs.declared.kind.Kind.TheVariants as k
 use Rattle.estelle_tree.specs.declared.tree.type_expr.TypeExpr.{TypeExpr, out-TypeExpr, map-TypeExpr, fold_out-TypeExpr}
 use Rattle.estelle_tree.specs.declared.tree.type_expr.TypeExpr.TheFolds.{fold_out-Fields, fold_out-TypedNames}

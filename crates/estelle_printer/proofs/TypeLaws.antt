@@ -6,12 +6,9 @@ use Rattle.std.proofs.lemmas.Slice.Eq.{bytes_eq-Decides}
 use Rattle.estelle_tree.specs.declared.kind.Kind.TheVariants as k
 use Rattle.estelle_tree.specs.declared.token.Token.TheVariants as token
 use Rattle.estelle_tree.specs.declared.tree.name.Name.{Name}
-use Rattle.estelle_tree.specs.declared.tree.name.NameList.{NameList}
 use Rattle.estelle_tree.specs.declared.tree.type_expr.Sign.{Sign}
 use Rattle.estelle_tree.specs.declared.tree.type_expr.Sign.TheVariants as sign_of
-use Rattle.estelle_tree.specs.declared.tree.type_expr.Const.{Const}
 use Rattle.estelle_tree.specs.declared.tree.type_expr.Const.TheVariants as const
-use Rattle.estelle_tree.specs.declared.tree.type_expr.Ordinal.{Ordinal}
 use Rattle.estelle_tree.specs.declared.tree.type_expr.Ordinal.TheVariants as ordinal
 use Rattle.estelle_tree.specs.declared.tree.type_expr.TypeExpr.{TypeExpr, out-TypeExpr, map-TypeExpr}
 use Rattle.estelle_tree.specs.declared.tree.type_expr.TypeExpr.TheOpen.{TypeExpr-F}
@@ -22,9 +19,9 @@ use Rattle.estelle_tree.specs.Kind.{kind_of, kind_of_word}
 use Rattle.estelle_tree.specs.Lexed.{is_end}
 use Rattle.estelle_tree.specs.Input.{Input, kind, token_at, first_kind, first_token}
 use Rattle.estelle_tree.specs.Spans.{TypeExprLayer}
-use Rattle.estelle_tree.specs.Spelling.{Spelling, Takes, Mark, Behind, Joined, Separated}
-use Rattle.estelle_tree.specs.Types.{IsName, IsNames, IsConst, IsOrdinal, of_sign, AreTyped, AreFields, IsArray, IsRecord, IsSet, IsTypeLayer, TypeBelow, IsType}
-use Rattle.estelle_printer.specs.Forms.{Tokens, mark, flag, optional, separated, enclosed}
+use Rattle.estelle_tree.specs.Spelling.{Spelling, Takes, Mark, Joined, Separated}
+use Rattle.estelle_tree.specs.Types.{IsName, IsNames, IsConst, IsOrdinal, of_sign, AreTyped, AreFields, IsTypeLayer, TypeBelow, IsType}
+use Rattle.estelle_printer.specs.Forms.{Tokens, mark, separated}
 use Rattle.estelle_printer.specs.Canonical.{bare}
 use Rattle.estelle_printer.specs.TypeTokens.{name, names, sign, constant, ordinal_type, type_layer, type_expr, fields, typed_names}
 use Rattle.estelle_printer.proofs.TerminalLaws.{is_plain}

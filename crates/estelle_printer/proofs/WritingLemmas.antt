@@ -1,6 +1,5 @@
 -- What is written of lists of tokens.
-use Rattle.std.proofs.Common.{◌≡◌, ℕ, ◌+◌, ◌<◌, List, [], ◌∷◌, ◌++◌, fold, refl, map, take, drop, get_or, length, arith, ap, append_assoc, append-nil, ◌∙◌, sym, add-one, zero, suc, false}
-use Rattle.std.proofs.lemmas.List.Concat.{flat_map-append}
+use Rattle.std.proofs.Common.{◌≡◌, ℕ, ◌+◌, ◌<◌, List, [], ◌∷◌, ◌++◌, refl, map, take, get_or, length, arith, ap, append_assoc, append-nil, ◌∙◌, sym, add-one, zero, suc, false}
 use Rattle.std.proofs.lemmas.Bool.Decides.{nat_tests}
 use Rattle.std.specs.List.{flat_map}
 use Rattle.std.specs.Prelude.{not, ◌==◌, Result, Ok, Err, IfOk, OnOk}
@@ -8,7 +7,7 @@ use Rattle.estelle_tree.specs.declared.token.Token.{Token}
 use Rattle.estelle_tree.specs.declared.kind.Kind.{Kind}
 use Rattle.estelle_printer.specs.Canonical.{written, gap_after, line_feed, canonical}
 use Rattle.estelle_printer.specs.Writing.{put, write}
-use Rattle.estelle_printer.specs.Forms.{Tokens, mark, flag, optional, separated, each_behind}
+use Rattle.estelle_printer.specs.Forms.{Tokens, mark, flag, separated, each_behind}
 
 pub write-nil : (text : List ℕ) → write text [] ≡ text
 unfolding write

@@ -1,5 +1,5 @@
 -- The tokens of blocks, clauses and groups of clauses.
-use Rattle.std.specs.Prelude.{List, [], ◌++◌, Option}
+use Rattle.std.specs.Prelude.{◌++◌, Option}
 use Rattle.std.specs.List.{flat_map}
 use Rattle.estelle_tree.specs.declared.kind.Kind.TheVariants as k
 use Rattle.estelle_tree.specs.declared.tree.name.NameList.{NameList}

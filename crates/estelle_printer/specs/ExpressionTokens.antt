@@ -1,5 +1,5 @@
 -- The tokens of an expression.
-use Rattle.std.specs.Prelude.{List, [], ◌∷◌, ◌++◌}
+use Rattle.std.specs.Prelude.{[], ◌∷◌, ◌++◌}
 use Rattle.std.specs.List.{flat_map}
 use Rattle.estelle_tree.specs.declared.token.Token.TheVariants as token
 use Rattle.estelle_tree.specs.declared.kind.Kind.TheVariants as k

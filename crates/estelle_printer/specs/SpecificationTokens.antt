@@ -1,5 +1,5 @@
 -- The tokens of channels, headers, bodies and a specification.
-use Rattle.std.specs.Prelude.{List, [], ◌++◌, Option}
+use Rattle.std.specs.Prelude.{◌++◌, Option}
 use Rattle.std.specs.List.{flat_map}
 use Rattle.estelle_tree.specs.declared.kind.Kind.TheVariants as k
 use Rattle.estelle_tree.specs.declared.tree.name.Name.{Name}

@@ -1,5 +1,5 @@
 -- The tokens of a statement.
-use Rattle.std.specs.Prelude.{List, [], ◌∷◌, ◌++◌, Option}
+use Rattle.std.specs.Prelude.{[], ◌++◌, Option}
 use Rattle.estelle_tree.specs.declared.kind.Kind.TheVariants as k
 use Rattle.estelle_tree.specs.declared.tree.expression.Args.{Args}
 use Rattle.estelle_tree.specs.declared.tree.statement.Ip.{Ip}

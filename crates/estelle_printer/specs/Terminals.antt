@@ -1,5 +1,5 @@
 -- The tokens of the terminals that have one.
-use Rattle.std.specs.Prelude.{List, [], codes}
+use Rattle.std.specs.Prelude.{[], codes}
 use Rattle.estelle_tree.specs.declared.token.Token.{Token}
 use Rattle.estelle_tree.specs.declared.token.Token.TheVariants as token
 use Rattle.estelle_tree.specs.declared.token.Symbol.TheVariants as symbol

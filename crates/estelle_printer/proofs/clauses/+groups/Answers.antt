@@ -1,6 +1,6 @@
-use Rattle.std.proofs.Common.{arith, ◌++◌}
+use Rattle.std.proofs.Common.{arith}
 use Rattle.estelle_printer.specs.ClauseTokens.{group}
-use Rattle.estelle_printer.proofs.WritingLemmas.{writes, chain_more, separated_more}
+use Rattle.estelle_printer.proofs.WritingLemmas.{writes, chain_more}
 use Rattle.estelle_printer.proofs.clauses.+groups.Goals as goal
 
 pub write_groups-loop-group-preserved : goal.write_groups-loop-group-preserved

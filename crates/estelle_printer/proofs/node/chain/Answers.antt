@@ -1,6 +1,4 @@
-use Rattle.std.proofs.Common.{arith, ◌++◌}
-use Rattle.estelle_tree.specs.declared.kind.Kind.TheVariants as k
-use Rattle.estelle_printer.specs.Forms.{mark}
+use Rattle.std.proofs.Common.{arith}
 use Rattle.estelle_printer.proofs.WritingLemmas.{writes, chain_more}
 use Rattle.estelle_printer.proofs.node.chain.Goals as goal
 

@@ -1,7 +1,5 @@
-use Rattle.std.proofs.Common.{◌≡◌, ◌++◌, take}
+use Rattle.std.proofs.Common.{◌≡◌, take}
 use Rattle.std.specs.List.{flat_map}
-use Rattle.estelle_tree.specs.declared.kind.Kind.TheVariants as k
-use Rattle.estelle_printer.specs.Forms.{mark}
 use Rattle.estelle_printer.specs.Writing.{write}
 use Rattle.estelle_printer.proofs.node.chain.Given as goal
 

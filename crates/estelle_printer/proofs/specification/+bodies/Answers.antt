@@ -1,4 +1,4 @@
-use Rattle.std.proofs.Common.{arith, ◌++◌}
+use Rattle.std.proofs.Common.{arith}
 use Rattle.estelle_printer.specs.SpecificationTokens.{decl}
 use Rattle.estelle_printer.proofs.WritingLemmas.{writes, chain_more, on_ok}
 use Rattle.estelle_printer.proofs.SpecificationEquations.{body_written}

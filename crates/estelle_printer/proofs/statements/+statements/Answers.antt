@@ -1,7 +1,7 @@
-use Rattle.std.proofs.Common.{arith, ◌++◌}
+use Rattle.std.proofs.Common.{arith}
 use Rattle.estelle_tree.specs.declared.kind.Kind.TheVariants as k
 use Rattle.estelle_printer.specs.StatementTokens.{case_, stmt}
-use Rattle.estelle_printer.proofs.WritingLemmas.{writes, chain_more, separated_more}
+use Rattle.estelle_printer.proofs.WritingLemmas.{writes, separated_more}
 use Rattle.estelle_printer.proofs.statements.+statements.Goals as goal
 
 pub write_cases-loop-place-preserved : goal.write_cases-loop-place-preserved
