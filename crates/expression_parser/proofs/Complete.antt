@@ -1,6 +1,5 @@
 -- What is spelled so is read, where nothing that stands next goes on with it.
-use Rattle.std.proofs.Common.{◌≡◌, ◌<◌, ◌≤◌, ℕ, zero, suc, Bool, true, false, List, [], ◌∷◌, Option, Some, None, Ok, sym, refl, ap, ◌∙◌, subst, arith, lit<}
-use Rattle.std.specs.Prelude.{if◌then◌else◌}
+use Rattle.std.proofs.Common.{◌≡◌, ◌<◌, ℕ, zero, suc, true, false, List, [], ◌∷◌, Option, Some, None, Ok, sym, refl, ap, ◌∙◌, arith, lit<}
 use Rattle.estelle_tree.specs.declared.kind.Kind.{Kind}
 use Rattle.estelle_tree.specs.declared.kind.Kind.TheVariants as k
 use Rattle.estelle_tree.specs.declared.tree.name.Name.{Name}
@@ -14,9 +13,9 @@ use Rattle.estelle_tree.specs.declared.tree.expression.Multiplying.{Multiplying}
 use Rattle.estelle_tree.specs.declared.tree.expression.Multiplying.TheVariants as multiplying
 use Rattle.estelle_tree.specs.declared.tree.expression.Expr.{Expr, out-Expr}
 use Rattle.estelle_tree.specs.declared.tree.expression.Simple.{Simple, out-Simple}
-use Rattle.estelle_tree.specs.declared.tree.expression.Term.{Term, out-Term}
+use Rattle.estelle_tree.specs.declared.tree.expression.Term.{out-Term}
 use Rattle.estelle_tree.specs.declared.tree.expression.Elem.{Elem, out-Elem}
-use Rattle.estelle_tree.specs.declared.tree.expression.Args.{Args, out-Args}
+use Rattle.estelle_tree.specs.declared.tree.expression.Args.{out-Args}
 use Rattle.estelle_tree.specs.declared.tree.expression.Variable.{Variable, out-Variable}
 use Rattle.estelle_tree.specs.declared.tree.expression.Selector.{Selector, out-Selector, roll-Selector}
 use Rattle.estelle_tree.specs.declared.tree.expression.Selector.TheVariants as selector
@@ -28,14 +27,14 @@ use Rattle.estelle_tree.specs.declared.tree.expression.Factor.TheVariants.{rolls
 use Rattle.estelle_tree.specs.declared.tree.expression.Factor.TheViews.{roll-out-Term, roll-out-Simple, roll-out-Expr, roll-out-Elem, roll-out-Args, roll-out-Factor, roll-out-Variable, roll-out-Selector}
 use Rattle.estelle_tree.specs.Input.{Input, kind, start, next, between}
 use Rattle.estelle_tree.specs.Spans.{FactorLayer, SelectorLayer}
-use Rattle.estelle_tree.specs.Spelling.{Spelling, Takes, Mark, Optional, Chain, Behind, Separated, Enclosed}
-use Rattle.estelle_tree.specs.Types.{IsName, of_sign}
+use Rattle.estelle_tree.specs.Spelling.{Spelling, Optional, Chain, Behind, Separated, Enclosed}
+use Rattle.estelle_tree.specs.Types.{of_sign}
 use Rattle.estelle_tree.specs.Expressions.{of_relation, of_adding, of_multiplying, TermOf, SimpleOf, ExprOf, ArgsOf, ElemOf, ElemsOf, SelectorLayerOf, SelectorOf, VariableOf, IsFactorLayer, FactorBelow, IsFactor, IsExpr, IsArgs, IsVariable}
-use Rattle.token_reader.specs.Reader.{Parser, ◌>>=◌, pure, sees, name, expect, number, char}
-use Rattle.token_reader.specs.Lists.{behind, mark, marked, repeated, separated}
-use Rattle.token_reader.proofs.Complete.{After, Complete, Anything, Advances, Shrinks, sees_takes, unseen, expect_complete, number_complete, char_complete, name_complete, behind_complete, behind_shrinks, behind_advances, mark_complete, marked_complete, end_of, repeated_complete, separated_complete}
-use Rattle.expression_parser.specs.Expression.{relation_of, sign_of, adding_of, multiplying_of, goes_on_expr, goes_on_args, goes_on_variable, begins_expr, term_over, simple_over, expr_over, args_over, elem_over, elems_over, number_factor, char_factor, field, nest, index_over, selector_by, selector_over, variable_after, variable_over, call_after, named_by, named, paren_over, not_over, set_over, factor_by, factor_over, factor_below, expr, args, variable, EndsExpr, EndsArgs, EndsVariable}
-use Rattle.expression_parser.proofs.Places.{Begins, begins_factor, token_kind, at_most, term_over_advances, simple_over_advances, expr_over_advances, elem_over_shrinks, expr_over_begins, selector_advances, factor_below_advances, factor_below_begins}
+use Rattle.token_reader.specs.Reader.{Parser}
+use Rattle.token_reader.specs.Lists.{marked, repeated, separated}
+use Rattle.token_reader.proofs.Complete.{After, Complete, Anything, Advances, sees_takes, unseen, expect_complete, number_complete, char_complete, name_complete, behind_complete, behind_advances, mark_complete, marked_complete, end_of, repeated_complete, separated_complete}
+use Rattle.expression_parser.specs.Expression.{relation_of, sign_of, adding_of, multiplying_of, goes_on_expr, goes_on_args, goes_on_variable, begins_expr, term_over, simple_over, expr_over, args_over, elem_over, elems_over, number_factor, char_factor, field, nest, index_over, selector_by, selector_over, variable_after, variable_over, call_after, named_by, named, paren_over, not_over, set_over, factor_over, factor_below, expr, args, variable, EndsExpr, EndsArgs, EndsVariable}
+use Rattle.expression_parser.proofs.Places.{Begins, begins_factor, token_kind, at_most, term_over_advances, expr_over_advances, elem_over_shrinks, expr_over_begins, selector_advances, factor_below_advances, factor_below_begins}
 
 -- how tightly a kind binds to what stands before it
 abbrev pub binds : Kind → ℕ

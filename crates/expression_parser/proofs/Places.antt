@@ -1,8 +1,7 @@
 -- An expression and a variable take at least one token, and begin with one of few kinds.
-use Rattle.std.proofs.Common.{◌≡◌, ◌<◌, ◌≤◌, ℕ, zero, suc, Bool, true, false, List, [], ◌∷◌, Option, Some, None, sym, refl, ap, ◌∙◌, subst, inl, inr, arith}
+use Rattle.std.proofs.Common.{◌≡◌, ◌<◌, ℕ, zero, suc, Bool, true, false, List, [], ◌∷◌, Option, Some, None, sym, refl, ap, ◌∙◌, subst, inl, inr, arith}
 use Rattle.std.specs.Prelude.{◌⊎◌}
 use Rattle.estelle_tree.specs.declared.token.Token.{Token}
-use Rattle.estelle_tree.specs.declared.token.Token.TheVariants as token
 use Rattle.estelle_tree.specs.declared.token.Placed.{Placed}
 use Rattle.estelle_tree.specs.declared.kind.Kind.{Kind}
 use Rattle.estelle_tree.specs.declared.kind.Kind.TheVariants as k
@@ -11,10 +10,9 @@ use Rattle.estelle_tree.specs.declared.tree.type_expr.Sign.TheVariants as sign
 use Rattle.estelle_tree.specs.declared.tree.expression.Relation.{Relation}
 use Rattle.estelle_tree.specs.declared.tree.expression.Adding.{Adding}
 use Rattle.estelle_tree.specs.declared.tree.expression.Multiplying.{Multiplying}
-use Rattle.estelle_tree.specs.declared.tree.expression.Expr.{Expr, out-Expr}
+use Rattle.estelle_tree.specs.declared.tree.expression.Expr.{Expr}
 use Rattle.estelle_tree.specs.declared.tree.expression.Simple.{Simple, out-Simple}
 use Rattle.estelle_tree.specs.declared.tree.expression.Term.{Term}
-use Rattle.estelle_tree.specs.declared.tree.expression.Elem.{Elem}
 use Rattle.estelle_tree.specs.declared.tree.expression.Variable.{Variable}
 use Rattle.estelle_tree.specs.declared.tree.expression.Selector.{Selector, out-Selector}
 use Rattle.estelle_tree.specs.declared.tree.expression.Factor.{Factor, out-Factor}
@@ -22,7 +20,7 @@ use Rattle.estelle_tree.specs.declared.tree.expression.Factor.TheOpen.{Factor-F,
 use Rattle.estelle_tree.specs.Kind.{kind_of}
 use Rattle.estelle_tree.specs.Input.{Input, first_token, first_kind, kind, next, left, token_at}
 use Rattle.estelle_tree.specs.Spans.{FactorLayer, SelectorLayer}
-use Rattle.estelle_tree.specs.Spelling.{Spelling, Takes, Mark, Optional, Chain, Behind, Separated, Enclosed}
+use Rattle.estelle_tree.specs.Spelling.{Spelling, Mark, Optional, Chain, Behind, Separated, Enclosed}
 use Rattle.estelle_tree.specs.Types.{IsName, of_sign}
 use Rattle.estelle_tree.specs.Expressions.{of_relation, of_adding, of_multiplying, TermOf, SimpleOf, ExprOf, ArgsOf, ElemOf, ElemsOf, SelectorLayerOf, SelectorOf, VariableOf, IsFactorLayer, FactorBelow, IsFactor, IsExpr, IsArgs, IsVariable}
 use Rattle.token_reader.proofs.Complete.{Shrinks, Advances, takes_shrinks, takes_advances, next_left_more, name_advances, chain_shrinks, behind_shrinks, behind_advances, separated_shrinks}

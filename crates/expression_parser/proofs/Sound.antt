@@ -1,5 +1,5 @@
 -- What is read is spelled so.
-use Rattle.std.proofs.Common.{◌≡◌, ◌<◌, ℕ, zero, suc, Bool, true, false, List, [], ◌∷◌, Option, Some, None, Ok, sym, refl, ap, ◌∙◌, subst, arith}
+use Rattle.std.proofs.Common.{◌≡◌, ◌<◌, ℕ, zero, suc, Bool, true, false, List, [], ◌∷◌, Option, Some, None, Ok, sym, refl, ap, subst, arith}
 use Rattle.std.specs.Prelude.{if◌then◌else◌}
 use Rattle.estelle_tree.specs.declared.kind.Kind.{Kind}
 use Rattle.estelle_tree.specs.declared.kind.Kind.TheVariants as k
@@ -12,13 +12,13 @@ use Rattle.estelle_tree.specs.declared.tree.expression.Adding.{Adding}
 use Rattle.estelle_tree.specs.declared.tree.expression.Adding.TheVariants as adding
 use Rattle.estelle_tree.specs.declared.tree.expression.Multiplying.{Multiplying}
 use Rattle.estelle_tree.specs.declared.tree.expression.Multiplying.TheVariants as multiplying
-use Rattle.estelle_tree.specs.declared.tree.expression.Expr.{Expr, roll-Expr}
-use Rattle.estelle_tree.specs.declared.tree.expression.Simple.{Simple, roll-Simple}
+use Rattle.estelle_tree.specs.declared.tree.expression.Expr.{roll-Expr}
+use Rattle.estelle_tree.specs.declared.tree.expression.Simple.{roll-Simple}
 use Rattle.estelle_tree.specs.declared.tree.expression.Term.{Term, roll-Term}
 use Rattle.estelle_tree.specs.declared.tree.expression.Elem.{Elem, roll-Elem}
-use Rattle.estelle_tree.specs.declared.tree.expression.Args.{Args, roll-Args}
+use Rattle.estelle_tree.specs.declared.tree.expression.Args.{roll-Args}
 use Rattle.estelle_tree.specs.declared.tree.expression.Variable.{Variable, roll-Variable}
-use Rattle.estelle_tree.specs.declared.tree.expression.Selector.{Selector, out-Selector}
+use Rattle.estelle_tree.specs.declared.tree.expression.Selector.{Selector}
 use Rattle.estelle_tree.specs.declared.tree.expression.Selector.TheVariants as selector
 use Rattle.estelle_tree.specs.declared.tree.expression.Selector.TheVariants.{outs-Index, outs-Field}
 use Rattle.estelle_tree.specs.declared.tree.expression.Factor.{Factor, out-Factor}
@@ -26,13 +26,13 @@ use Rattle.estelle_tree.specs.declared.tree.expression.Factor.TheVariants as for
 use Rattle.estelle_tree.specs.declared.tree.expression.Factor.TheVariants.{outs-Number, outs-Char, outs-Variable, outs-Call, outs-Paren, outs-Not, outs-Set}
 use Rattle.estelle_tree.specs.declared.tree.expression.Factor.TheViews.{out-roll-Simple, out-roll-Expr, out-roll-Elem, out-roll-Args}
 use Rattle.estelle_tree.specs.Input.{Input, kind, start, next, between}
-use Rattle.estelle_tree.specs.Spans.{FactorLayer, SelectorLayer}
-use Rattle.estelle_tree.specs.Spelling.{Spelling, Takes, Optional, Behind, Separated, Enclosed}
+use Rattle.estelle_tree.specs.Spans.{FactorLayer}
+use Rattle.estelle_tree.specs.Spelling.{Spelling, Takes, Optional, Behind, Separated}
 use Rattle.estelle_tree.specs.Types.{IsName, of_sign}
 use Rattle.estelle_tree.specs.Expressions.{of_relation, of_adding, of_multiplying, TermOf, SimpleOf, ExprOf, ArgsOf, ElemOf, ElemsOf, SelectorLayerOf, SelectorOf, VariableOf, IsFactorLayer, FactorBelow, IsFactor, IsExpr, IsArgs, IsVariable}
 use Rattle.token_reader.specs.Reader.{Parser, ◌>>=◌, pure, sees, name, expect, number, char}
 use Rattle.token_reader.specs.Lists.{behind, mark, marked, repeated, separated}
-use Rattle.token_reader.proofs.Sound.{Sound, seen_is, through, answered, expect_sound, number_sound, char_sound, name_sound, behind_sound, mark_sound, marked_sound, repeated_sound, separated_sound}
+use Rattle.token_reader.proofs.Sound.{Sound, through, answered, expect_sound, number_sound, char_sound, name_sound, behind_sound, mark_sound, marked_sound, repeated_sound, separated_sound}
 use Rattle.expression_parser.specs.Expression.{relation_of, sign_of, adding_of, multiplying_of, term_over, simple_over, expr_over, args_over, elem_over, elems_over, number_factor, char_factor, field, nest, index_over, selector_by, selector_over, variable_after, variable_over, call_after, named_by, named, paren_over, not_over, set_over, factor_by, factor_over, factor_below, expr, args, variable}
 
 -- ---- operators

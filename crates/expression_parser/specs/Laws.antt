@@ -1,8 +1,5 @@
 -- What the parsers and the definitions of spelling have to do with one another.
 use Rattle.std.specs.Prelude.{◌≡◌, ℕ, Ok}
-use Rattle.estelle_tree.specs.declared.tree.expression.Expr.{Expr}
-use Rattle.estelle_tree.specs.declared.tree.expression.Args.{Args}
-use Rattle.estelle_tree.specs.declared.tree.expression.Variable.{Variable}
 use Rattle.estelle_tree.specs.Input.{Input}
 use Rattle.estelle_tree.specs.Spelling.{Spelling}
 use Rattle.estelle_tree.specs.Expressions.{IsExpr, IsArgs, IsVariable}

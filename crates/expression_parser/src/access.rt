@@ -1,11 +1,10 @@
 //! Variables, over what reads the factors one level down.
 
-ghost use Rattle.std.specs.Prelude.{◌≡◌};
 ghost use Rattle.token_reader.specs.Reader.{Reads};
 ghost use Rattle.expression_parser.specs.Expression as spec;
 
 use crate::operation::ExprOver;
-use estelle_tree::{Factor, Items, Kind, Name, Selector, Sequence, Variable};
+use estelle_tree::{Factor, Items, Kind, Name, Selector, Variable};
 use std::alloc::Global;
 use token_reader::{Cursor, Read, ReadError, repeated, separated};
 

@@ -1,6 +1,5 @@
 //! Factors, over what reads those one level down.
 
-ghost use Rattle.std.specs.Prelude.{◌≡◌};
 ghost use Rattle.token_reader.specs.Reader.{Reads};
 ghost use Rattle.expression_parser.specs.Expression as spec;
 

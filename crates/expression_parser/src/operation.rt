@@ -1,11 +1,10 @@
 //! Terms, simple expressions, expressions and lists of them, over what reads the factors in them.
 
-ghost use Rattle.std.specs.Prelude.{◌≡◌};
 ghost use Rattle.token_reader.specs.Reader.{Reads};
 ghost use Rattle.expression_parser.specs.Expression as spec;
 
 use crate::operator::{Marked, mark};
-use estelle_tree::{Args, Elem, Expr, Factor, Items, Kind, Sequence, Simple, Term};
+use estelle_tree::{Args, Elem, Expr, Factor, Items, Kind, Simple, Term};
 use std::alloc::Global;
 use token_reader::{Behind, Cursor, Read, ReadError, repeated, separated};
 

@@ -2,7 +2,6 @@
 
 ghost use Rattle.std.specs.Prelude.{◌≡◌, Option};
 ghost use Rattle.estelle_tree.specs.declared.kind.Kind.{Kind};
-ghost use Rattle.token_reader.specs.Reader.{Reads};
 ghost use Rattle.token_reader.specs.Lists as lists;
 ghost use Rattle.expression_parser.specs.Expression as spec;
 
