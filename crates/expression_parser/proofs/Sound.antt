@@ -1,6 +1,6 @@
 -- What is read is spelled so.
 use Rattle.std.proofs.Common.{◌≡◌, ◌<◌, ℕ, zero, suc, Bool, true, false, List, [], ◌∷◌, Option, Some, None, Ok, sym, refl, ap, subst, arith}
-use Rattle.std.specs.Prelude.{if◌then◌else◌}
+use Rattle.std.specs.Prelude.{if◌then◌else◌, ◌==◌}
 use Rattle.estelle_tree.specs.declared.kind.Kind.{Kind}
 use Rattle.estelle_tree.specs.declared.kind.Kind.TheVariants as k
 use Rattle.estelle_tree.specs.declared.tree.name.Name.{Name}
@@ -33,7 +33,7 @@ use Rattle.estelle_tree.specs.Expressions.{of_relation, of_adding, of_multiplyin
 use Rattle.token_reader.specs.Reader.{Parser, ◌>>=◌, pure, sees, name, expect, number, char}
 use Rattle.token_reader.specs.Lists.{behind, mark, marked, repeated, separated}
 use Rattle.token_reader.proofs.Sound.{Sound, through, answered, expect_sound, number_sound, char_sound, name_sound, behind_sound, mark_sound, marked_sound, repeated_sound, separated_sound}
-use Rattle.expression_parser.specs.Expression.{relation_of, sign_of, adding_of, multiplying_of, term_over, simple_over, expr_over, args_over, elem_over, elems_over, number_factor, char_factor, field, nest, index_over, selector_by, selector_over, variable_after, variable_over, call_after, named_by, named, paren_over, not_over, set_over, factor_by, factor_over, factor_below, expr, args, variable}
+use Rattle.expression_parser.specs.Expression.{relation_of, sign_of, adding_of, multiplying_of, term_over, simple_over, expr_over, args_over, elem_over, elems_over, number_factor, char_factor, field, nest, where_room, index_over, selector_by, selector_over, variable_after, variable_over, call_after, plain_after, named_by, named, paren_over, not_over, set_over, factor_by, factor_over, factor_below, expr, args, variable}
 
 -- ---- operators
 
@@ -117,6 +117,14 @@ module _ (factor : Parser Factor) (F : Spelling Factor) (sound : Sound factor F)
       go true h = answered (ElemsOf F) i j i [] xs refl h
       go false h = some_are xs i j (separated_sound (elem_over factor) (ElemOf F) elem_sound k.Comma i j xs h)
 
+-- a form that opens a level, or what else stands there
+pub either : {A : Type 0} (P : Spelling A) (room : ℕ) (item other : Parser A) (i j : Input) (x : A) → (item i ≡ Ok (x, j) → P x i j) → (other i ≡ Ok (x, j) → P x i j) → where_room room item other i ≡ Ok (x, j) → P x i j
+either {A} P room item other i j x one two h = go (room == 0) h
+  where
+    go : (b : Bool) → (if b then other else item) i ≡ Ok (x, j) → P x i j
+    go true h = two h
+    go false h = one h
+
 -- ---- a word or a bracket that opens a level
 
 nest_sound : (room : ℕ) (i j : Input) (u : Unit {0}) → nest room i ≡ Ok (u, j) → (0 < room) × (next i ≡ j)
@@ -145,7 +153,10 @@ module _ (room : ℕ) (below : Parser Factor) (F : Spelling Factor) (sound : Sou
 
   selector_by_sound : (kind' : Kind) (i j : Input) (m : Option Selector) → kind i ≡ kind' → selector_by room below kind' i ≡ Ok (m, j) → Optional (SelectorOf room F) m i j
   selector_by_sound k.OpenBracket i j m e h =
-      through (index_over room below i) _ _ h (λ s a is h. answered (Optional (SelectorOf room F)) i j a (Some s) m (index_sound i a s e is) h)
+      either (Optional (SelectorOf room F)) room (index_over room below >>= λ s. pure (Some s)) (pure None) i j m
+      (λ h. through (index_over room below i) _ _ h (λ s a is h. answered (Optional (SelectorOf room F)) i j a (Some s) m (index_sound i a s e is) h))
+      (λ h. answered (Optional (SelectorOf room F)) i j i None m refl h)
+      h
   selector_by_sound k.Dot i j m e h =
       through (field i) _ _ h (λ s a is h. answered (Optional (SelectorOf room F)) i j a (Some s) m (field_sound i a s e is) h)
   selector_by_sound _ i j m e h = answered (Optional (SelectorOf room F)) i j i None m refl h
@@ -185,7 +196,7 @@ module _ (room : ℕ) (below : Parser Factor) (F : Spelling Factor) (sound : Sou
       through (variable_after room below (start i) n a) _ _ h (λ v b is h. layered i j b f (outs-Variable v) (variable_after_sound i a b n v is_name is) h)
 
   named_by_sound : (kind' : Kind) (i a j : Input) (n : Name) (f : Factor) → kind a ≡ kind' → IsName n i a → named_by room below (start i) n kind' a ≡ Ok (f, j) → Is f i j
-  named_by_sound k.OpenParenthesis i a j n f e is h = call_sound i a j n f is e h
+  named_by_sound k.OpenParenthesis i a j n f e is h = either (λ f a j. Is f i j) room (call_after room below (start i) n) (plain_after room below (start i) n) a j f (call_sound i a j n f is e) (plain_sound i a j n f is) h
   named_by_sound _ i a j n f e is h = plain_sound i a j n f is h
 
   named_sound : Sound (named room below) Is

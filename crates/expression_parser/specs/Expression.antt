@@ -1,5 +1,5 @@
 -- Expressions, read from left to right. The *room* is how many more levels of nesting may open.
-use Rattle.std.specs.Prelude.{◌≡◌, ℕ, zero, suc, Bool, true, false, if◌then◌else◌, List, [], Option, Some, None, Ok}
+use Rattle.std.specs.Prelude.{◌≡◌, ℕ, zero, suc, ◌==◌, Bool, true, false, if◌then◌else◌, List, [], Option, Some, None, Ok}
 use Rattle.estelle_tree.specs.declared.kind.Kind.{Kind}
 use Rattle.estelle_tree.specs.declared.kind.Kind.TheVariants as k
 use Rattle.estelle_tree.specs.declared.tree.name.Name.{Name}
@@ -178,6 +178,10 @@ abbrev pub nest : ℕ → Parser (Unit {0})
 nest zero = refuse
 nest (suc room) = take
 
+-- a form that opens a level goes on only where one may open: else another stands there
+abbrev pub where_room : {A : Type 0} → ℕ → Parser A → Parser A → Parser A
+where_room room item other = if room == 0 then other else item
+
 -- ---- variables and factors, over the parser of the factors one level down
 module _ (room : ℕ) (below : Parser Factor) where
   -- `"[" Expr {"," Expr} "]"`
@@ -188,8 +192,12 @@ module _ (room : ℕ) (below : Parser Factor) where
     expect k.CloseBracket
     pure (selector.Index exprs)
 
+  -- a bracket that would open a level too many is none of the variable's
+  abbrev pub may_be_index : Parser (Option Selector)
+  may_be_index = where_room room (index_over >>= λ s. pure (Some s)) (pure None)
+
   abbrev pub selector_by : Kind → Parser (Option Selector)
-  selector_by k.OpenBracket = index_over >>= λ s. pure (Some s)
+  selector_by k.OpenBracket = may_be_index
   selector_by k.Dot = field >>= λ s. pure (Some s)
   selector_by _ = pure None
 
@@ -219,10 +227,13 @@ module _ (room : ℕ) (below : Parser Factor) where
     span ← since from
     pure (form.Call called given span)
 
-  -- a variable or a call after its name: the next kind tells
+  abbrev pub plain_after : ℕ → Name → Parser Factor
+  plain_after from first = variable_after from first >>= λ v. pure (form.Variable v)
+
+  -- a variable or a call after its name: the next kind tells, and whether a level may open
   abbrev pub named_by : ℕ → Name → Kind → Parser Factor
-  named_by from first k.OpenParenthesis = call_after from first
-  named_by from first _ = variable_after from first >>= λ v. pure (form.Variable v)
+  named_by from first k.OpenParenthesis = where_room room (call_after from first) (plain_after from first)
+  named_by from first _ = plain_after from first
 
   unfoldable pub named : Parser Factor
   named = do

@@ -36,6 +36,22 @@ fn index<P: Read<Factor>>(
     Ok(Selector::Index(exprs))
 }
 
+/// The same, and nothing where no level may open.
+fn may_be_index<P: Read<Factor>>(
+    alloc: Global,
+    tokens: &mut Cursor<'_>,
+    room: u32,
+    below: &P,
+) -> Result<Option<Selector>, ReadError>
+    requires { P.can below.now }
+    ensures { Reads (spec.may_be_index room (P.parser below.now) tokens.old) result tokens.new }
+{
+    if room == 0 {
+        return Ok(None);
+    }
+    Ok(Some(index(alloc, tokens, room, below)?))
+}
+
 /// `"." NAME`
 #[tactic(auto, unfolding(crate::specs::Expression::field))]
 fn field(alloc: Global, tokens: &mut Cursor<'_>) -> Result<Selector, ReadError>
@@ -60,7 +76,7 @@ impl<'p, P: Read<Factor>> Read<Option<Selector>> for SelectorOver<'p, P> {
     #[tactic(auto, unfolding(crate::specs::Expression::selector_over))]
     fn read(&self, alloc: Global, tokens: &mut Cursor<'_>) -> Result<Option<Selector>, ReadError> {
         match tokens.peek() {
-            Kind::OpenBracket => Ok(Some(index(alloc, tokens, self.room, self.below)?)),
+            Kind::OpenBracket => may_be_index(alloc, tokens, self.room, self.below),
             Kind::Dot => Ok(Some(field(alloc, tokens)?)),
             _ => Ok(None),
         }

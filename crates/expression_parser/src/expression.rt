@@ -74,8 +74,9 @@ impl Read<Factor> for FactorAt {
 }
 
 /// Reads an expression (ISO 7185, 6.7.1), in which so many levels of nesting may open: the brackets of
-/// an expression, a call, an index or a set open one, and so does `not`. The token at which no
-/// expression goes on is refused; a token behind the expression is not looked for.
+/// an expression, a call, an index or a set open one, and so does `not`. Behind a name a bracket that
+/// would open a level too many does not go on with it. The token at which no expression goes on is
+/// refused; a token behind the expression is not looked for.
 #[tactic(auto, unfolding(crate::specs::Expression::expr))]
 pub fn expr(alloc: Global, tokens: &mut Cursor<'_>, room: u32) -> Result<Expr, ReadError>
     ensures { Reads (spec.expr room tokens.old) result tokens.new }

@@ -2,6 +2,7 @@
 
 ghost use Rattle.token_reader.specs.Reader.{Reads};
 ghost use Rattle.expression_parser.specs.Expression as spec;
+ghost use Rattle.estelle_tree.specs.declared.kind.Kind.TheVariants.{OpenParenthesis};
 
 use crate::access::{nest, variable_after};
 use crate::operation::{ArgsOver, ExprOver, elems};
@@ -65,6 +66,38 @@ impl<'p, P: Read<Factor>> FactorOver<'p, P> {
         })
     }
 
+    /// A variable after its name, which starts there.
+    fn plain_after(
+        &self,
+        alloc: Global,
+        tokens: &mut Cursor<'_>,
+        from: u32,
+        name: Name,
+    ) -> Result<Factor, ReadError>
+        requires { P.can self.now.below.now }
+        ensures { Reads (spec.plain_after self.now.room (P.parser self.now.below.now) from name tokens.old) result tokens.new }
+    {
+        let variable = variable_after(alloc, tokens, self.room, self.below, from, name)?;
+        Ok(Factor::Variable(variable))
+    }
+
+    /// A name with `(` behind it: a call where the parenthesis may open a level.
+    fn may_be_call(
+        &self,
+        alloc: Global,
+        tokens: &mut Cursor<'_>,
+        from: u32,
+        name: Name,
+    ) -> Result<Factor, ReadError>
+        requires { P.can self.now.below.now }
+        ensures { Reads (spec.named_by self.now.room (P.parser self.now.below.now) from name OpenParenthesis tokens.old) result tokens.new }
+    {
+        if self.room == 0 {
+            return self.plain_after(alloc, tokens, from, name);
+        }
+        self.call_after(alloc, tokens, from, name)
+    }
+
     /// A variable or a call.
     #[tactic(auto, unfolding(crate::specs::Expression::named))]
     fn named(&self, alloc: Global, tokens: &mut Cursor<'_>) -> Result<Factor, ReadError>
@@ -74,11 +107,8 @@ impl<'p, P: Read<Factor>> FactorOver<'p, P> {
         let from = tokens.start();
         let name = tokens.name(alloc)?;
         match tokens.peek() {
-            Kind::OpenParenthesis => self.call_after(alloc, tokens, from, name),
-            _ => {
-                let variable = variable_after(alloc, tokens, self.room, self.below, from, name)?;
-                Ok(Factor::Variable(variable))
-            }
+            Kind::OpenParenthesis => self.may_be_call(alloc, tokens, from, name),
+            _ => self.plain_after(alloc, tokens, from, name),
         }
     }
 

@@ -64,7 +64,7 @@ fn left_at(alloc: Global, text: &[u8], room: u32) -> Result<Left, Fail> {
 }
 
 /// Where an expression ends, and which token is refused where none goes on.
-const TABLE: [(&[u8], u32, Left); 28] = [
+const TABLE: [(&[u8], u32, Left); 29] = [
     (b"a-b*c", 0, Left::Behind(0)),
     (b"a=b=c", 0, Left::Behind(2)),
     (b"a:b", 0, Left::Behind(2)),
@@ -90,8 +90,9 @@ const TABLE: [(&[u8], u32, Left); 28] = [
     (b"a.1", 0, Left::Refused(1)),
     (b"[a,]", 1, Left::Refused(1)),
     (b"[a:b:c]", 1, Left::Refused(3)),
-    (b"1+f(a)", 0, Left::Refused(3)),
-    (b"1+a.b[2]", 0, Left::Refused(3)),
+    (b"1+f(a)", 0, Left::Behind(3)),
+    (b"1+a.b[2]", 0, Left::Behind(3)),
+    (b"(f(a))", 1, Left::Refused(4)),
     (b"(~[a])", 2, Left::Refused(4)),
 ];
 
