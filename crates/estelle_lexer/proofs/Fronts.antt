@@ -19,7 +19,7 @@ if_test : {A : Type 0} (P : A → Type 0) (b : Bool) (x y : A) → (b ≡ true �
 if_test P true x y held other = held refl
 if_test P false x y held other = other refl
 
-both : (x y : Bool) → (x && y) ≡ true → (x ≡ true) × (y ≡ true)
+pub both : (x y : Bool) → (x && y) ≡ true → (x ≡ true) × (y ≡ true)
 both true y e = (refl, e)
 both false y e = absurd (cc)
 

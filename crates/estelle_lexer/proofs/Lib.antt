@@ -3,3 +3,4 @@ pub mod Lexes
 pub mod Turns
 pub mod Answers
 pub mod Blanks
+pub mod Forms

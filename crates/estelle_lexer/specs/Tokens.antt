@@ -2,6 +2,7 @@
 use Rattle.std.specs.Prelude.{◌≡◌, ◌<◌, ℕ, List, Result, Ok, Err}
 use Rattle.estelle_tree.specs.declared.token.Placed.{Placed}
 use Rattle.estelle_tree.specs.Lexed.{IsLexicalErrorAt}
+use Rattle.estelle_tree.specs.Spells.{IsToken}
 use Rattle.estelle_lexer.specs.declared.error.LexError.{LexError}
 use Rattle.estelle_lexer.specs.declared.error.LexError.TheVariants.{At, Memory}
 use Rattle.estelle_lexer.specs.declared.list.Tokens.{Tokens}
@@ -27,3 +28,7 @@ abbrev pub Refuses : ℕ → Result Tokens LexError → Type 0
 Refuses place (Ok found) = ⊥
 Refuses place (Err Memory) = Unit {0}
 Refuses place (Err (At at)) = at ≡ place
+
+-- it has the form of a token
+abbrev pub IsPlacedToken : Placed → Type 0
+IsPlacedToken p = IsToken p.token

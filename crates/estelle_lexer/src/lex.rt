@@ -1,11 +1,11 @@
 //! The tokens of a text.
 
-ghost use Rattle.std.specs.Prelude.{◌≡◌, ◌<◌, ◌≤◌, ◌^◌, ◌&&◌, length, List, ℕ, IfOk, IfErr};
+ghost use Rattle.std.specs.Prelude.{◌≡◌, ◌<◌, ◌≤◌, ◌^◌, ◌&&◌, length, List, ℕ, All, IfOk, IfErr};
 ghost use Rattle.estelle_tree.specs.declared.token.Placed.{Placed};
 ghost use Rattle.estelle_tree.specs.Lexed as lexed;
 ghost use Rattle.estelle_tree.specs.Lexed.{IsLexed, IsLexicalErrorAt, FollowOneAnother};
 ghost use Rattle.estelle_lexer.specs.Lex as spec;
-ghost use Rattle.estelle_lexer.specs.Tokens.{IsRefused, Gives, Refuses, IsBelow};
+ghost use Rattle.estelle_lexer.specs.Tokens.{IsRefused, Gives, Refuses, IsBelow, IsPlacedToken};
 
 use crate::error::LexError;
 use crate::front::{Piece, front};
@@ -100,7 +100,8 @@ pub fn tokens(alloc: Global, bytes: &[u8]) -> Result<Tokens, LexError>
         → Gives items rest result }
     ensures only_place { (place : ℕ) → IsLexicalErrorAt bytes.now place → Refuses place result }
 
-    // Where the tokens lie.
+    // What the tokens are, and where they lie.
+    ensures forms { IfOk result (λ found. All IsPlacedToken found.items) }
     ensures spans { IfOk result (λ found. FollowOneAnother 0 found.items found.rest) }
     ensures count { IfOk result (λ found. length found.items ≤ found.rest) }
     ensures rest { IfOk result (λ found. found.rest ≤ length bytes.now) }

@@ -1,4 +1,5 @@
 use Rattle.estelle_lexer.proofs.Answers.{answer_lexed, answer_refused, answer_list, answer_place, answer_spans, answer_count, answer_rest, answer_below}
+use Rattle.estelle_lexer.proofs.Forms.{answer_forms}
 use Rattle.estelle_lexer.proofs.lex.tokens.Goals as goal
 
 pub returns-clause-lexed : goal.returns-clause-lexed
@@ -24,3 +25,6 @@ returns-clause-rest c = answer_rest c.args.bytes.now c.lex.result c.lex.ensures
 
 pub returns-clause-place : goal.returns-clause-place
 returns-clause-place c = answer_below c.args.bytes.now c.lex.result c.lex.ensures
+
+pub returns-clause-forms : goal.returns-clause-forms
+returns-clause-forms c = answer_forms c.args.bytes.now c.lex.result (answer_lexed c.args.bytes.now c.lex.result c.lex.ensures)
