@@ -1,0 +1,8 @@
+use Rattle.round_trip.proofs.RoundTrip.{printed_is_lexed, printed_is_read_back}
+use Rattle.round_trip.proofs.laws.canonical_text_is_read_back.Goals as goal
+
+pub returns-clause-lexed : goal.returns-clause-lexed
+returns-clause-lexed c = printed_is_lexed
+
+pub returns-clause-same : goal.returns-clause-same
+returns-clause-same c = printed_is_read_back

@@ -1,0 +1,8 @@
+//! The round trip: the canonical text of a tree, lexed again, is spelled by the same tree, spans aside.
+//! It stands on `estelle_printer` for the canonical text, on `estelle_lexer` for the one list of tokens of
+//! a text, and on `respelling` for trees with their spans moved.
+#![tactic(auto)]
+
+mod laws;
+
+pub use laws::{canonical_text_is_read_back, same_trees_spell_the_same};
