@@ -1,0 +1,4 @@
+pub mod Sound
+pub mod Begin
+pub mod Complete
+pub mod Routines

@@ -1,0 +1,17 @@
+use Rattle.std.proofs.Common.{ap}
+use Rattle.estelle_tree.specs.Declarations.{IsRoutine}
+use Rattle.token_reader.proofs.Complete.{Anything, unique}
+use Rattle.statement_parser.specs.Routine.{routine}
+use Rattle.statement_parser.proofs.Routines.{routine_sound, routine_complete}
+use Rattle.statement_parser.proofs.laws.routine_laws.Goals as goal
+
+pub returns-clause-sound : goal.returns-clause-sound
+returns-clause-sound c = routine_sound
+
+pub returns-clause-complete : goal.returns-clause-complete
+returns-clause-complete c room i j x h = routine_complete room i j x h tt
+
+pub returns-clause-unique : goal.returns-clause-unique
+returns-clause-unique c room i j m x y one other =
+    let same = unique (routine room) (IsRoutine room) Anything (routine_complete room) x y i j m one other tt tt in
+    (ap (λ p. p.0) same, ap (λ p. p.1) same)
