@@ -1,0 +1,5 @@
+pub mod Forms
+pub mod Attributes
+pub mod Channels
+pub mod Declarations
+pub mod Laws
