@@ -1,0 +1,7 @@
+pub mod Clause
+pub mod Block
+pub mod Group
+pub mod Way
+pub mod Place
+pub mod TransBody
+pub mod Laws
