@@ -75,7 +75,7 @@ fn sink(alloc: Global, device: Device, room: usize) -> Result<MemorySink, AllocE
 }
 
 /// Calls the program with these words on this input.
-pub fn call(
+pub(crate) fn call(
     alloc: Global,
     words: &[&str],
     devices: Devices,
@@ -98,6 +98,6 @@ pub fn call(
 }
 
 /// Calls it with the word `run`.
-pub fn run(alloc: Global, devices: Devices, input: &[u8]) -> Result<Answer, AllocError> {
+pub(crate) fn run(alloc: Global, devices: Devices, input: &[u8]) -> Result<Answer, AllocError> {
     call(alloc, &["run"], devices, input)
 }

@@ -12,7 +12,7 @@ const WHOLE: Moves = (4096, 0);
 
 const FAILS_AT_ONCE: Moves = (4096, 1);
 
-const NOT_BUILT: &str = "estelle: form not built\n";
+const NO_SYNTAX: &str = "estelle: syntax 1:1\n";
 
 const READ_FAULT: &str = "estelle: read fault\n";
 
@@ -90,7 +90,7 @@ const ROWS: [Row; 14] = [
         ((1, 0), (1, 0), (1, 0)),
         "x",
         "",
-        NOT_BUILT,
+        NO_SYNTAX,
         Status::Refused,
     ),
     (

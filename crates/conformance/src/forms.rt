@@ -2,6 +2,7 @@
 
 use crate::calls::{ALL_STEADY, run};
 use crate::texts::{DEADLOCK, FIRING_OVERFLOWS, GUARD_OVERFLOWS, TURNS, trace};
+use crate::worked::WORKED;
 use estelle_cli::Status;
 use std::test::Fail;
 
@@ -16,7 +17,7 @@ end.
 ";
 
 /// Texts that run: what is replaced and by what, how often the transition then fires, and the last lines.
-const RUN: [(&str, &str, u32, &str); 36] = [
+const RUN: [(&str, &str, u32, &str); 42] = [
     ("go", "go", 3, DEADLOCK),
     ("go", "went", 3, DEADLOCK),
     // no guard, no label, both forms of a label
@@ -50,6 +51,13 @@ const RUN: [(&str, &str, u32, &str); 36] = [
     (" := 0 end", ":=0end", 3, DEADLOCK),
     ("total < 3 name tick: ", "total<3name tick:", 3, DEADLOCK),
     ("end.", "end \n . \t\r\n", 3, DEADLOCK),
+    // comments
+    ("end.", "end. {the end}", 3, DEADLOCK),
+    ("trans", "{the only one} trans", 3, DEADLOCK),
+    ("trans", "(* one } trans", 3, DEADLOCK),
+    ("state", "{ a\n (* comment *) state", 3, DEADLOCK),
+    (" ", " { } ", 3, DEADLOCK),
+    ("end.", "end.\n(* two\nlines *) {}\n", 3, DEADLOCK),
     // letter case
     ("total <", "TOTAL <", 3, DEADLOCK),
     ("specification", "SpecificatioN", 3, DEADLOCK),
@@ -63,148 +71,153 @@ const RUN: [(&str, &str, u32, &str); 36] = [
     ("adder", "integer", 3, DEADLOCK),
 ];
 
-/// Texts that are refused: what is replaced, and by what.
-const REFUSED: [(&str, &str); 125] = [
+/// Texts that are refused: what is replaced, by what, and the line on err behind `estelle: `. The places are
+/// those of a recognizer of the grammar that was written for this table alone.
+const REFUSED: [(&str, &str, &str); 123] = [
     // the heading
-    ("specification ", ""),
-    ("adder ", ""),
-    ("adder", "begin"),
-    ("systemprocess", ""),
-    ("systemprocess", "systemactivity"),
-    ("systemprocess;", "systemprocess"),
+    ("specification ", "", "syntax 1:1"),
+    ("adder ", "", "syntax 1:15"),
+    ("adder", "begin", "syntax 1:15"),
+    ("systemprocess", "", "form not built"),
+    ("systemprocess", "systemactivity", "form not built"),
+    ("systemprocess;", "systemprocess", "syntax 2:1"),
     // the declarations
-    ("var total: integer;\n", ""),
-    ("var ", ""),
-    ("var total", "var"),
-    ("total: integer", "total integer"),
-    ("integer", ""),
-    ("integer", "boolean"),
-    ("integer;", "integer"),
-    ("var total", "var other, total"),
-    ("state go;\n", ""),
-    ("state ", ""),
-    ("state go", "state"),
-    ("state go;", "state go"),
-    ("state go", "state go, went"),
+    ("var total: integer;\n", "", "form not built"),
+    ("var ", "", "syntax 2:1"),
+    ("var total", "var", "syntax 2:4"),
+    ("total: integer", "total integer", "syntax 2:11"),
+    ("integer", "", "syntax 2:12"),
+    ("integer", "boolean", "form not built"),
+    ("integer;", "integer", "syntax 3:1"),
+    ("var total", "var other, total", "form not built"),
+    ("state go;\n", "", "form not built"),
+    ("state ", "", "syntax 3:3"),
+    ("state go", "state", "syntax 3:6"),
+    ("state go;", "state go", "syntax 4:1"),
+    ("state go", "state go, went", "form not built"),
     // the initialization
-    ("initialize to go begin total := 0 end;\n", ""),
-    ("initialize ", ""),
-    ("initialize to go", "initialize go"),
-    ("initialize to go", "initialize to"),
-    ("initialize to go", "initialize"),
-    ("begin total := 0", "total := 0"),
-    ("begin total := 0", "begin := 0"),
-    ("begin total := 0 end", "begin end"),
-    (":= 0", "0"),
-    (":= 0", ":="),
-    (":= 0", "= 0"),
-    (":= 0", ": = 0"),
-    ("0 end;", "0;"),
-    ("0 end;", "0 end"),
-    ("0 end", "0; total := 1 end"),
+    (
+        "initialize to go begin total := 0 end;\n",
+        "",
+        "form not built",
+    ),
+    ("initialize ", "", "syntax 4:1"),
+    ("initialize to go", "initialize go", "syntax 4:12"),
+    ("initialize to go", "initialize to", "syntax 4:15"),
+    ("initialize to go", "initialize", "form not built"),
+    ("begin total := 0", "total := 0", "syntax 4:18"),
+    ("begin total := 0", "begin := 0", "syntax 4:24"),
+    ("begin total := 0 end", "begin end", "form not built"),
+    (":= 0", "0", "syntax 4:30"),
+    (":= 0", ":=", "syntax 4:33"),
+    (":= 0", "= 0", "syntax 4:30"),
+    (":= 0", ": = 0", "syntax 4:30"),
+    ("0 end;", "0;", "syntax 5:1"),
+    ("0 end;", "0 end", "syntax 5:1"),
+    ("0 end", "0; total := 1 end", "form not built"),
     // the transition
-    ("trans\n", ""),
-    ("from go ", ""),
-    ("from go", "from"),
-    ("to go provided", "provided"),
-    ("to go provided", "to provided"),
-    ("from go to go", "to go from go"),
-    ("provided total < 3", "provided"),
-    ("provided total < 3", "total < 3"),
-    ("total < 3", "total"),
-    ("total < 3", "< 3"),
-    ("total < 3", "total <"),
-    ("total < 3", "total < 3 < 4"),
-    ("total < 3", "total < 3 + 4 + 5"),
-    ("tick:", ":"),
-    ("tick:", "tick"),
-    ("name tick:", "tick:"),
-    ("name tick:", "name begin:"),
-    ("name tick:", "name tick: name tock:"),
-    ("total + 1", ""),
-    ("total + 1", "total +"),
-    ("total + 1", "+ 1"),
-    ("total + 1", "total + 1 + 1"),
-    ("total + 1", "(total + 1)"),
-    ("total + 1 end;", "total + 1 end"),
+    ("trans\n", "", "syntax 5:1"),
+    ("from go ", "", "form not built"),
+    ("from go", "from", "syntax 6:6"),
+    ("to go provided", "provided", "form not built"),
+    ("to go provided", "to provided", "syntax 6:12"),
+    ("from go to go", "to go from go", "form not built"),
+    ("provided total < 3", "provided", "syntax 6:24"),
+    ("provided total < 3", "total < 3", "syntax 6:15"),
+    ("total < 3", "total", "form not built"),
+    ("total < 3", "< 3", "syntax 6:24"),
+    ("total < 3", "total <", "syntax 6:32"),
+    ("total < 3", "total < 3 < 4", "syntax 6:34"),
+    ("total < 3", "total < 3 + 4 + 5", "form not built"),
+    ("tick:", ":", "syntax 6:39"),
+    ("tick:", "tick", "syntax 6:44"),
+    ("name tick:", "tick:", "syntax 6:34"),
+    ("name tick:", "name begin:", "syntax 6:39"),
+    ("name tick:", "name tick: name tock:", "syntax 6:45"),
+    ("total + 1", "", "syntax 6:61"),
+    ("total + 1", "total +", "syntax 6:68"),
+    ("total + 1", "+ 1", "form not built"),
+    ("total + 1", "total + 1 + 1", "form not built"),
+    ("total + 1", "(total + 1)", "form not built"),
+    ("total + 1 end;", "total + 1 end", "syntax 7:1"),
     (
         "end;\nend.",
         "end;\ntrans\nfrom go to go begin total := 1 end;\nend.",
+        "form not built",
     ),
     // the end, and what stands behind it
-    ("end;\nend.", "end;\n."),
-    ("end.", "end"),
-    ("end.", "end;"),
-    ("end.", "end.."),
-    ("end.", "end.)"),
-    ("end.", "end.x"),
-    ("end.", "end.\nend."),
-    ("end.", "end.\n\n1"),
-    ("end.", "end. {the end}"),
+    ("end;\nend.", "end;\n.", "syntax 7:1"),
+    ("end.", "end", "syntax 8:1"),
+    ("end.", "end;", "syntax 7:4"),
+    ("end.", "end..", "syntax 7:4"),
+    ("end.", "end.)", "syntax 7:4"),
+    ("end.", "end.x", "text after end 7:5"),
+    ("end.", "end.\nend.", "text after end 8:1"),
+    ("end.", "end.\n\n1", "text after end 9:1"),
     // symbols, numbers and bytes
-    ("<", "<="),
-    ("<", "<>"),
-    ("<", "< >"),
-    ("<", ">"),
-    ("<", "="),
-    ("+", "-"),
-    ("+", "*"),
-    ("+", "or"),
-    (":= 0", ":= -1"),
-    (":= 0", ":= +1"),
-    (":= 0", ":= 0.5"),
-    (":= 0", ":= 0..5"),
-    (":= 0", ":= 'a'"),
-    (":= 0", ":= 9223372036854775808"),
+    ("<", "<=", "form not built"),
+    ("<", "<>", "form not built"),
+    ("<", "< >", "syntax 6:32"),
+    ("<", ">", "form not built"),
+    ("<", "=", "form not built"),
+    ("+", "-", "form not built"),
+    ("+", "*", "form not built"),
+    ("+", "or", "form not built"),
+    (":= 0", ":= -1", "form not built"),
+    (":= 0", ":= +1", "form not built"),
+    (":= 0", ":= 0.5", "syntax 4:34"),
+    (":= 0", ":= 0..5", "syntax 4:34"),
+    (":= 0", ":= 'a'", "form not built"),
+    (":= 0", ":= 9223372036854775808", "bytes 4:33"),
     (
         ":= 0",
         ":= 99999999999999999999999999999999999999999999999999",
+        "bytes 4:33",
     ),
-    ("trans", "{the only one} trans"),
-    ("trans", "$trans"),
-    ("total", "to tal"),
-    ("total", "_total"),
-    ("total", "totäl"),
-    ("specification", "\u{0}specification"),
+    ("trans", "$trans", "bytes 5:1"),
+    ("total", "to tal", "syntax 2:5"),
+    ("total", "_total", "bytes 2:5"),
+    ("total", "totäl", "bytes 2:8"),
+    ("specification", "\u{0}specification", "bytes 1:1"),
     // names that are not declared
-    ("total + 1", "other + 1"),
-    ("total + 1", "total + other"),
-    ("total < 3", "other < 3"),
-    ("total < 3", "total < go"),
-    ("total := 0", "other := 0"),
-    ("total := 0", "maxint := 0"),
-    ("total := total", "adder := total"),
-    (":= 0", ":= go"),
-    ("initialize to go", "initialize to went"),
-    ("from go", "from went"),
-    ("to go provided", "to went provided"),
+    ("total + 1", "other + 1", "form not built"),
+    ("total + 1", "total + other", "form not built"),
+    ("total < 3", "other < 3", "form not built"),
+    ("total < 3", "total < go", "form not built"),
+    ("total := 0", "other := 0", "form not built"),
+    ("total := 0", "maxint := 0", "form not built"),
+    ("total := total", "adder := total", "form not built"),
+    (":= 0", ":= go", "form not built"),
+    ("initialize to go", "initialize to went", "form not built"),
+    ("from go", "from went", "form not built"),
+    ("to go provided", "to went provided", "form not built"),
     // names that clash
-    ("go", "total"),
-    ("go", "TOTAL"),
-    ("go", "adder"),
-    ("total", "adder"),
-    ("total", "Adder"),
+    ("go", "total", "form not built"),
+    ("go", "TOTAL", "form not built"),
+    ("go", "adder", "form not built"),
+    ("total", "adder", "form not built"),
+    ("total", "Adder", "form not built"),
     // reserved words and required identifiers
-    ("total", "queue"),
-    ("go", "nil"),
-    ("tick", "queue"),
-    ("go", "integer"),
-    ("go", "boolean"),
-    ("go", "char"),
-    ("go", "true"),
-    ("go", "false"),
-    ("go", "maxint"),
-    ("go", "abs"),
-    ("go", "sqr"),
-    ("go", "odd"),
-    ("go", "succ"),
-    ("go", "pred"),
-    ("go", "ord"),
-    ("go", "chr"),
-    ("total", "boolean"),
-    ("total", "Maxint"),
-    ("total", "abs"),
-    ("total", "chr"),
+    ("total", "queue", "syntax 2:5"),
+    ("go", "nil", "syntax 3:7"),
+    ("tick", "queue", "syntax 6:39"),
+    ("go", "integer", "form not built"),
+    ("go", "boolean", "form not built"),
+    ("go", "char", "form not built"),
+    ("go", "true", "form not built"),
+    ("go", "false", "form not built"),
+    ("go", "maxint", "form not built"),
+    ("go", "abs", "form not built"),
+    ("go", "sqr", "form not built"),
+    ("go", "odd", "form not built"),
+    ("go", "succ", "form not built"),
+    ("go", "pred", "form not built"),
+    ("go", "ord", "form not built"),
+    ("go", "chr", "form not built"),
+    ("total", "boolean", "form not built"),
+    ("total", "Maxint", "form not built"),
+    ("total", "abs", "form not built"),
+    ("total", "chr", "form not built"),
 ];
 
 // What the grammar allows: each part that may be left out, present and absent, and how tokens may be written.
@@ -227,19 +240,32 @@ fn forms_that_run(rt: HostRuntime) -> Result<(), Fail> {
     Ok(())
 }
 
-// What the grammar does not allow: each part that may not be left out, left out; what later texts may have;
-// symbols and numbers that are no tokens of it; and names that are not declared, clash or are required.
+// What the grammar does not allow, and what it allows but the program does not run: each part that may not be
+// left out, left out; what later texts may have; symbols and numbers that are no tokens; and names that are not
+// declared, clash or are required. Each with the reason that comes first, and its place.
 #[test]
 fn texts_that_are_refused(rt: HostRuntime) -> Result<(), Fail> {
-    for (old, new) in &REFUSED {
+    for (old, new, reason) in &REFUSED {
         let text = TOTAL.replace(rt.alloc(), *old, new)?;
         let answer = run(rt.alloc(), ALL_STEADY, text.as_bytes())?;
         assert_eq!(rt; answer.status, Status::Refused, "{text}");
         assert_eq!(rt; answer.out.len(), 0, "{text}");
+        let line = format!(in rt.alloc(); "estelle: {reason}\n")?;
+        assert_eq!(rt; answer.err.as_slice(), line.as_bytes(), "{text}");
+    }
+    Ok(())
+}
+
+// Each worked text of forms that are not run yet is read whole, and is refused for its forms alone.
+#[test]
+fn worked_texts_are_read(rt: HostRuntime) -> Result<(), Fail> {
+    for (name, text) in &WORKED {
+        let answer = run(rt.alloc(), ALL_STEADY, text.as_bytes())?;
+        assert_eq!(rt; answer.status, Status::Refused, "{name}");
         assert_eq!(rt;
             answer.err.as_slice(),
             b"estelle: form not built\n".as_slice(),
-            "{text}"
+            "{name}"
         );
     }
     Ok(())

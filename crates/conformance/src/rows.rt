@@ -30,7 +30,7 @@ from go to go provided n < 20000 name tick: begin n := n + 1 end;
 end.
 ";
 
-const NOT_BUILT: &str = "estelle: form not built\n";
+const NO_SYNTAX: &str = "estelle: syntax 1:1\n";
 
 const TOO_LONG: &str = "estelle: too long\n";
 
@@ -73,7 +73,7 @@ const ROWS: [Row; 4] = [
         UNSET_LINE,
         Status::PascalFault,
     ),
-    ("empty", &["run"], "", "", NOT_BUILT, Status::Refused),
+    ("empty", &["run"], "", "", NO_SYNTAX, Status::Refused),
 ];
 
 /// Words that have no meaning.
@@ -106,7 +106,7 @@ const LENGTHS: [(&str, &str, usize, usize, &str, &str, Status); 4] = [
         1_048_576,
         1_048_576,
         "",
-        NOT_BUILT,
+        NO_SYNTAX,
         Status::Refused,
     ),
     (
@@ -155,6 +155,28 @@ fn worked_runs(rt: HostRuntime) -> Result<(), Fail> {
     assert_eq!(rt; answer.status, Status::Done);
     assert!(rt; answer.out == trace(rt.alloc(), 10_000, TURNS)?);
     assert_eq!(rt; answer.err.len(), 0);
+    Ok(())
+}
+
+/// Counters that are spoiled: what is replaced, by what, and the line on err behind `estelle: `.
+const SPOILED: [(&str, &str, &str); 3] = [
+    ("end.\n", "", "syntax 7:1"),
+    (":= 0", ":= 1.5", "syntax 4:30"),
+    ("end.\n", "end.\nx\n", "text after end 8:1"),
+];
+
+// The places of refusals, by hand.
+#[test]
+fn spoiled_counters(rt: HostRuntime) -> Result<(), Fail> {
+    for (old, new, reason) in &SPOILED {
+        let text = COUNTER.replace(rt.alloc(), *old, new)?;
+        let answer = run(rt.alloc(), ALL_STEADY, text.as_bytes())?;
+        let line = format!(in rt.alloc(); "estelle: {reason}\n")?;
+        assert_eq!(rt; answer.status, Status::Refused, "{reason}");
+        assert_eq!(rt; answer.err.as_slice(), line.as_bytes(), "{reason}");
+    }
+    let answer = run(rt.alloc(), ALL_STEADY, b"specification $;".as_slice())?;
+    assert_eq!(rt; answer.err.as_slice(), b"estelle: bytes 1:15\n".as_slice());
     Ok(())
 }
 

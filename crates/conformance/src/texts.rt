@@ -56,7 +56,7 @@ pub const FIRING_OVERFLOWS: &str =
 pub const GUARD_OVERFLOWS: &str = "fault / 1 Overflow\nend fault Overflow\n";
 
 /// The trace of a run that starts, fires so often, and ends with these lines.
-pub fn trace(alloc: Global, firings: u32, last: &str) -> Result<Vec<u8>, AllocError> {
+pub(crate) fn trace(alloc: Global, firings: u32, last: &str) -> Result<Vec<u8>, AllocError> {
     let mut text = Vec::new(alloc);
     text.extend_from_slice(b"estelle trace 1\nstart\n")?;
     for _ in 0..firings {
@@ -67,7 +67,7 @@ pub fn trace(alloc: Global, firings: u32, last: &str) -> Result<Vec<u8>, AllocEr
 }
 
 /// A text with blanks behind it, so that it has this many bytes.
-pub fn filled(alloc: Global, text: &str, length: usize) -> Result<Vec<u8>, AllocError> {
+pub(crate) fn filled(alloc: Global, text: &str, length: usize) -> Result<Vec<u8>, AllocError> {
     let mut bytes = text.as_bytes().to_vec(alloc)?;
     bytes.resize(length, b' ')?;
     Ok(bytes)

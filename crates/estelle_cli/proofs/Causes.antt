@@ -1,23 +1,121 @@
--- An input that was run is none to refuse.
-use Rattle.std.proofs.Common.{◌≡◌, ℕ, List, Option, Some, subst, arith}
-use Rattle.std.specs.Prelude.{IfSome}
-use Rattle.estelle_parser.specs.declared.tree.Spec.{Spec}
+-- An input that was run is none to refuse, and one that is refused has one reason.
+use Rattle.std.proofs.Common.{◌≡◌, ◌≤◌, ◌<◌, ℕ, List, [], length, drop, Option, Some, None, sym, ap, ◌∙◌, subst, refl, arith}
+use Rattle.std.specs.Prelude.{IfSome, IsNone}
+use Rattle.estelle_tree.specs.declared.token.Placed.{Placed}
+use Rattle.estelle_tree.specs.declared.tree.specification.Spec.{Spec}
+use Rattle.estelle_tree.specs.Lexed.{IsLexed, IsBlankFrom, IsFirstOther}
+use Rattle.estelle_tree.specs.Spells.{Spells}
+use Rattle.estelle_lexer.specs.Blank.{other_from}
+use Rattle.estelle_lexer.proofs.Answers.{one_list, one_error, not_both}
+use Rattle.estelle_lexer.proofs.Blanks.{answer_blank, answer_other}
+use Rattle.built_forms.specs.declared.small.Small.{Small}
+use Rattle.built_forms.specs.Forms.{small_of}
 use Rattle.estelle_cli.specs.declared.model.End.{End}
 use Rattle.estelle_cli.specs.declared.world.Limits.{Limits}
+use Rattle.estelle_cli.specs.declared.outcome.Place.{Place}
 use Rattle.estelle_cli.specs.declared.outcome.Refusal.{Refusal}
-use Rattle.estelle_cli.specs.declared.outcome.Refusal.TheVariants.{TooLong, NotBuilt}
-use Rattle.estelle_cli.specs.Input.{Reads, Refuses}
+use Rattle.estelle_cli.specs.declared.outcome.Refusal.TheVariants.{TooLong, Bytes, TextAfterEnd, Syntax, NotBuilt}
+use Rattle.estelle_cli.specs.Input.{HasTokens, IsTextOf, Reads, HasNoTokens, HasTextAfterEnd, HasNoTree, HasOtherForm, Refuses, Same, place_of}
 use Rattle.estelle_cli.specs.Answers.{IsTrace}
 
-read_or_refused : (r : Refusal) (input : List ℕ) (t : Spec) → Reads input t → Refuses r input → ⊥
-read_or_refused TooLong input t reads refuses = omega (arith, reads.within)
-read_or_refused NotBuilt input t reads refuses = refuses.1 t reads.small
+none_some : (r : Option ℕ) (at : ℕ) → IsNone r → r ≡ Some at → ⊥
+none_some None at none some = cc
+none_some (Some place) at none some = cc
 
-at_some : (P : List ℕ → Type 0) (left : Option (List ℕ)) (input : List ℕ) → left ≡ Some input → IfSome left P → P input
-at_some P left input e h = let Q : Option (List ℕ) → Type 0 = λ o. IfSome o P in subst Q e h
+some_same : (r : Option ℕ) (at other : ℕ) → r ≡ Some at → r ≡ Some other → at ≡ other
+some_same r at other e f = let some : Some at ≡ Some other = sym e ∙ f in cc
 
-pub traced_refused : (limits : Limits) (left : Option (List ℕ)) (e : End) (text : List ℕ) → IsTrace limits left e text → (r : Refusal) (input : List ℕ) → left ≡ Some input → Refuses r input → ⊥
-traced_refused limits left e text h r input is refuses = read_or_refused r input h.specification (at_some (λ i. Reads i h.specification) left input is h.input) refuses
+-- ---- what a text has one of
 
-pub refused_read : (left : Option (List ℕ)) (r : Refusal) (input : List ℕ) (t : Spec) → IfSome left (Refuses r) → left ≡ Some input → Reads input t → ⊥
-refused_read left r input t h is reads = read_or_refused r input t reads (at_some (Refuses r) left input is h)
+module _ (input : List ℕ) where
+  abbrev found : ℕ → Option ℕ
+  found rest = other_from (length (drop rest input)) rest (drop rest input)
+
+  blank_or_other : (rest at : ℕ) → IsBlankFrom input rest → IsFirstOther input rest at → ⊥
+  blank_or_other rest at blank other =
+      none_some (found rest) at ((answer_blank (drop rest input) rest (found rest) refl).1 blank) ((answer_other (drop rest input) rest (found rest) refl at).1 other)
+
+  one_other : (rest at other : ℕ) → IsFirstOther input rest at → IsFirstOther input rest other → at ≡ other
+  one_other rest at other h g =
+      some_same (found rest) at other ((answer_other (drop rest input) rest (found rest) refl at).1 h) ((answer_other (drop rest input) rest (found rest) refl other).1 g)
+
+  same_tokens : (ts us : List Placed) → HasTokens input ts → HasTokens input us → ts ≡ us
+  same_tokens ts us a b = (one_list input ts us a.rest b.rest a.lexed b.lexed).0
+
+  tokens_or_none : (ts : List Placed) (p : Place) → HasTokens input ts → HasNoTokens input p → ⊥
+  tokens_or_none ts p a b = not_both input ts a.rest b.at a.lexed b.error
+
+  text_or_none : (p q : Place) → HasTextAfterEnd input p → HasNoTokens input q → ⊥
+  text_or_none p q a b = not_both input a.tokens a.rest b.at a.lexed b.error
+
+  tokens_or_text : (ts : List Placed) (p : Place) → HasTokens input ts → HasTextAfterEnd input p → ⊥
+  tokens_or_text ts p a b =
+      let rest = (one_list input ts b.tokens a.rest b.rest a.lexed b.lexed).1 in
+      blank_or_other b.rest b.at (subst (IsBlankFrom input) rest a.blank) b.other
+
+  tree_or_none : (spec : Spec) (p : Place) → IsTextOf input spec → HasNoTree input p → ⊥
+  tree_or_none spec p a b = b.none spec (subst (Spells spec) (same_tokens a.tokens b.tokens a.read b.read) a.spells)
+
+  one_place : (p q : Place) → HasNoTokens input p → HasNoTokens input q → p ≡ q
+  one_place p q a b = a.place ∙ ap (place_of input) (one_error input a.at b.at a.error b.error) ∙ sym b.place
+
+  one_text : (p q : Place) → HasTextAfterEnd input p → HasTextAfterEnd input q → p ≡ q
+  one_text p q a b =
+      let rest = (one_list input a.tokens b.tokens a.rest b.rest a.lexed b.lexed).1 in
+      a.place ∙ ap (place_of input) (one_other b.rest a.at b.at (subst (λ r. IsFirstOther input r a.at) rest a.other) b.other) ∙ sym b.place
+
+  pub one_refusal : (r s : Refusal) → Refuses r input → Refuses s input → Same r s
+  one_refusal TooLong TooLong a b = refl
+  one_refusal TooLong (Bytes q) a b = absurd (let w = b.within in omega arith)
+  one_refusal TooLong (TextAfterEnd q) a b = absurd (let w = b.within in omega arith)
+  one_refusal TooLong (Syntax q) a b = absurd (let w = b.read.within in omega arith)
+  one_refusal TooLong NotBuilt a b = absurd (let w = b.text.read.within in omega arith)
+  one_refusal (Bytes p) TooLong a b = absurd (let w = a.within in omega arith)
+  one_refusal (Bytes p) (Bytes q) a b = ap (λ p. Bytes p) (one_place p q a b)
+  one_refusal (Bytes p) (TextAfterEnd q) a b = absurd (text_or_none q p b a)
+  one_refusal (Bytes p) (Syntax q) a b = absurd (tokens_or_none b.tokens p b.read a)
+  one_refusal (Bytes p) NotBuilt a b = absurd (tokens_or_none b.text.tokens p b.text.read a)
+  one_refusal (TextAfterEnd p) TooLong a b = absurd (let w = a.within in omega arith)
+  one_refusal (TextAfterEnd p) (Bytes q) a b = absurd (text_or_none p q a b)
+  one_refusal (TextAfterEnd p) (TextAfterEnd q) a b = ap (λ p. TextAfterEnd p) (one_text p q a b)
+  one_refusal (TextAfterEnd p) (Syntax q) a b = absurd (tokens_or_text b.tokens p b.read a)
+  one_refusal (TextAfterEnd p) NotBuilt a b = absurd (tokens_or_text b.text.tokens p b.text.read a)
+  one_refusal (Syntax p) TooLong a b = absurd (let w = a.read.within in omega arith)
+  one_refusal (Syntax p) (Bytes q) a b = absurd (tokens_or_none a.tokens q a.read b)
+  one_refusal (Syntax p) (TextAfterEnd q) a b = absurd (tokens_or_text a.tokens q a.read b)
+  one_refusal (Syntax p) (Syntax q) a b = tt
+  one_refusal (Syntax p) NotBuilt a b = absurd (tree_or_none b.spec p b.text a)
+  one_refusal NotBuilt TooLong a b = absurd (let w = a.text.read.within in omega arith)
+  one_refusal NotBuilt (Bytes q) a b = absurd (tokens_or_none a.text.tokens q a.text.read b)
+  one_refusal NotBuilt (TextAfterEnd q) a b = absurd (tokens_or_text a.text.tokens q a.text.read b)
+  one_refusal NotBuilt (Syntax q) a b = absurd (tree_or_none a.spec q a.text b)
+  one_refusal NotBuilt NotBuilt a b = refl
+
+-- ---- an input that was run
+
+-- a list of tokens is spelled by one specification at most
+abbrev pub OneTree : Type 0
+OneTree = (s t : Spec) (tokens : List Placed) → Spells s tokens → Spells t tokens → s ≡ t
+
+form_or_none : (o : Option Small) (t : Small) → o ≡ Some t → o ≡ None → ⊥
+form_or_none o t e f = let some : Some t ≡ None = sym e ∙ f in cc
+
+module _ (one : OneTree) where
+  read_or_refused : (r : Refusal) (input : List ℕ) (t : Small) → Reads input t → Refuses r input → ⊥
+  read_or_refused TooLong input t a b = let w = a.text.read.within in omega arith
+  read_or_refused (Bytes q) input t a b = tokens_or_none input a.text.tokens q a.text.read b
+  read_or_refused (TextAfterEnd q) input t a b = tokens_or_text input a.text.tokens q a.text.read b
+  read_or_refused (Syntax q) input t a b = tree_or_none input a.spec q a.text b
+  read_or_refused NotBuilt input t a b =
+      let tokens = same_tokens input a.text.tokens b.text.tokens a.text.read b.text.read in
+      let tree = one a.spec b.spec b.text.tokens (subst (Spells a.spec) tokens a.text.spells) b.text.spells in
+      form_or_none (small_of b.spec) t (subst (λ s. small_of s ≡ Some t) tree a.form) b.form
+
+  at_some : (P : List ℕ → Type 0) (left : Option (List ℕ)) (input : List ℕ) → left ≡ Some input → IfSome left P → P input
+  at_some P left input e h = let Q : Option (List ℕ) → Type 0 = λ o. IfSome o P in subst Q e h
+
+  pub traced_refused : (limits : Limits) (left : Option (List ℕ)) (e : End) (text : List ℕ) → IsTrace limits left e text → (r : Refusal) (input : List ℕ) → left ≡ Some input → Refuses r input → ⊥
+  traced_refused limits left e text h r input is refuses = read_or_refused r input h.specification (at_some (λ i. Reads i h.specification) left input is h.input) refuses
+
+  pub refused_read : (left : Option (List ℕ)) (r : Refusal) (input : List ℕ) (t : Small) → IfSome left (Refuses r) → left ≡ Some input → Reads input t → ⊥
+  refused_read left r input t h is reads = read_or_refused r input t reads (at_some (Refuses r) left input is h)

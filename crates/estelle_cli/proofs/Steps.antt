@@ -6,7 +6,7 @@ use Rattle.std.specs.FinMap as map
 use Rattle.std.specs.FinMap.{get-insert}
 use Rattle.std.specs.Cmp.Lexicographic.{nat_list_cmp_total}
 use Rattle.std.specs.declared.cmp.Ordering.TheVariants.{Less}
-use Rattle.estelle_parser.specs.declared.tree.Spec.{Spec}
+use Rattle.built_forms.specs.declared.small.Small.{Small}
 use Rattle.estelle_cli.specs.declared.model.Value.{Value}
 use Rattle.estelle_cli.specs.declared.model.Value.TheVariants.{Unset}
 use Rattle.estelle_cli.specs.declared.model.Fault as fault
@@ -62,7 +62,7 @@ ran g = Ran g [] []
 abbrev first : Subject → Value → Situation
 first s v = put_instance (bare s) [] (root v)
 
-first_stands : (t : Spec) (budget : ℕ) (v : Value) → Stands v false (first (subject t budget) v)
+first_stands : (t : Small) (budget : ℕ) (v : Value) → Stands v false (first (subject t budget) v)
 first_stands t budget v =
     let s = subject t budget in
     record {
@@ -72,13 +72,13 @@ first_stands t budget v =
       moment = refl;
     }
 
-start_ran : (t : Spec) (budget : ℕ) (v : Value) → block t (Unset ∷ []) t.start ≡ Ok (v ∷ []) → start (subject t budget) ≡ ran (first (subject t budget) v)
+start_ran : (t : Small) (budget : ℕ) (v : Value) → block t (Unset ∷ []) t.start ≡ Ok (v ∷ []) → start (subject t budget) ≡ ran (first (subject t budget) v)
 start_ran t budget v e = let s = subject t budget in ap (done (bare s) [] (new_root s) (Some 0)) e
 
-start_failed : (t : Spec) (budget : ℕ) (kind : fault.Fault) → block t (Unset ∷ []) t.start ≡ Err kind → start (subject t budget) ≡ Failed kind
+start_failed : (t : Small) (budget : ℕ) (kind : fault.Fault) → block t (Unset ∷ []) t.start ≡ Err kind → start (subject t budget) ≡ Failed kind
 start_failed t budget kind e = let s = subject t budget in ap (done (bare s) [] (new_root s) (Some 0)) e
 
-pub open_begin : (t : Spec) (budget turns : ℕ) (v : Value) → block t (Unset ∷ []) t.start ≡ Ok (v ∷ []) → IsOpen t budget turns v false true 0 (Start [] [] ∷ [])
+pub open_begin : (t : Small) (budget turns : ℕ) (v : Value) → block t (Unset ∷ []) t.start ≡ Ok (v ∷ []) → IsOpen t budget turns v false true 0 (Start [] [] ∷ [])
 open_begin t budget turns v e =
     let s = subject t budget in
     let is = start_ran t budget v e in
@@ -94,7 +94,7 @@ open_begin t budget turns v e =
       settled = λ waits. absurd (let f : ◌≡◌ {A = Bool} true false = waits in cc);
     }
 
-pub begin_fault : (t : Spec) (budget turns : ℕ) (kind : fault.Fault) → block t (Unset ∷ []) t.start ≡ Err kind → IsStopped t budget turns (Fault [] 0 kind ∷ []) (end.Faulted kind)
+pub begin_fault : (t : Small) (budget turns : ℕ) (kind : fault.Fault) → block t (Unset ∷ []) t.start ≡ Err kind → IsStopped t budget turns (Fault [] 0 kind ∷ []) (end.Faulted kind)
 begin_fault t budget turns kind e = record {
   run = subst (λ (f : Firing). Begins (subject t budget) f (Fault [] 0 kind) []) (sym (start_failed t budget kind e)) (refl, refl, refl, refl);
   stops = refl;
@@ -104,7 +104,7 @@ begin_fault t budget turns kind e = record {
 
 -- ---- guards, priorities and attributes
 
-module _ (t : Spec) (budget : ℕ) (v : Value) (p : Bool) (g : Situation) (h : Stands v p g) where
+module _ (t : Small) (budget : ℕ) (v : Value) (p : Bool) (g : Situation) (h : Stands v p g) where
   abbrev s : Subject
   s = subject t budget
 
@@ -155,7 +155,7 @@ module _ (t : Spec) (budget : ℕ) (v : Value) (p : Bool) (g : Situation) (h : S
 renewed : (v : Value) (p : Bool) (g : Situation) → Stands v p g → Stands v p (renew g 0)
 renewed v p g h = record { instance = h.instance; others = h.others; firings = h.firings; moment = refl }
 
-module _ (t : Spec) (budget : ℕ) (v : Value) where
+module _ (t : Small) (budget : ℕ) (v : Value) where
   abbrev whole : Subject
   whole = subject t budget
 
@@ -199,7 +199,7 @@ found_sound false guard f h = subst IsFaulted f h
 idle_root : (v : Value) (g : Situation) → Stands v false g → IsIdle g []
 idle_root v g h p c _ = let none : Contains [] p = subst (λ (ps : List Pair). Contains ps p) h.firings c in omega (arith, none.1)
 
-select_applies : (t : Spec) (budget : ℕ) (v : Value) (takes : Bool) (g : Situation) → Stands v false g → Found takes (provided t (v ∷ []) t.transition.provided) → Applies (subject t budget) g (Select [] 0 (taken takes))
+select_applies : (t : Small) (budget : ℕ) (v : Value) (takes : Bool) (g : Situation) → Stands v false g → Found takes (provided t (v ∷ []) t.transition.provided) → Applies (subject t budget) g (Select [] 0 (taken takes))
 select_applies t budget v takes g h f = record {
   is_system = root_is_system t budget v false g h;
   idle = idle_root v g h;
@@ -209,7 +209,7 @@ select_applies t budget v takes g h f = record {
   selects = selects t budget v takes (renew g 0) (renewed v false g h) f;
 }
 
-select_stands : (t : Spec) (budget : ℕ) (v : Value) (takes : Bool) (g : Situation) → Stands v false g → Stands v takes (next (subject t budget) g (Select [] 0 (taken takes)))
+select_stands : (t : Small) (budget : ℕ) (v : Value) (takes : Bool) (g : Situation) → Stands v false g → Stands v takes (next (subject t budget) g (Select [] 0 (taken takes)))
 select_stands t budget v takes g h = record { instance = h.instance; others = h.others; firings = ap (λ (ps : List Pair). ps ++ taken takes) h.firings; moment = refl }
 
 settles : (takes : Bool) (guard : Guard) → Found takes guard → takes ≡ false → guard ≡ Off
@@ -221,7 +221,7 @@ no_fault es e h = subst IsNoFault (sym (last-push es e)) h
 
 -- ---- which system is due
 
-root_due : (t : Spec) (budget : ℕ) (v : Value) (es : List Event) → Stands v false (situation (subject t budget) es) → awaits [] es ≡ true → IsFirstDue (subject t budget) es []
+root_due : (t : Small) (budget : ℕ) (v : Value) (es : List Event) → Stands v false (situation (subject t budget) es) → awaits [] es ≡ true → IsFirstDue (subject t budget) es []
 root_due t budget v es h waits =
     let g = situation (subject t budget) es in
     record {
@@ -229,7 +229,7 @@ root_due t budget v es h waits =
       first = λ other less _. none_less other less;
     }
 
-none_due : (t : Spec) (budget : ℕ) (v : Value) (p : Bool) (es : List Event) → Stands v p (situation (subject t budget) es) → awaits [] es ≡ false → NoneDue (subject t budget) es
+none_due : (t : Small) (budget : ℕ) (v : Value) (p : Bool) (es : List Event) → Stands v p (situation (subject t budget) es) → awaits [] es ≡ false → NoneDue (subject t budget) es
 none_due t budget v p es h settled m due =
     let g = situation (subject t budget) es in
     let is : m ≡ [] = system_is_root t budget v p g h m due.is_system in
@@ -239,7 +239,7 @@ none_due t budget v p es h settled m due =
 
 -- ---- the steps of a selection
 
-pub select_go : (t : Spec) (budget turns : ℕ) (v : Value) (p takes : Bool) (count : ℕ) (es : List Event) → IsOpen t budget turns v p true count es → count < turns → Found takes (provided t (v ∷ []) t.transition.provided)
+pub select_go : (t : Small) (budget turns : ℕ) (v : Value) (p takes : Bool) (count : ℕ) (es : List Event) → IsOpen t budget turns v p true count es → count < turns → Found takes (provided t (v ∷ []) t.transition.provided)
     → IsOpen t budget turns v takes false count (es ++ Select [] 0 (taken takes) ∷ [])
 select_go t budget turns v p takes count es h some f =
     let s = subject t budget in
@@ -261,7 +261,7 @@ select_go t budget turns v p takes count es h some f =
       settled = λ _ none. settles takes _ f none;
     }
 
-fault_end : (t : Spec) (budget turns : ℕ) (es : List Event) (kind : fault.Fault) → IsRun (subject t budget) (es ++ Fault [] 1 kind ∷ []) → ArePlanned (subject t budget) turns (es ++ Fault [] 1 kind ∷ []) → IsStopped t budget turns (es ++ Fault [] 1 kind ∷ []) (end.Faulted kind)
+fault_end : (t : Small) (budget turns : ℕ) (es : List Event) (kind : fault.Fault) → IsRun (subject t budget) (es ++ Fault [] 1 kind ∷ []) → ArePlanned (subject t budget) turns (es ++ Fault [] 1 kind ∷ []) → IsStopped t budget turns (es ++ Fault [] 1 kind ∷ []) (end.Faulted kind)
 fault_end t budget turns es kind run planned =
     let last : IsFault (last_event (es ++ Fault [] 1 kind ∷ [])) kind = subst (λ (o : Option Event). IsFault o kind) (sym (last-push es (Fault [] 1 kind))) refl in
     record { run = run; stops = last; scheduled = record { each = planned; ends = last }; clockless = tt }
@@ -273,7 +273,7 @@ before_root m n b =
       | inr p ↦ (p.0, omega (arith, p.1))
     ]
 
-pub select_fault : (t : Spec) (budget turns : ℕ) (v : Value) (p : Bool) (count : ℕ) (es : List Event) (kind : fault.Fault) → IsOpen t budget turns v p true count es → count < turns → provided t (v ∷ []) t.transition.provided ≡ Faulted kind
+pub select_fault : (t : Small) (budget turns : ℕ) (v : Value) (p : Bool) (count : ℕ) (es : List Event) (kind : fault.Fault) → IsOpen t budget turns v p true count es → count < turns → provided t (v ∷ []) t.transition.provided ≡ Faulted kind
     → IsStopped t budget turns (es ++ Fault [] 1 kind ∷ []) (end.Faulted kind)
 select_fault t budget turns v p count es kind h some is =
     let s = subject t budget in
@@ -296,10 +296,10 @@ is_next v g h = ([], h.firings)
 has_firing : (v : Value) (g : Situation) → Stands v true g → Contains g.pending the_firing
 has_firing v g h = subst (λ (ps : List Pair). Contains ps the_firing) (sym h.firings) (0, lit< tt, refl)
 
-fire_is : (t : Spec) (budget : ℕ) (v : Value) (g : Situation) → Stands v true g → fire (subject t budget) g [] 1 ≡ done g [] (root v) (Some 0) (block t (v ∷ []) t.transition.block)
+fire_is : (t : Small) (budget : ℕ) (v : Value) (g : Situation) → Stands v true g → fire (subject t budget) g [] 1 ≡ done g [] (root v) (Some 0) (block t (v ∷ []) t.transition.block)
 fire_is t budget v g h = ap (fire_at (subject t budget) g [] 1) h.instance
 
-fire_ran : (t : Spec) (budget : ℕ) (v w : Value) (g : Situation) → Stands v true g → block t (v ∷ []) t.transition.block ≡ Ok (w ∷ []) → fire (subject t budget) g [] 1 ≡ ran (put_instance g [] (root w))
+fire_ran : (t : Small) (budget : ℕ) (v w : Value) (g : Situation) → Stands v true g → block t (v ∷ []) t.transition.block ≡ Ok (w ∷ []) → fire (subject t budget) g [] 1 ≡ ran (put_instance g [] (root w))
 fire_ran t budget v w g h e = fire_is t budget v g h ∙ ap (done g [] (root v) (Some 0)) e
 
 fired_stands : (v w : Value) (g : Situation) → Stands v true g → Stands w false (fired the_firing g (ran (put_instance g [] (root w))))
@@ -310,7 +310,7 @@ fired_stands v w g h = record {
   moment = h.moment;
 }
 
-pub fire_go : (t : Spec) (budget turns : ℕ) (v w : Value) (p waits : Bool) (count : ℕ) (es : List Event) → IsOpen t budget turns v p waits count es → p ≡ true → waits ≡ false → count < turns → block t (v ∷ []) t.transition.block ≡ Ok (w ∷ [])
+pub fire_go : (t : Small) (budget turns : ℕ) (v w : Value) (p waits : Bool) (count : ℕ) (es : List Event) → IsOpen t budget turns v p waits count es → p ≡ true → waits ≡ false → count < turns → block t (v ∷ []) t.transition.block ≡ Ok (w ∷ [])
     → IsOpen t budget turns w false true (count + 1) (es ++ Fire [] 1 [] [] ∷ [])
 fire_go t budget turns v w p waits count es h pending settled some is =
     let s = subject t budget in
@@ -330,7 +330,7 @@ fire_go t budget turns v w p waits count es h pending settled some is =
       settled = λ again. absurd (let f : ◌≡◌ {A = Bool} true false = again in cc);
     }
 
-pub fire_fault : (t : Spec) (budget turns : ℕ) (v : Value) (p waits : Bool) (count : ℕ) (es : List Event) (kind : fault.Fault) → IsOpen t budget turns v p waits count es → p ≡ true → waits ≡ false → count < turns → block t (v ∷ []) t.transition.block ≡ Err kind
+pub fire_fault : (t : Small) (budget turns : ℕ) (v : Value) (p waits : Bool) (count : ℕ) (es : List Event) (kind : fault.Fault) → IsOpen t budget turns v p waits count es → p ≡ true → waits ≡ false → count < turns → block t (v ∷ []) t.transition.block ≡ Err kind
     → IsStopped t budget turns (es ++ Fault [] 1 kind ∷ []) (end.Faulted kind)
 fire_fault t budget turns v p waits count es kind h pending settled some is =
     let s = subject t budget in
@@ -342,12 +342,12 @@ fire_fault t budget turns v p waits count es kind h pending settled some is =
 
 -- ---- ends
 
-pub turns_stop : (t : Spec) (budget turns : ℕ) (v : Value) (p waits : Bool) (count : ℕ) (es : List Event) → IsOpen t budget turns v p waits count es → turns ≤ count → IsStopped t budget turns es end.Turns
+pub turns_stop : (t : Small) (budget turns : ℕ) (v : Value) (p waits : Bool) (count : ℕ) (es : List Event) → IsOpen t budget turns v p waits count es → turns ≤ count → IsStopped t budget turns es end.Turns
 turns_stop t budget turns v p waits count es h full =
     let all : fires es ≡ turns = omega (arith, h.counted, h.within) in
     record { run = h.run; stops = (h.goes_on, all); scheduled = record { each = h.planned; ends = all }; clockless = tt }
 
-pub dead_stop : (t : Spec) (budget turns : ℕ) (v : Value) (p waits : Bool) (count : ℕ) (es : List Event) → IsOpen t budget turns v p waits count es → count < turns → p ≡ false → waits ≡ false → IsStopped t budget turns es end.Dead
+pub dead_stop : (t : Small) (budget turns : ℕ) (v : Value) (p waits : Bool) (count : ℕ) (es : List Event) → IsOpen t budget turns v p waits count es → count < turns → p ≡ false → waits ≡ false → IsStopped t budget turns es end.Dead
 dead_stop t budget turns v p waits count es h some pending settled =
     let s = subject t budget in
     let g = situation s es in

@@ -1,16 +1,18 @@
 -- What a call of the program answers, and why.
 use Rattle.std.specs.Prelude.{◌≡◌, ℕ, List, ◌++◌, Option, IfSome, codes}
+use Rattle.std.specs.Fmt.{decimal}
 use Rattle.std.specs.Io.KnownBytes.{Appends, IsAtEnd}
 use Rattle.outside.specs.Counts.{Rose}
 use Rattle.outside.specs.Bytes.{AppendsFront}
-use Rattle.estelle_parser.specs.declared.tree.Spec.{Spec}
+use Rattle.built_forms.specs.declared.small.Small.{Small}
 use Rattle.estelle_cli.specs.declared.model.Event.{Event}
 use Rattle.estelle_cli.specs.declared.model.End.{End}
 use Rattle.estelle_cli.specs.declared.model.End.TheVariants as end
 use Rattle.estelle_cli.specs.declared.model.Fault.{Fault}
 use Rattle.estelle_cli.specs.declared.world.Limits.{Limits}
+use Rattle.estelle_cli.specs.declared.outcome.Place.{Place}
 use Rattle.estelle_cli.specs.declared.outcome.Refusal.{Refusal}
-use Rattle.estelle_cli.specs.declared.outcome.Refusal.TheVariants.{TooLong, NotBuilt}
+use Rattle.estelle_cli.specs.declared.outcome.Refusal.TheVariants.{TooLong, Bytes, TextAfterEnd, Syntax, NotBuilt}
 use Rattle.estelle_cli.specs.declared.outcome.Outcome.{Outcome}
 use Rattle.estelle_cli.specs.declared.outcome.Outcome.TheVariants as outcome
 use Rattle.estelle_cli.specs.declared.outcome.Status.{Status}
@@ -27,7 +29,7 @@ use Rattle.estelle_cli.specs.Input.{Reads, Refuses}
 -- A text is the trace of a run of the input's specification that stops with this end: the run's first event is its
 -- start, each later one applies to the situation before it, and all are those that the schedule chooses.
 pub record IsTrace (limits : Limits) (left : Option (List ℕ)) (e : End) (written : List ℕ) : Type 0 where
-  pub specification : Spec
+  pub specification : Small
   pub events : List Event
   pub input : IfSome left (λ bytes. Reads bytes specification)
   pub run : IsRun (subject specification limits.budget) events
@@ -68,8 +70,15 @@ line words = codes "estelle: " ++ (words ++ line_end)
 abbrev pub usage_line : List ℕ
 usage_line = line (codes "usage")
 
+-- the line and the column, as `1:15`
+abbrev pub place_text : Place → List ℕ
+place_text p = decimal p.line ++ (codes ":" ++ decimal p.column)
+
 abbrev pub refusal_line : Refusal → List ℕ
 refusal_line TooLong = line (codes "too long")
+refusal_line (Bytes p) = line (codes "bytes " ++ place_text p)
+refusal_line (TextAfterEnd p) = line (codes "text after end " ++ place_text p)
+refusal_line (Syntax p) = line (codes "syntax " ++ place_text p)
 refusal_line NotBuilt = line (codes "form not built")
 
 abbrev pub read_fault_line : List ℕ
@@ -142,9 +151,18 @@ abbrev pub Emits : List ℕ → End → Option (List ℕ) → Option (List ℕ) 
 Emits written e held held' faults faults' outcome.Done = IsGood e × Appends held held' written
 Emits written e held held' faults faults' (outcome.PascalFault kind) = (e ≡ end.Faulted kind) × Appends held held' written
 Emits written e held held' faults faults' outcome.WriteFault = Rose faults faults' × AppendsFront held held' written
-Emits written e held held' faults faults' (outcome.Refused refusal) = ⊥
+Emits written e held held' faults faults' (outcome.Refused refusal words) = ⊥
 Emits written e held held' faults faults' outcome.ReadFault = ⊥
 Emits written e held held' faults faults' outcome.Memory = ⊥
+
+-- refused with its line, unless memory ran out
+abbrev pub IsRefusedOr : Refusal → Outcome → Type 0
+IsRefusedOr refusal (outcome.Refused r words) = (r ≡ refusal) × (words ≡ refusal_line refusal)
+IsRefusedOr refusal outcome.Memory = Unit {0}
+IsRefusedOr refusal outcome.Done = ⊥
+IsRefusedOr refusal (outcome.PascalFault kind) = ⊥
+IsRefusedOr refusal outcome.ReadFault = ⊥
+IsRefusedOr refusal outcome.WriteFault = ⊥
 
 -- why a call ended so: by what the source had left and has, what out held and holds, and their counts
 abbrev pub Explains : Limits → Option (List ℕ) → Option (List ℕ) → ℕ → ℕ → Option (List ℕ) → Option (List ℕ) → ℕ → ℕ → Outcome → Type 0
@@ -152,8 +170,8 @@ Explains limits left left' reads reads' held held' writes writes' outcome.Done =
     (e : End) × IsGood e × WritesTrace limits left e held held' × IsAtEnd left'
 Explains limits left left' reads reads' held held' writes writes' (outcome.PascalFault kind) =
     WritesTrace limits left (end.Faulted kind) held held' × IsAtEnd left'
-Explains limits left left' reads reads' held held' writes writes' (outcome.Refused refusal) =
-    IfSome left (Refuses refusal) × IsQuiet held held' writes writes'
+Explains limits left left' reads reads' held held' writes writes' (outcome.Refused refusal words) =
+    IfSome left (Refuses refusal) × (words ≡ refusal_line refusal) × IsQuiet held held' writes writes'
 Explains limits left left' reads reads' held held' writes writes' outcome.ReadFault =
     Rose reads reads' × IsQuiet held held' writes writes'
 Explains limits left left' reads reads' held held' writes writes' outcome.WriteFault =

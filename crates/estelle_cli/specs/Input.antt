@@ -1,11 +1,17 @@
 -- Which inputs are specifications, and which are refused.
-use Rattle.std.specs.Prelude.{ℕ, ◌<◌, ◌≤◌, List, length, Option, IfSome}
+use Rattle.std.specs.Prelude.{◌≡◌, ℕ, ◌<◌, ◌≤◌, List, length, Option, Some, None, IfSome}
 use Rattle.std.specs.Io.KnownBytes.{Consumes}
 use Rattle.outside.specs.Counts.{Rose}
-use Rattle.estelle_parser.specs.declared.tree.Spec.{Spec}
-use Rattle.estelle_parser.specs.Spelled.{IsSmall}
+use Rattle.estelle_tree.specs.declared.token.Placed.{Placed}
+use Rattle.estelle_tree.specs.declared.tree.specification.Spec.{Spec}
+use Rattle.estelle_tree.specs.Lexed.{IsLexed, IsLexicalErrorAt, IsBlankFrom, IsFirstOther}
+use Rattle.estelle_tree.specs.Spells.{Spells}
+use Rattle.estelle_lexer.specs.Place.{line_of, column_of}
+use Rattle.built_forms.specs.declared.small.Small.{Small}
+use Rattle.built_forms.specs.Forms.{small_of}
+use Rattle.estelle_cli.specs.declared.outcome.Place.{Place}
 use Rattle.estelle_cli.specs.declared.outcome.Refusal.{Refusal}
-use Rattle.estelle_cli.specs.declared.outcome.Refusal.TheVariants.{TooLong, NotBuilt}
+use Rattle.estelle_cli.specs.declared.outcome.Refusal.TheVariants.{TooLong, Bytes, TextAfterEnd, Syntax, NotBuilt}
 use Rattle.estelle_cli.specs.declared.outcome.Stop.{Stop}
 use Rattle.estelle_cli.specs.declared.outcome.Stop.TheVariants as stop
 
@@ -13,15 +19,74 @@ use Rattle.estelle_cli.specs.declared.outcome.Stop.TheVariants as stop
 abbrev pub input_limit : ℕ
 input_limit = 1048576
 
--- the input is the text of this small specification
-pub record Reads (input : List ℕ) (t : Spec) : Type 0 where
+-- the input is not too long, and is cut into these tokens; only blanks and comments stand behind them
+pub record HasTokens (input : List ℕ) (tokens : List Placed) : Type 0 where
   pub within : length input ≤ input_limit
-  pub small : IsSmall input t
+  pub rest : ℕ
+  pub lexed : IsLexed input tokens rest
+  pub blank : IsBlankFrom input rest
+
+-- the input is a text of this specification
+pub record IsTextOf (input : List ℕ) (spec : Spec) : Type 0 where
+  pub tokens : List Placed
+  pub read : HasTokens input tokens
+  pub spells : Spells spec tokens
+
+-- and that has the forms that are run
+pub record Reads (input : List ℕ) (t : Small) : Type 0 where
+  pub spec : Spec
+  pub text : IsTextOf input spec
+  pub form : small_of spec ≡ Some t
+
+-- ---- refusals
+
+abbrev pub place_of : List ℕ → ℕ → Place
+place_of input at = record { line = line_of input at; column = column_of input at }
+
+-- no token, blank or comment begins there, and all before is cut into such
+pub record HasNoTokens (input : List ℕ) (p : Place) : Type 0 where
+  pub within : length input ≤ input_limit
+  pub at : ℕ
+  pub error : IsLexicalErrorAt input at
+  pub place : p ≡ place_of input at
+
+-- there something else than a blank or a comment stands behind the tokens
+pub record HasTextAfterEnd (input : List ℕ) (p : Place) : Type 0 where
+  pub within : length input ≤ input_limit
+  pub tokens : List Placed
+  pub rest : ℕ
+  pub at : ℕ
+  pub lexed : IsLexed input tokens rest
+  pub other : IsFirstOther input rest at
+  pub place : p ≡ place_of input at
+
+-- no specification spells the tokens
+pub record HasNoTree (input : List ℕ) (p : Place) : Type 0 where
+  pub tokens : List Placed
+  pub read : HasTokens input tokens
+  pub none : (spec : Spec) → Spells spec tokens → ⊥
+  pub at : ℕ
+  pub inside : at ≤ length input
+  pub place : p ≡ place_of input at
+
+-- the specification has a form that is not run
+pub record HasOtherForm (input : List ℕ) : Type 0 where
+  pub spec : Spec
+  pub text : IsTextOf input spec
+  pub form : small_of spec ≡ None
 
 -- why an input is refused
 abbrev pub Refuses : Refusal → List ℕ → Type 0
 Refuses TooLong input = input_limit < length input
-Refuses NotBuilt input = (length input ≤ input_limit) × ((t : Spec) → IsSmall input t → ⊥)
+Refuses (Bytes p) input = HasNoTokens input p
+Refuses (TextAfterEnd p) input = HasTextAfterEnd input p
+Refuses (Syntax p) input = HasNoTree input p
+Refuses NotBuilt input = HasOtherForm input
+
+-- one refusal, the place of an error of syntax aside
+abbrev pub Same : Refusal → Refusal → Type 0
+Same (Syntax p) (Syntax q) = Unit {0}
+Same r s = r ≡ s
 
 -- bytes were read from the front of what was left, and no more of them than this
 pub record TakesAtMost (most : ℕ) (left left' : Option (List ℕ)) : Type 0 where

@@ -1,7 +1,7 @@
 -- What the state that the executor keeps stands for.
 use Rattle.std.specs.Prelude.{◌≡◌, ◌≢◌, ℕ, ◌+◌, ◌-◌, ◌*◌, ◌≤◌, Bool, true, false, List, [], ◌∷◌, Some, None, Result, Ok, if◌then◌else◌}
 use Rattle.std.specs.FinMap as map
-use Rattle.estelle_parser.specs.declared.tree.Spec.{Spec}
+use Rattle.built_forms.specs.declared.small.Small.{Small}
 use Rattle.estelle_cli.specs.declared.model.Value.{Value}
 use Rattle.estelle_cli.specs.declared.model.Fault.{Fault}
 use Rattle.estelle_cli.specs.declared.model.Pair.{Pair}
@@ -41,7 +41,7 @@ pub record Stands (v : Value) (pending : Bool) (g : Situation) : Type 0 where
   pub moment : g.now ≡ 0
 
 -- the events so far are a planned run to this state, and it may go on
-pub record IsOpen (t : Spec) (budget turns : ℕ) (v : Value) (pending waits : Bool) (count : ℕ) (events : List Event) : Type 0 where
+pub record IsOpen (t : Small) (budget turns : ℕ) (v : Value) (pending waits : Bool) (count : ℕ) (events : List Event) : Type 0 where
   pub run : IsRun (subject t budget) events
   pub stands : Stands v pending (situation (subject t budget) events)
   pub goes_on : IsNoFault (last_event events)
@@ -66,7 +66,7 @@ IsClockless Clock = ⊥
 IsClockless (Faulted kind) = Unit {0}
 
 -- the events are a run that stops with this end, and the one that is scheduled
-pub record IsStopped (t : Spec) (budget turns : ℕ) (events : List Event) (e : End) : Type 0 where
+pub record IsStopped (t : Small) (budget turns : ℕ) (events : List Event) (e : End) : Type 0 where
   pub run : IsRun (subject t budget) events
   pub stops : Stops (subject t budget) events turns e
   pub scheduled : IsScheduled (subject t budget) turns events e

@@ -5,7 +5,7 @@ ghost use Rattle.estelle_cli.specs.Model.Meaning as meaning;
 ghost use Rattle.estelle_cli.specs.World.{with_one};
 
 use crate::model::{Fault, Guard, Value};
-use estelle_parser::{Atom, Block, Less, Spec, Sum};
+use built_forms::{Atom, Block, Less, Small, Sum};
 
 const MAXINT: i64 = 9223372036854775807;
 
@@ -28,7 +28,7 @@ fn add(a: i64, b: i64) -> Result<i64, Fault>
 }
 
 /// The value of an operand, where the variable has this value.
-fn operand(spec: &Spec, variable: Value, operand: &Atom) -> Result<i64, Fault>
+fn operand(spec: &Small, variable: Value, operand: &Atom) -> Result<i64, Fault>
     ensures { result ≡ meaning.operand spec.now (variable ∷ []) operand.now }
 {
     match operand {
@@ -43,7 +43,7 @@ fn operand(spec: &Spec, variable: Value, operand: &Atom) -> Result<i64, Fault>
     }
 }
 
-fn sum(spec: &Spec, variable: Value, sum: &Sum) -> Result<i64, Fault>
+fn sum(spec: &Small, variable: Value, sum: &Sum) -> Result<i64, Fault>
     ensures { result ≡ meaning.sum spec.now (variable ∷ []) sum.now }
 {
     let first = operand(spec, variable, &sum.first)?;
@@ -56,7 +56,7 @@ fn sum(spec: &Spec, variable: Value, sum: &Sum) -> Result<i64, Fault>
     }
 }
 
-fn less(spec: &Spec, variable: Value, less: &Less) -> Result<bool, Fault>
+fn less(spec: &Small, variable: Value, less: &Less) -> Result<bool, Fault>
     ensures { result ≡ meaning.less spec.now (variable ∷ []) less.now }
 {
     let left = sum(spec, variable, &less.left)?;
@@ -65,7 +65,7 @@ fn less(spec: &Spec, variable: Value, less: &Less) -> Result<bool, Fault>
 }
 
 /// A transition's guard, by its `provided` clause.
-pub fn provided(spec: &Spec, variable: Value, clause: &Option<Less>) -> Guard
+pub fn provided(spec: &Small, variable: Value, clause: &Option<Less>) -> Guard
     ensures { result ≡ meaning.provided spec.now (variable ∷ []) clause.now }
 {
     match clause {
@@ -85,7 +85,7 @@ pub fn provided(spec: &Spec, variable: Value, clause: &Option<Less>) -> Guard
 }
 
 /// The variable's value after the block.
-pub fn after_block(spec: &Spec, variable: Value, block: &Block) -> Result<Value, Fault>
+pub fn after_block(spec: &Small, variable: Value, block: &Block) -> Result<Value, Fault>
     ensures { meaning.block spec.now (variable ∷ []) block.now ≡ with_one result }
 {
     Ok(Value::Int(sum(spec, variable, &block.value)?))

@@ -1,12 +1,18 @@
 //! Reads the input as a specification.
 
-ghost use Rattle.std.specs.Prelude.{◌≡◌, ◌≤◌, ◌+◌, length, IfOk, OnOk, IfErr, IfSome};
+ghost use Rattle.std.specs.Prelude.{◌≡◌, ◌<◌, ◌≤◌, ◌+◌, ◌^◌, length, All, IfOk, OnOk, IfErr, IfSome};
 ghost use Rattle.std.specs.Io.KnownBytes.{Consumes, IsAtEnd};
 ghost use Rattle.outside.specs.Counts.{Rose};
-ghost use Rattle.estelle_cli.specs.Input.{Reads, Misses, HasStopped, TakesAtMost, input_limit};
+ghost use Rattle.estelle_tree.specs.Lexed.{FollowOneAnother};
+ghost use Rattle.estelle_lexer.specs.Tokens.{IsPlacedToken};
+ghost use Rattle.estelle_cli.specs.Input.{Reads, HasTokens, IsTextOf, Misses, HasStopped, TakesAtMost, place_of, input_limit};
 
-use crate::outcome::{Refusal, Stop};
-use estelle_parser::{ReadError, Spec, read};
+use crate::outcome::{Place, Refusal, Stop};
+use built_forms::{Missing, Small, small_of};
+use estelle_lexer::place::line_and_column;
+use estelle_lexer::{LexError, Tokens, blank_to_end, tokens};
+use estelle_parser::{SyntaxError, parse};
+use estelle_tree::Spec;
 use outside::Source;
 use std::alloc::Global;
 
@@ -43,23 +49,67 @@ fn read_input<S: Source>(alloc: Global, source: &mut S) -> Result<Vec<u8>, Stop>
     Ok(bytes)
 }
 
+fn place(bytes: &[u8], at: u32) -> Place
+    requires short { length bytes.now < 2 ^ 31 }
+    requires within { at ≤ length bytes.now }
+    ensures { result ≡ place_of bytes.now at }
+{
+    let (line, column) = line_and_column(bytes, at);
+    Place { line, column }
+}
+
+/// The tokens of a text, where only blanks and comments stand behind them.
+fn cut(alloc: Global, bytes: &[u8]) -> Result<Tokens, Stop>
+    requires within { length bytes.now ≤ input_limit }
+    ensures found { IfOk result (λ t. HasTokens bytes.now t.items) }
+    ensures forms { IfOk result (λ t. All IsPlacedToken t.items) }
+    ensures spans { IfOk result (λ t. FollowOneAnother 0 t.items t.rest) }
+    ensures rest { IfOk result (λ t. t.rest ≤ length bytes.now) }
+    ensures cause { IfErr result (Misses bytes.now) }
+{
+    let found = match tokens(alloc, bytes) {
+        Ok(found) => found,
+        Err(LexError::At(at)) => return Err(Stop::Refused(Refusal::Bytes(place(bytes, at)))),
+        Err(LexError::Memory) => return Err(Stop::Memory),
+    };
+    if let Some(at) = blank_to_end(bytes, found.rest) {
+        return Err(Stop::Refused(Refusal::TextAfterEnd(place(bytes, at))));
+    }
+    Ok(found)
+}
+
+/// The specification that a text spells.
+fn tree(alloc: Global, bytes: &[u8]) -> Result<Spec, Stop>
+    requires within { length bytes.now ≤ input_limit }
+    ensures found { IfOk result (IsTextOf bytes.now) }
+    ensures cause { IfErr result (Misses bytes.now) }
+{
+    let tokens = cut(alloc, bytes)?;
+    match parse(alloc, &tokens) {
+        Ok(spec) => Ok(spec),
+        Err(SyntaxError::At(at)) => Err(Stop::Refused(Refusal::Syntax(place(bytes, at)))),
+        Err(SyntaxError::Memory) => Err(Stop::Memory),
+    }
+}
+
 /// Reads a text as a specification.
-fn parsed(alloc: Global, bytes: &[u8]) -> Result<Spec, Stop>
+fn parsed(alloc: Global, bytes: &[u8]) -> Result<Small, Stop>
     ensures found { IfOk result (λ t. Reads bytes.now t) }
     ensures cause { IfErr result (Misses bytes.now) }
 {
     if bytes.len() > LIMIT {
         return Err(Stop::Refused(Refusal::TooLong));
     }
-    match read(alloc, bytes) {
-        Ok(spec) => Ok(spec),
-        Err(ReadError::NotSmall) => Err(Stop::Refused(Refusal::NotBuilt)),
-        Err(ReadError::Memory) => Err(Stop::Memory),
+    let spec = tree(alloc, bytes)?;
+    match small_of(alloc, &spec) {
+        Ok(small) => Ok(small),
+        Err(Missing::Form) => Err(Stop::Refused(Refusal::NotBuilt)),
+        Err(Missing::Memory) => Err(Stop::Memory),
     }
 }
 
 /// Reads the input as a specification.
-pub fn load<S: Source>(alloc: Global, source: &mut S) -> Result<Spec, Stop>
+pub fn load<S: Source>(alloc: Global, source: &mut S) -> Result<Small, Stop>
     ensures found { IfOk result (λ t. IfSome (S.left source.old) (λ input. Reads input t)) }
     ensures end { OnOk result (IsAtEnd (S.left source.new)) }
     ensures stops { TakesAtMost (input_limit + 1) (S.left source.old) (S.left source.new) }

@@ -4,6 +4,8 @@
 mod command;
 mod evaluate;
 mod input;
+mod laws;
+mod lines;
 pub mod model;
 mod outcome;
 mod program;
@@ -12,6 +14,7 @@ mod words;
 mod world;
 
 pub use command::{Command, Settings};
+pub use laws::one_refusal;
 pub use outcome::Status;
 pub use program::estelle_plain;
 pub use words::settings;

@@ -5,13 +5,27 @@ ghost use Rattle.estelle_cli.specs.declared.outcome.Stop.TheVariants.{Memory};
 ghost use Rattle.estelle_cli.specs.Statuses.{code_of};
 
 use crate::model::Fault;
+use estelle_tree::Text;
 use std::alloc::AllocError;
 
-/// Why an input is refused.
+/// A byte of the input: its line, and its number in that line, both counted from 1.
+#[derive(Clone, Copy, Debug, PartialEq, Eq)]
+pub struct Place {
+    pub line: u32,
+    pub column: u32,
+}
+
+/// Why an input is refused. The earlier reason comes first.
 #[derive(Clone, Copy, Debug, PartialEq, Eq)]
 pub enum Refusal {
     TooLong,
-    /// It is not the text of a small specification.
+    /// No token, blank or comment begins there.
+    Bytes(Place),
+    /// Something stands there behind `end.`.
+    TextAfterEnd(Place),
+    /// The grammar does not go on with what stands there.
+    Syntax(Place),
+    /// It has a form that is not run yet.
     NotBuilt,
 }
 
@@ -32,11 +46,12 @@ impl From<AllocError> for Stop {
 }
 
 /// How a call with meaningful words ended, with what its line says.
-#[derive(Clone, Copy, Debug, PartialEq, Eq)]
+#[derive(Debug, Drop)]
 pub enum Outcome {
     Done,
     PascalFault(Fault),
-    Refused(Refusal),
+    /// With the line for err.
+    Refused(Refusal, Text),
     ReadFault,
     WriteFault,
     Memory,

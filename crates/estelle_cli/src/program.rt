@@ -3,16 +3,17 @@
 ghost use Rattle.std.specs.Prelude.{◌≡◌, ◌≢◌, ◌≤◌, ◌+◌, ◌↔◌, List, ℕ, Some, IfSome, IsSome, IsNone, IfOk, OnOk, IfErr};
 ghost use Rattle.std.specs.Io.KnownBytes.{IsAtEnd};
 ghost use Rattle.outside.specs.Counts.{Rose};
-ghost use Rattle.estelle_parser.specs.declared.tree.Spec.{Spec};
+ghost use Rattle.built_forms.specs.declared.small.Small.{Small};
 ghost use Rattle.estelle_cli.specs.declared.model.End.{End};
 ghost use Rattle.estelle_cli.specs.declared.model.Fault.{Fault};
 ghost use Rattle.estelle_cli.specs.declared.outcome.Refusal.{Refusal};
 ghost use Rattle.estelle_cli.specs.World.{IsClockless};
 ghost use Rattle.estelle_cli.specs.Words.{meaning, texts, limits_meant};
 ghost use Rattle.estelle_cli.specs.Input.{Reads, Refuses, TakesAtMost, HasStopped, input_limit};
-ghost use Rattle.estelle_cli.specs.Answers.{IsTrace, WritesTrace, WritesPrefix, IsGood, IsQuiet, Reports, usage_line, refusal_line, read_fault_line, write_fault_line, memory_line, fault_line, IsFinished, HasNoTrace, MayRefuse, MayFinish, Emits, Explains};
+ghost use Rattle.estelle_cli.specs.Answers.{IsTrace, WritesTrace, WritesPrefix, IsGood, IsQuiet, Reports, usage_line, refusal_line, read_fault_line, write_fault_line, memory_line, fault_line, IsFinished, HasNoTrace, MayRefuse, MayFinish, Emits, IsRefusedOr, Explains};
 
 use crate::input::load;
+use crate::lines::refusal_line;
 use crate::model::{End, Fault};
 use crate::outcome::{Outcome, Refusal, Status, Stop};
 use crate::trace::{kind_text, write};
@@ -58,6 +59,15 @@ fn emit<K: Sink>(out: &mut K, text: &Text, end: End) -> Outcome
     }
 }
 
+fn refused(alloc: Global, refusal: Refusal) -> Outcome
+    ensures { IsRefusedOr refusal result }
+{
+    match refusal_line(alloc, refusal) {
+        Ok(line) => Outcome::Refused(refusal, line),
+        Err(_) => Outcome::Memory,
+    }
+}
+
 /// Reads, runs and writes. The line for err is left to the caller.
 fn perform<S: Source, K: Sink>(
     alloc: Global,
@@ -71,18 +81,9 @@ fn perform<S: Source, K: Sink>(
 {
     match traced(alloc, limits, source) {
         Ok((text, end)) => emit(out, &text, end),
-        Err(Stop::Refused(refusal)) => Outcome::Refused(refusal),
+        Err(Stop::Refused(refusal)) => refused(alloc, refusal),
         Err(Stop::ReadFault) => Outcome::ReadFault,
         Err(Stop::Memory) => Outcome::Memory,
-    }
-}
-
-fn refusal_line(refusal: Refusal) -> &'static [u8]
-    ensures { result.now ≡ refusal_line refusal }
-{
-    match refusal {
-        Refusal::TooLong => b"estelle: too long\n",
-        Refusal::NotBuilt => b"estelle: form not built\n",
     }
 }
 
@@ -123,7 +124,8 @@ pub fn estelle_plain<S: Source, K: Sink, E: Sink, C: Clock>(
         → Reports (E.held err.old) (E.held err.new) (E.faults err.old) (E.faults err.new) usage_line }
     ensures usage_reads_nothing { result.0 ≡ Status.Usage → source.new ≡ source.old }
 
-    // Status 1: the input is too long, or is no small specification; and such an input is refused.
+    // Status 1: the input is too long, or has a byte with which no token begins, or text behind `end.`, or no
+    // specification spells its tokens, or that has a form that is not run yet; and such an input is refused.
     ensures refused { result.0 ≡ Status.Refused → (refusal : Refusal) × IfSome (S.left source.old) (Refuses refusal)
         × Reports (E.held err.old) (E.held err.new) (E.faults err.old) (E.faults err.new) (refusal_line refusal) }
     ensures refuses { (refusal : Refusal) (input : List ℕ) → IsSome (meaning (texts words.now)) → S.left source.old ≡ Some input
@@ -149,7 +151,7 @@ pub fn estelle_plain<S: Source, K: Sink, E: Sink, C: Clock>(
     ensures quiet { HasNoTrace result.0 → IsQuiet (K.held out.old) (K.held out.new) (K.faults out.old) (K.faults out.new) }
 
     // Where neither the source nor out fails, a small specification is run to its end, unless memory runs out.
-    ensures complete { (input : List ℕ) (t : Spec) → IsSome (meaning (texts words.now)) → S.left source.old ≡ Some input
+    ensures complete { (input : List ℕ) (t : Small) → IsSome (meaning (texts words.now)) → S.left source.old ≡ Some input
         → Reads input t → (Rose (S.faults source.old) (S.faults source.new) → ⊥) → (Rose (K.faults out.old) (K.faults out.new) → ⊥)
         → MayFinish result.0 }
 
@@ -170,8 +172,8 @@ pub fn estelle_plain<S: Source, K: Sink, E: Sink, C: Clock>(
             report(err, fault_line(kind));
             (Status::PascalFault, clock)
         }
-        Outcome::Refused(refusal) => {
-            report(err, refusal_line(refusal));
+        Outcome::Refused(_, line) => {
+            report(err, line.items());
             (Status::Refused, clock)
         }
         Outcome::ReadFault => {

@@ -8,13 +8,13 @@ use crate::model::{End, Event, Fault, Out, Pair, Run, Value};
 use estelle_tree::{Path, Sequence, Text};
 use std::alloc::{AllocError, Global};
 
-fn put(out: &mut Vec<u8>, text: &[u8]) -> Result<(), AllocError>
+pub fn put(out: &mut Vec<u8>, text: &[u8]) -> Result<(), AllocError>
     ensures { OnOk result (out.new.items ≡ out.old.items ++ text.now) }
 {
     out.extend_from_slice(text)
 }
 
-fn put_number(alloc: Global, out: &mut Vec<u8>, number: u64) -> Result<(), AllocError>
+pub fn put_number(alloc: Global, out: &mut Vec<u8>, number: u64) -> Result<(), AllocError>
     ensures { OnOk result (out.new.items ≡ out.old.items ++ decimal number) }
 {
     let text = number.to_string(alloc)?;

@@ -5,7 +5,7 @@ ghost use Rattle.estelle_cli.specs.World.{taken, IsStopped};
 
 use crate::evaluate::{after_block, provided};
 use crate::model::{End, Event, Fault, Guard, Pair, Run, Value};
-use estelle_parser::Spec;
+use built_forms::Small;
 use estelle_tree::{Items, Path, Sequence};
 use std::alloc::{AllocError, Global};
 
@@ -19,7 +19,7 @@ pub struct Limits {
 /// A run that has begun, and the state that it has come to.
 #[derive(Drop)]
 struct World<'a> {
-    spec: &'a Spec,
+    spec: &'a Small,
     turns: u32,
     budget: u32,
     value: Value,
@@ -163,7 +163,7 @@ impl World<'_> {
 }
 
 /// Runs a specification to its end.
-pub fn execute(alloc: Global, spec: &Spec, limits: Limits) -> Result<(Run, End), AllocError>
+pub fn execute(alloc: Global, spec: &Small, limits: Limits) -> Result<(Run, End), AllocError>
     ensures { IfOk result (λ r. IsStopped spec.now limits.budget limits.turns r.0.events r.1) }
 {
     let mut events = Vec::new(alloc);

@@ -1,5 +1,3 @@
-pub mod Bytes
-pub mod Lexed
-pub mod Spelled
-pub mod Reading
-pub mod Gives
+pub mod Bodies
+pub mod Whole
+pub mod Answers

@@ -1,16 +1,17 @@
-//! The small language of the first path: its trees, and the reader that makes a tree of a text.
-//!
-//! It stands on `estelle_tree` for tokens and words. It promises that what it reads is the one tree
-//! whose text the input is, and that it refuses a text only if there is none. It goes when the whole
-//! grammar is read.
+//! The parser of bodies and of specifications (ISO/IEC 9074), as a recursive descent over one level of
+//! nesting at a time. It stands on the parsers of declarations and on the steps of `token_reader`.
 #![tactic(auto)]
 
+mod body;
 mod error;
-mod lexer;
-mod names;
-mod reader;
-mod tree;
+mod laws;
+mod specification;
+mod transition;
 
-pub use error::ReadError;
-pub use reader::read;
-pub use tree::{Atom, Block, Less, Spec, Sum, Transition};
+pub use body::parts;
+pub use error::SyntaxError;
+pub use laws::{one_tree, parts_are_read};
+pub use specification::parse;
+
+#[cfg(test)]
+mod tests;

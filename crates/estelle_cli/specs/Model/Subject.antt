@@ -1,9 +1,9 @@
 -- What is run: a specification, its flat transitions, and the budget of each firing.
 -- The definitions of runs reach the tree through the accessors of this file alone.
 use Rattle.std.specs.Prelude.{ℕ, zero, suc, ℤ, List, [], ◌∷◌, Option, Some, None}
-use Rattle.estelle_parser.specs.declared.tree.Less.{Less}
-use Rattle.estelle_parser.specs.declared.tree.Block.{Block}
-use Rattle.estelle_parser.specs.declared.tree.Spec.{Spec}
+use Rattle.built_forms.specs.declared.small.Less.{Less}
+use Rattle.built_forms.specs.declared.small.Block.{Block}
+use Rattle.built_forms.specs.declared.small.Small.{Small}
 use Rattle.estelle_cli.specs.declared.model.Value.{Value}
 use Rattle.estelle_cli.specs.declared.model.Value.TheVariants.{Unset}
 
@@ -31,18 +31,18 @@ pub record Initialization : Type 0 where
   pub block : Block
 
 pub record Subject : Type 0 where
-  pub specification : Spec
+  pub specification : Small
   -- for each body its transitions; body 0 is the specification's
   pub flat : List (List FlatTransition)
   pub budget : ℕ
 
 -- ---- a body's parts; in the small language there is one body, with one variable, one state and one transition
 
-abbrev pub only_transition : Spec → FlatTransition
+abbrev pub only_transition : Small → FlatTransition
 only_transition t = record { from = 0 ∷ []; to = Some 0; provided = t.transition.provided; priority = None; block = t.transition.block }
 
 -- the specification, with this budget
-abbrev pub subject : Spec → ℕ → Subject
+abbrev pub subject : Small → ℕ → Subject
 subject t budget = record { specification = t; flat = (only_transition t ∷ []) ∷ []; budget = budget }
 
 -- the attribute of the body's header, or of the specification

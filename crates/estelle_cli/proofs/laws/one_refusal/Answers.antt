@@ -1,0 +1,5 @@
+use Rattle.estelle_cli.proofs.Causes.{one_refusal}
+use Rattle.estelle_cli.proofs.laws.one_refusal.Goals as goal
+
+pub returns : goal.returns
+returns c = one_refusal

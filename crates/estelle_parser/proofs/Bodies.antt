@@ -1,0 +1,405 @@
+-- The laws of bodies and their parts.
+use Rattle.std.proofs.Common.{◌≡◌, ◌<◌, ℕ, zero, suc, Bool, true, false, List, [], ◌∷◌, Option, Some, None, Ok, sym, refl, ap, ◌∙◌, subst, arith}
+use Rattle.std.specs.Prelude.{◌==◌, if◌then◌else◌}
+use Rattle.std.proofs.lemmas.Bool.{ne_eqb}
+use Rattle.estelle_tree.specs.declared.kind.Kind.{Kind}
+use Rattle.estelle_tree.specs.declared.kind.Kind.TheVariants as k
+use Rattle.estelle_tree.specs.declared.tree.declaration.RoutineForm.{RoutineForm}
+use Rattle.estelle_tree.specs.declared.tree.declaration.RoutineForm.TheVariants as form
+use Rattle.estelle_tree.specs.declared.tree.specification.Body.{out-Body, roll-Body}
+use Rattle.estelle_tree.specs.declared.tree.specification.Decl.{Decl, out-Decl, roll-Decl}
+use Rattle.estelle_tree.specs.declared.tree.specification.Decl.TheVariants.{outs-Body, outs-Routine, rolls-Body, rolls-Routine}
+use Rattle.estelle_tree.specs.declared.tree.specification.Decl.TheOpen.{Decl-F}
+use Rattle.estelle_tree.specs.declared.tree.specification.Decl.TheViews.{roll-out-Decl, roll-out-Body, roll-out-Parts}
+use Rattle.estelle_tree.specs.declared.tree.specification.Init.{Init}
+use Rattle.estelle_tree.specs.declared.tree.specification.Parts.{Parts, out-Parts, roll-Parts}
+use Rattle.estelle_tree.specs.declared.tree.specification.Trans.{Trans}
+use Rattle.estelle_tree.specs.Input.{Input, kind, left, between, over}
+use Rattle.estelle_tree.specs.Spans.{DeclLayer}
+use Rattle.estelle_tree.specs.Spelling as spelling
+use Rattle.estelle_tree.specs.Spelling.{Spelling, Takes, Chain}
+use Rattle.estelle_tree.specs.Types.{IsName}
+use Rattle.estelle_tree.specs.Declarations.{of_form}
+use Rattle.estelle_tree.specs.Specification.{IsInit, IsTrans, BodyOf, DeclLayerOf, DeclOf, PartsOf, PartsBelow, IsParts}
+use Rattle.token_reader.specs.Reader.{Parser, pure, refuse, expect, name}
+use Rattle.token_reader.specs.Lists.{optional, repeated}
+use Rattle.token_reader.proofs.Sound.{Sound, through, answered, expect_sound, name_sound, optional_sound, repeated_sound}
+use Rattle.token_reader.proofs.Complete.{Anything, Complete, Shrinks, Advances, takes_shrinks, takes_advances, name_advances, chain_shrinks, expect_complete, name_complete, optional_complete, repeated_complete}
+use Rattle.type_parser.proofs.Begin.{Begins, shrinking, name_shrinks, joined_advances}
+use Rattle.declaration_parser.specs.Forms.{joined}
+use Rattle.declaration_parser.specs.Channels.{begins_group}
+use Rattle.declaration_parser.specs.Declarations.{begins_plain_decl, plain_decl}
+use Rattle.declaration_parser.specs.Laws.{EndsDecl, IsPlainLayer}
+use Rattle.declaration_parser.proofs.Forms.{joined_sound, joined_complete, optional_shrinks}
+use Rattle.declaration_parser.proofs.Declarations.{plain_decl_sound, plain_layer_complete, plain_layer_begins, plain_layer_advances}
+use Rattle.type_parser.specs.Types.{begins_name}
+use Rattle.declaration_parser.specs.Attributes.{begins_head}
+use Rattle.statement_parser.specs.Routine.{routine}
+use Rattle.statement_parser.proofs.Routines.{routine_sound, routine_complete, routine_advances}
+use Rattle.estelle_parser.specs.Bodies.{EndsParts, begins_decl, begins_init, begins_trans, opens, body_over, body_part, init, trans, routine_part, decl_by, decl_over, parts_over, parts_below, parts}
+use Rattle.estelle_parser.proofs.Inside.{ends_trans, EndsTrans, init_sound, init_complete, init_advances, init_begins, trans_sound, trans_complete, trans_advances, trans_begins}
+
+-- ---- a form that opens a level
+
+some_room : (room : ℕ) → (room == 0) ≡ false → 0 < room
+some_room zero e = absurd (cc)
+some_room (suc room) e = omega arith
+
+opens_sound : (room : ℕ) (word : Kind) (i j : Input) (u : Unit {0}) → opens room word i ≡ Ok (u, j) → (0 < room) × Takes word i j
+unfolding opens
+opens_sound room word i j u h = go (room == 0) refl h
+  where
+    go : (b : Bool) → (room == 0) ≡ b → (if b then refuse else expect word) i ≡ Ok (u, j) → (0 < room) × Takes word i j
+    go true e h = absurd (cc)
+    go false e h = (some_room room e, expect_sound word i j u h)
+
+opens_complete : (room : ℕ) (word : Kind) (i j : Input) → 0 < room → Takes word i j → opens room word i ≡ Ok (tt, j)
+unfolding opens
+opens_complete room word i j fits t = rw (ne_eqb room 0 (λ e. omega arith), expect_complete word i j t)
+
+-- ---- which kinds stand where
+
+-- what can stand behind the declarations
+abbrev ends_decls : Kind → Bool
+ends_decls k.Initialize = true
+ends_decls k.Trans = true
+ends_decls k.End = true
+ends_decls _ = false
+
+decl_ends : (kind' : Kind) → begins_decl kind' ≡ true → (begins_name kind' ≡ false) × (begins_group kind' ≡ false)
+decl_ends k.Const e = (refl, refl)
+decl_ends k.Type e = (refl, refl)
+decl_ends k.Channel e = (refl, refl)
+decl_ends k.Module e = (refl, refl)
+decl_ends k.Body e = (refl, refl)
+decl_ends k.Ip e = (refl, refl)
+decl_ends k.Modvar e = (refl, refl)
+decl_ends k.Var e = (refl, refl)
+decl_ends k.State e = (refl, refl)
+decl_ends k.Stateset e = (refl, refl)
+decl_ends k.Procedure e = (refl, refl)
+decl_ends k.Function e = (refl, refl)
+decl_ends _ e = absurd (cc)
+
+decls_end : (kind' : Kind) → ends_decls kind' ≡ true → (begins_name kind' ≡ false) × (begins_group kind' ≡ false)
+decls_end k.Initialize e = (refl, refl)
+decls_end k.Trans e = (refl, refl)
+decls_end k.End e = (refl, refl)
+decls_end _ e = absurd (cc)
+
+no_decl : (kind' : Kind) → ends_decls kind' ≡ true → begins_decl kind' ≡ false
+no_decl k.Initialize e = refl
+no_decl k.Trans e = refl
+no_decl k.End e = refl
+no_decl _ e = absurd (cc)
+
+trans_ends_decls : (kind' : Kind) → ends_trans kind' ≡ true → ends_decls kind' ≡ true
+trans_ends_decls k.Trans e = refl
+trans_ends_decls k.End e = refl
+trans_ends_decls _ e = absurd (cc)
+
+no_init : (kind' : Kind) → ends_trans kind' ≡ true → begins_init kind' ≡ false
+no_init k.Trans e = refl
+no_init k.End e = refl
+no_init _ e = absurd (cc)
+
+plain_begins : (kind' : Kind) → begins_plain_decl kind' ≡ true → begins_decl kind' ≡ true
+plain_begins k.Const e = refl
+plain_begins k.Type e = refl
+plain_begins k.Channel e = refl
+plain_begins k.Module e = refl
+plain_begins k.Ip e = refl
+plain_begins k.Modvar e = refl
+plain_begins k.Var e = refl
+plain_begins k.State e = refl
+plain_begins k.Stateset e = refl
+plain_begins _ e = absurd (cc)
+
+-- ---- over the parts of a body in it
+module _ (room : ℕ) (p : Parser Parts) (P : Spelling Parts) (sound : Sound p P) (complete : Complete p P EndsParts) (shrinks : Shrinks P) where
+  body_over_sound : Sound (body_over room p) (BodyOf room P)
+  unfolding body_over between
+  body_over_sound i j b h =
+      through (opens room k.Body i) _ _ h (λ u a word h.
+      through (joined k.For name name a) _ _ h (λ names c are h.
+      through (expect k.Semicolon c) _ _ h (λ v d semicolon h.
+      through (p d) _ _ h (λ ps e inside h.
+      through (expect k.End e) _ _ h (λ w f ends h.
+      through (expect k.Semicolon f) _ _ h (λ x g last h.
+      let opened = opens_sound room k.Body i a u word in
+      answered (BodyOf room P) i j g (roll-Body (record { name = names.0; header = names.1; parts = ps; span = between i g })) b (record {
+        after_word = a;
+        after_names = c;
+        after_head = d;
+        after_parts = e;
+        after_end = f;
+        fits = opened.0;
+        word = opened.1;
+        names = (joined_sound name IsName name_sound name IsName name_sound k.For a c names are);
+        semicolon = expect_sound k.Semicolon c d v semicolon;
+        parts = sound d e ps inside;
+        ends = expect_sound k.End e f w ends;
+        last = expect_sound k.Semicolon f g x last;
+        span = refl;
+      }) h))))))
+
+  body_over_complete : Complete (body_over room p) (BodyOf room P) Anything
+  unfolding body_over between
+  body_over_complete i j b h end =
+      rw (
+        opens_complete room k.Body i h.after_word h.fits h.word,
+        joined_complete name IsName Anything name_complete name IsName Anything name_complete k.For (λ j e. tt) h.after_word h.after_names (out-Body b).name (out-Body b).header h.names tt,
+        expect_complete k.Semicolon h.after_names h.after_head h.semicolon,
+        complete h.after_head h.after_parts (out-Body b).parts h.parts h.ends.kind,
+        expect_complete k.End h.after_parts h.after_end h.ends,
+        expect_complete k.Semicolon h.after_end j h.last,
+        ← h.span,
+        roll-out-Body b,
+      )
+
+  body_over_advances : Advances (BodyOf room P)
+  body_over_advances i j b h =
+      let one = takes_advances k.Body (λ e. cc) i h.after_word h.word in
+      let two = joined_advances k.For IsName IsName name_advances name_shrinks h.after_word h.after_names (out-Body b).name (out-Body b).header h.names in
+      let three = takes_shrinks k.Semicolon h.after_names h.after_head h.semicolon in
+      let four = shrinks h.after_head h.after_parts (out-Body b).parts h.parts in
+      let five = takes_shrinks k.End h.after_parts h.after_end h.ends in
+      let six = takes_shrinks k.Semicolon h.after_end j h.last in
+      omega arith
+
+  plain_layer : (l : DeclLayer) (i j : Input) → IsPlainLayer room l i j → DeclLayerOf room P l i j
+  plain_layer (Decl-F.Const defs span) i j h = h
+  plain_layer (Decl-F.Types defs span) i j h = h
+  plain_layer (Decl-F.Channel c) i j h = h
+  plain_layer (Decl-F.Header x) i j h = h
+  plain_layer (Decl-F.Body b) i j h = absurd h
+  plain_layer (Decl-F.Ip ips span) i j h = h
+  plain_layer (Decl-F.Modvar ms span) i j h = h
+  plain_layer (Decl-F.Var vars span) i j h = h
+  plain_layer (Decl-F.State states span) i j h = h
+  plain_layer (Decl-F.Stateset sets span) i j h = h
+  plain_layer (Decl-F.Routine r) i j h = absurd h
+
+  layered : {x : Decl} {l : DeclLayer} (i j a : Input) (d : Decl) → out-Decl x ≡ l → DeclLayerOf room P l i a → pure x a ≡ Ok (d, j) → DeclOf room P d i j
+  layered {x} i j a d opened held h = answered (DeclOf room P) i j a x d (subst (λ l. DeclLayerOf room P l i a) (sym opened) held) h
+
+  body_part_sound : Sound (body_part room p) (DeclOf room P)
+  unfolding body_part
+  body_part_sound i j d h = through (body_over room p i) _ _ h (λ b a is h. layered i j a d (outs-Body b) (body_over_sound i a b is) h)
+
+  -- ---- declarations
+
+  routine_part_sound : Sound (routine_part room) (DeclOf room P)
+  unfolding routine_part
+  routine_part_sound i j d h = through (routine room i) _ _ h (λ r a is h. layered i j a d (outs-Routine r) (routine_sound room i a r is) h)
+
+  decl_by_sound : (kind' : Kind) → Sound (decl_by room p kind') (DeclOf room P)
+  decl_by_sound k.Body i j d h = body_part_sound i j d h
+  decl_by_sound k.Procedure i j d h = routine_part_sound i j d h
+  decl_by_sound k.Function i j d h = routine_part_sound i j d h
+  decl_by_sound _ i j d h = plain_layer (out-Decl d) i j (plain_decl_sound room i j d h)
+
+  decl_over_sound : Sound (decl_over room p) (DeclOf room P)
+  unfolding decl_over
+  decl_over_sound i j d h = decl_by_sound (kind i) i j d h
+
+  by_routine : (f : RoutineForm) → decl_by room p (of_form room f) ≡ routine_part room
+  by_routine form.Procedure = refl
+  by_routine (form.Function n) = refl
+
+  by_plain : (kind' : Kind) → begins_plain_decl kind' ≡ true → decl_by room p kind' ≡ plain_decl room
+  by_plain k.Const e = refl
+  by_plain k.Type e = refl
+  by_plain k.Channel e = refl
+  by_plain k.Module e = refl
+  by_plain k.Ip e = refl
+  by_plain k.Modvar e = refl
+  by_plain k.Var e = refl
+  by_plain k.State e = refl
+  by_plain k.Stateset e = refl
+  by_plain _ e = absurd (cc)
+
+  plain_complete : (l : DeclLayer) (i j : Input) → IsPlainLayer room l i j → EndsDecl j → decl_over room p i ≡ Ok (roll-Decl l, j)
+  unfolding decl_over
+  plain_complete l i j h end = rw (by_plain (kind i) (plain_layer_begins room i j l h), plain_layer_complete room l i j h end)
+
+  layer_complete : (l : DeclLayer) (i j : Input) → DeclLayerOf room P l i j → EndsDecl j → decl_over room p i ≡ Ok (roll-Decl l, j)
+  unfolding decl_over body_part routine_part
+  layer_complete (Decl-F.Const defs span) i j h end = plain_complete (Decl-F.Const defs span) i j h end
+  layer_complete (Decl-F.Types defs span) i j h end = plain_complete (Decl-F.Types defs span) i j h end
+  layer_complete (Decl-F.Channel c) i j h end = plain_complete (Decl-F.Channel c) i j h end
+  layer_complete (Decl-F.Header x) i j h end = plain_complete (Decl-F.Header x) i j h end
+  layer_complete (Decl-F.Body b) i j h end = rw (h.word.kind, body_over_complete i j b h tt, rolls-Body b)
+  layer_complete (Decl-F.Ip ips span) i j h end = plain_complete (Decl-F.Ip ips span) i j h end
+  layer_complete (Decl-F.Modvar ms span) i j h end = plain_complete (Decl-F.Modvar ms span) i j h end
+  layer_complete (Decl-F.Var vars span) i j h end = plain_complete (Decl-F.Var vars span) i j h end
+  layer_complete (Decl-F.State states span) i j h end = plain_complete (Decl-F.State states span) i j h end
+  layer_complete (Decl-F.Stateset sets span) i j h end = plain_complete (Decl-F.Stateset sets span) i j h end
+  layer_complete (Decl-F.Routine r) i j h end = rw (h.name.mark.kind, by_routine r.form, routine_complete room i j r h tt, rolls-Routine r)
+
+  decl_over_complete : Complete (decl_over room p) (DeclOf room P) EndsDecl
+  decl_over_complete i j d h end = rw (layer_complete (out-Decl d) i j h end, roll-out-Decl d)
+
+  form_begins : (f : RoutineForm) → begins_decl (of_form room f) ≡ true
+  form_begins form.Procedure = refl
+  form_begins (form.Function n) = refl
+
+  layer_begins : (i j : Input) (l : DeclLayer) → DeclLayerOf room P l i j → begins_decl (kind i) ≡ true
+  layer_begins i j (Decl-F.Const defs span) h = plain_begins (kind i) (plain_layer_begins room i j (Decl-F.Const defs span) h)
+  layer_begins i j (Decl-F.Types defs span) h = plain_begins (kind i) (plain_layer_begins room i j (Decl-F.Types defs span) h)
+  layer_begins i j (Decl-F.Channel c) h = plain_begins (kind i) (plain_layer_begins room i j (Decl-F.Channel c) h)
+  layer_begins i j (Decl-F.Header x) h = plain_begins (kind i) (plain_layer_begins room i j (Decl-F.Header x) h)
+  layer_begins i j (Decl-F.Body b) h = ap begins_decl h.word.kind
+  layer_begins i j (Decl-F.Ip ips span) h = plain_begins (kind i) (plain_layer_begins room i j (Decl-F.Ip ips span) h)
+  layer_begins i j (Decl-F.Modvar ms span) h = plain_begins (kind i) (plain_layer_begins room i j (Decl-F.Modvar ms span) h)
+  layer_begins i j (Decl-F.Var vars span) h = plain_begins (kind i) (plain_layer_begins room i j (Decl-F.Var vars span) h)
+  layer_begins i j (Decl-F.State states span) h = plain_begins (kind i) (plain_layer_begins room i j (Decl-F.State states span) h)
+  layer_begins i j (Decl-F.Stateset sets span) h = plain_begins (kind i) (plain_layer_begins room i j (Decl-F.Stateset sets span) h)
+  layer_begins i j (Decl-F.Routine r) h = ap begins_decl h.name.mark.kind ∙ form_begins r.form
+
+  decl_over_begins : Begins begins_decl (DeclOf room P)
+  decl_over_begins i j d h = layer_begins i j (out-Decl d) h
+
+  layer_advances : (i j : Input) (l : DeclLayer) → DeclLayerOf room P l i j → left j < left i
+  layer_advances i j (Decl-F.Const defs span) h = plain_layer_advances room i j (Decl-F.Const defs span) h
+  layer_advances i j (Decl-F.Types defs span) h = plain_layer_advances room i j (Decl-F.Types defs span) h
+  layer_advances i j (Decl-F.Channel c) h = plain_layer_advances room i j (Decl-F.Channel c) h
+  layer_advances i j (Decl-F.Header x) h = plain_layer_advances room i j (Decl-F.Header x) h
+  layer_advances i j (Decl-F.Body b) h = body_over_advances i j b h
+  layer_advances i j (Decl-F.Ip ips span) h = plain_layer_advances room i j (Decl-F.Ip ips span) h
+  layer_advances i j (Decl-F.Modvar ms span) h = plain_layer_advances room i j (Decl-F.Modvar ms span) h
+  layer_advances i j (Decl-F.Var vars span) h = plain_layer_advances room i j (Decl-F.Var vars span) h
+  layer_advances i j (Decl-F.State states span) h = plain_layer_advances room i j (Decl-F.State states span) h
+  layer_advances i j (Decl-F.Stateset sets span) h = plain_layer_advances room i j (Decl-F.Stateset sets span) h
+  layer_advances i j (Decl-F.Routine r) h = routine_advances room i j r h
+
+  decl_over_advances : Advances (DeclOf room P)
+  decl_over_advances i j d h = layer_advances i j (out-Decl d) h
+
+  -- ---- parts
+
+  parts_over_sound : Sound (parts_over room p) (PartsOf room P)
+  unfolding parts_over over between
+  parts_over_sound i j ps h =
+      through (repeated (optional begins_decl (decl_over room p)) [] i) _ _ h (λ ds a are h.
+      through (optional begins_init (init room) a) _ _ h (λ x b may h.
+      through (repeated (optional begins_trans (trans room)) [] b) _ _ h (λ ts c found h.
+      answered (PartsOf room P) i j c (roll-Parts (record { decls = ds; init = x; trans = ts; span = over i c })) ps (record {
+        after_decls = a;
+        after_init = b;
+        decls = (repeated_sound (optional begins_decl (decl_over room p)) (DeclOf room P) (optional_sound (decl_over room p) (DeclOf room P) decl_over_sound begins_decl) i a ds are);
+        init = (optional_sound (init room) (IsInit room) (init_sound room) begins_init a b x may);
+        trans = (repeated_sound (optional begins_trans (trans room)) (IsTrans room) (optional_sound (trans room) (IsTrans room) (trans_sound room) begins_trans) b c ts found);
+        span = refl;
+      }) h)))
+
+  decls_complete : Complete (repeated (optional begins_decl (decl_over room p)) []) (Chain (DeclOf room P)) (λ j. ends_decls (kind j) ≡ true)
+  unfolding optional
+  decls_complete =
+      repeated_complete (optional begins_decl (decl_over room p)) (DeclOf room P) decl_over_advances EndsDecl
+      (λ i j d h end. rw (decl_over_begins i j d h, decl_over_complete i j d h end))
+      (λ i j d h. decl_ends (kind i) (decl_over_begins i j d h))
+      (λ j. ends_decls (kind j) ≡ true)
+      (λ j e. rw (no_decl (kind j) e))
+      (λ j e. decls_end (kind j) e)
+
+  transitions_complete : Complete (repeated (optional begins_trans (trans room)) []) (Chain (IsTrans room)) EndsParts
+  unfolding optional
+  transitions_complete =
+      repeated_complete (optional begins_trans (trans room)) (IsTrans room) (trans_advances room) EndsTrans
+      (λ i j t h end. rw (trans_begins room i j t h, trans_complete room i j t h end))
+      (λ i j t h. ap ends_trans h.body.mark.kind)
+      EndsParts
+      (λ j e. rw (ap begins_trans e))
+      (λ j e. ap ends_trans e)
+
+  -- what stands behind the initialization, and behind the declarations
+  after_init_ends : (ts : List Trans) (i j : Input) → Chain (IsTrans room) ts i j → EndsParts j → ends_trans (kind i) ≡ true
+  after_init_ends [] i j h end = ap (λ i. ends_trans (kind i)) h ∙ ap ends_trans end
+  after_init_ends (t ∷ ts) i j h end = ap ends_trans h.1.body.mark.kind
+
+  after_decls_end : (x : Option Init) (i j : Input) → spelling.Optional (IsInit room) x i j → ends_trans (kind j) ≡ true → ends_decls (kind i) ≡ true
+  after_decls_end None i j h e = trans_ends_decls (kind i) (ap (λ i. ends_trans (kind i)) h ∙ e)
+  after_decls_end (Some x) i j h e = ap ends_decls h.word.kind
+
+  parts_over_complete : Complete (parts_over room p) (PartsOf room P) EndsParts
+  unfolding parts_over over between
+  parts_over_complete i j ps h end =
+      let behind_init = after_init_ends (out-Parts ps).trans h.after_init j h.trans end in
+      rw (
+        decls_complete i h.after_decls (out-Parts ps).decls h.decls (after_decls_end (out-Parts ps).init h.after_decls h.after_init h.init behind_init),
+        optional_complete (init room) (IsInit room) Anything (init_complete room) begins_init (init_begins room) h.after_decls h.after_init (out-Parts ps).init h.init (tt, no_init (kind h.after_init) behind_init),
+        transitions_complete h.after_init j (out-Parts ps).trans h.trans end,
+        ← h.span,
+        roll-out-Parts ps,
+      )
+
+  parts_over_shrinks : Shrinks (PartsOf room P)
+  parts_over_shrinks i j ps h =
+      let one = chain_shrinks (DeclOf room P) (shrinking (DeclOf room P) decl_over_advances) i h.after_decls (out-Parts ps).decls h.decls in
+      let two = optional_shrinks (IsInit room) (shrinking (IsInit room) (init_advances room)) h.after_decls h.after_init (out-Parts ps).init h.init in
+      let three = chain_shrinks (IsTrans room) (shrinking (IsTrans room) (trans_advances room)) h.after_init j (out-Parts ps).trans h.trans in
+      omega arith
+
+  -- no head begins where parts begin
+  decl_no_head : (kind' : Kind) → begins_decl kind' ≡ true → begins_head kind' ≡ false
+  decl_no_head k.Const e = refl
+  decl_no_head k.Type e = refl
+  decl_no_head k.Channel e = refl
+  decl_no_head k.Module e = refl
+  decl_no_head k.Body e = refl
+  decl_no_head k.Ip e = refl
+  decl_no_head k.Modvar e = refl
+  decl_no_head k.Var e = refl
+  decl_no_head k.State e = refl
+  decl_no_head k.Stateset e = refl
+  decl_no_head k.Procedure e = refl
+  decl_no_head k.Function e = refl
+  decl_no_head _ e = absurd (cc)
+
+  end_no_head : (kind' : Kind) → ends_decls kind' ≡ true → begins_head kind' ≡ false
+  end_no_head k.Initialize e = refl
+  end_no_head k.Trans e = refl
+  end_no_head k.End e = refl
+  end_no_head _ e = absurd (cc)
+
+  first_no_head : (ds : List Decl) (i j : Input) → Chain (DeclOf room P) ds i j → ends_decls (kind j) ≡ true → begins_head (kind i) ≡ false
+  first_no_head [] i j h e = end_no_head (kind i) (ap (λ i. ends_decls (kind i)) h ∙ e)
+  first_no_head (d ∷ ds) i j h e = decl_no_head (kind i) (decl_over_begins i h.0 d h.1)
+
+  pub parts_no_head : (ps : Parts) (i j : Input) → PartsOf room P ps i j → EndsParts j → begins_head (kind i) ≡ false
+  parts_no_head ps i j h end =
+      first_no_head (out-Parts ps).decls i h.after_decls h.decls
+      (after_decls_end (out-Parts ps).init h.after_decls h.after_init h.init (after_init_ends (out-Parts ps).trans h.after_init j h.trans end))
+
+-- ---- over all levels
+none_sound : Sound (parts_below zero) (PartsBelow zero)
+unfolding parts_below
+none_sound i j ps h = absurd (cc)
+
+abbrev Level : ℕ → Type 0
+Level room = Sound (parts_below room) (PartsBelow room) × (Complete (parts_below room) (PartsBelow room) EndsParts × Shrinks (PartsBelow room))
+
+level : (room : ℕ) → Level room
+unfolding parts_below
+level zero = (none_sound, (λ i j ps h end. absurd h, λ i j ps h. absurd h))
+level (suc room) =
+    let l = level room in (
+      parts_over_sound room (parts_below room) (PartsBelow room) l.0 l.1.0 l.1.1,
+      (
+        parts_over_complete room (parts_below room) (PartsBelow room) l.0 l.1.0 l.1.1,
+        parts_over_shrinks room (parts_below room) (PartsBelow room) l.0 l.1.0 l.1.1,
+      ),
+    )
+
+pub parts_sound : (room : ℕ) → Sound (parts room) (IsParts room)
+parts_sound room = (level (suc room)).0
+
+pub parts_complete : (room : ℕ) → Complete (parts room) (IsParts room) EndsParts
+parts_complete room = (level (suc room)).1.0
+
+pub parts_shrinks : (room : ℕ) → Shrinks (IsParts room)
+parts_shrinks room = (level (suc room)).1.1
+
+pub no_head : (room : ℕ) (ps : Parts) (i j : Input) → IsParts room ps i j → EndsParts j → begins_head (kind i) ≡ false
+no_head room = let l = level room in parts_no_head room (parts_below room) (PartsBelow room) l.0 l.1.0 l.1.1
