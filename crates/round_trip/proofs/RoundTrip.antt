@@ -7,11 +7,12 @@ use Rattle.estelle_printer.specs.Laws.{IsReadAs}
 use Rattle.estelle_printer.proofs.LexingLaws.{is_lexed}
 use Rattle.estelle_printer.proofs.SpecificationLaws.{one_list}
 use Rattle.estelle_lexer.proofs.Answers as lexing
+use Rattle.estelle_parser.proofs.Whole.{one_tree}
 use Rattle.estelle_tree.specs.Spells.{Spells}
-use Rattle.respelling.specs.Same.{unplaced}
+use Rattle.respelling.specs.Same.{unplaced, Same}
 use Rattle.respelling.specs.Specification.{bare_spec}
 use Rattle.respelling.proofs.Respelled.{respelled, bare_unplaced, bare_is_spelled}
-use Rattle.round_trip.specs.ReadBack.{IsPrinted, PrintedIsLexed, PrintedIsReadBack, SameTreesSpellTheSame}
+use Rattle.round_trip.specs.ReadBack.{IsPrinted, PrintedIsLexed, PrintedIsReadBack, OnlyTheTreeIsReadBack, SameTreesSpellTheSame}
 
 read_as : (spec : Spec) (text : List ℕ) (p : IsPrinted spec text) → IsReadAs text p.tokens
 read_as spec text p = subst (λ t. IsReadAs t p.tokens) (sym (p.canonical p.tokens p.spells)) (is_lexed spec p.tokens p.spells)
@@ -32,6 +33,11 @@ printed_is_read_back spec text tokens rest p cut =
       blank = subst (λ n. IsBlankFrom text n) (sym one.1) r.blank;
       canonical = λ others spells. p.canonical p.tokens p.spells ∙ ap canonical (sym same ∙ one_list moved.moved tokens others moved.spells spells);
     }
+
+pub only_is_read_back : OnlyTheTreeIsReadBack
+only_is_read_back spec text tokens rest p cut read spells =
+    let back = printed_is_read_back spec text tokens rest p cut in
+    subst (λ t. Same t spec) (one_tree back.read read tokens back.spells spells) back.same
 
 pub same_spell_the_same : SameTreesSpellTheSame
 same_spell_the_same s t ts us same a b =

@@ -30,6 +30,10 @@ PrintedIsLexed = (spec : Spec) (text : List ℕ) → IsPrinted spec text → (to
 abbrev pub PrintedIsReadBack : Type 0
 PrintedIsReadBack = (spec : Spec) (text : List ℕ) (tokens : List Placed) (rest : ℕ) → IsPrinted spec text → IsLexed text tokens rest → IsReadBack spec text tokens rest
 
+-- and whatever tree is read from them is the same tree, spans aside
+abbrev pub OnlyTheTreeIsReadBack : Type 0
+OnlyTheTreeIsReadBack = (spec : Spec) (text : List ℕ) (tokens : List Placed) (rest : ℕ) → IsPrinted spec text → IsLexed text tokens rest → (read : Spec) → Spells read tokens → Same read spec
+
 -- trees that are the same, spans aside, spell the same tokens, places aside
 abbrev pub SameTreesSpellTheSame : Type 0
 SameTreesSpellTheSame = (s t : Spec) (ts us : List Placed) → Same s t → Spells s ts → Spells t us → bare ts ≡ bare us
