@@ -133,59 +133,6 @@ fn ends_and_refusals(rt: HostRuntime) -> Result<(), Fail> {
     Ok(())
 }
 
-fn called(statement: &Stmt) -> &[u8] {
-    match statement {
-        Stmt::Call { name, .. } => name.word.items(),
-        _ => b"",
-    }
-}
-
-fn then_part(statement: &Stmt) -> Option<&Stmt> {
-    match statement {
-        Stmt::If { then_part, .. } => Some(then_part.get()),
-        _ => None,
-    }
-}
-
-fn else_part(statement: &Stmt) -> Option<&Stmt> {
-    match statement {
-        Stmt::If {
-            else_part: Some(other),
-            ..
-        } => Some(other.get()),
-        _ => None,
-    }
-}
-
-fn called_in(branch: Option<&Stmt>) -> &[u8] {
-    match branch {
-        Some(statement) => called(statement),
-        None => b"",
-    }
-}
-
-/// What the branches of the inner `if` call.
-fn inner_branches(outer: &Stmt) -> (&[u8], &[u8]) {
-    match then_part(outer) {
-        Some(inner) => (called_in(then_part(inner)), called_in(else_part(inner))),
-        None => (b"", b""),
-    }
-}
-
-/// An `else` belongs to the nearest `if` that has none.
-#[test]
-fn nearest_if(rt: HostRuntime) -> Result<(), Fail> {
-    let alloc = rt.alloc();
-    let tokens = tokens_of(alloc, b"if a then if b then x else y")?;
-    let mut place = Cursor::new(&tokens, 0);
-    let outer = stmt(alloc, &mut place, 2)?;
-    assert_eq!(rt; else_part(&outer).is_none(), true);
-    let (first, second) = inner_branches(&outer);
-    assert_eq!(rt; first, b"x".as_slice());
-    assert_eq!(rt; second, b"y".as_slice());
-    Ok(())
-}
-
 /// Which way a `for` counts, and whether a semicolon stands after the last case.
 #[test]
 fn choices(rt: HostRuntime) -> Result<(), Fail> {
@@ -223,51 +170,6 @@ fn choices(rt: HostRuntime) -> Result<(), Fail> {
         _ => return Err(Fail::new("other statements")),
     }
     Ok(())
-}
-
-/// Where a `begin` ends, where the sequence in it does, and how many statements that has.
-fn begun(statement: &Stmt) -> (u32, u32, usize) {
-    match statement {
-        Stmt::Begin { stmts, span } => (span.end, stmts.span.end, stmts.stmts.items().len()),
-        _ => (0, 0, 0),
-    }
-}
-
-/// A sequence of the empty statement alone has the span 0..0.
-#[test]
-fn empty_sequence(rt: HostRuntime) -> Result<(), Fail> {
-    let alloc = rt.alloc();
-    let tokens = tokens_of(alloc, b"x begin end")?;
-    let mut place = Cursor::new(&tokens, 0);
-    place.take();
-    let read = (StmtAt { room: 1 }).read(alloc, &mut place)?;
-    let (end, inside, count) = begun(&read);
-    assert_eq!(rt; end, 3);
-    assert_eq!(rt; inside, 0);
-    assert_eq!(rt; count, 1);
-    Ok(())
-}
-
-/// Empty statements between semicolons are statements.
-#[test]
-fn empty_statements(rt: HostRuntime) -> Result<(), Fail> {
-    let alloc = rt.alloc();
-    let tokens = tokens_of(alloc, b"; ;")?;
-    let mut place = Cursor::new(&tokens, 0);
-    let read = stmts(alloc, &mut place, 0)?;
-    assert_eq!(rt; read.span.end, 2);
-    assert_eq!(rt; read.stmts.items().len(), 3);
-    Ok(())
-}
-
-/// The laws do nothing.
-#[test]
-fn laws(_rt: HostRuntime) {
-    stmt_laws();
-    stmts_laws();
-    statement_part_laws();
-    block_decls_laws();
-    routine_laws();
 }
 
 /// Routines with and without the parts that may be missing.
