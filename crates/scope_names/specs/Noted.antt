@@ -1,0 +1,82 @@
+-- What each event breaks, and the breach that is reported of all.
+use Rattle.std.specs.Prelude.{ℕ, Bool, true, false, nat_eq, ◌&&◌, ◌||◌, not, List, [], ◌∷◌, Option, Some, None}
+use Rattle.std.specs.Option.{is_some}
+use Rattle.estelle_tree.specs.declared.span.Span.{Span}
+use Rattle.estelle_tree.specs.declared.tree.name.Name.{Name}
+use Rattle.scope_rules.specs.declared.declaration.Denotes.{Denotes}
+use Rattle.scope_rules.specs.declared.declaration.Need.TheVariants as need
+use Rattle.scope_rules.specs.declared.declaration.Declared.{Declared}
+use Rattle.scope_rules.specs.declared.event.Event.{Event}
+use Rattle.scope_rules.specs.declared.event.Event.TheVariants.{Receive, Declare, Use, By, Init, States}
+use Rattle.scope_rules.specs.declared.refusal.Breach.{Breach}
+use Rattle.scope_rules.specs.Least.{noted}
+use Rattle.scope_rules.specs.Kinds.{may_be}
+use Rattle.scope_rules.specs.TypeEvents.{Events}
+use Rattle.scope_rules.specs.Scopes.{Scopes, in_scope, in_names, kept_at, meaning, received, inside_of, declare_one, after_one, Sought, sought}
+use Rattle.scope_rules.specs.NameRules.{later}
+use Rattle.scope_table.specs.Common.{shares_scope}
+
+abbrev pub breach : ℕ → Span → Breach
+breach number span = record { number = number; span = span }
+
+-- 1
+abbrev pub twice : Option Declared → Span → Option Breach
+twice None at = None
+twice (Some d) at = Some (breach 1 (later d.at at))
+
+abbrev pub twices : Option Breach → Scopes → List Name → Denotes → ℕ → Option Breach
+twices first s [] k inside = first
+twices first s (x ∷ xs) k inside = twices (noted first (twice (in_scope s x.word) x.span)) (declare_one s x k inside) xs k inside
+
+abbrev pub only_if : Bool → Breach → Option Breach
+only_if true b = Some b
+only_if false b = None
+
+abbrev pub is_second : Scopes → ℕ → Name → Bool
+is_second s parameters x = is_some (in_names x.word (kept_at s.kept parameters)) && is_some (in_scope s x.word)
+
+abbrev pub listed_twice : Option Breach → Scopes → ℕ → List Name → Option Breach
+listed_twice first s parameters [] = first
+listed_twice first s parameters (x ∷ xs) = listed_twice (noted first (only_if (is_second s parameters x) (breach 1 x.span))) s parameters xs
+
+abbrev pub parameter_twice : Scopes → ℕ → Name → Option (List Name) → Option Breach
+parameter_twice s parameters interaction (Some listed) = listed_twice None s parameters listed
+parameter_twice s parameters interaction None = only_if (shares_scope s.kept (kept_at s.kept parameters) s.levels) (breach 1 interaction.span)
+
+-- 2 and 3
+abbrev pub misused_as : Sought → Option Declared → Option Breach
+misused_as x None = Some (breach 2 x.name.span)
+misused_as x (Some d) = only_if (not (may_be x.need d.denotes)) (breach 3 x.name.span)
+
+abbrev pub misused : Sought → Option Breach
+misused x = misused_as x x.found
+
+abbrev pub misuses : Option Breach → List Sought → Option Breach
+misuses first [] = first
+misuses first (x ∷ xs) = misuses (noted first (misused x)) xs
+
+-- 4
+abbrev pub states_fault : Span → Bool → Bool → Bool → Option Breach
+states_fault at true initial transitions = only_if (not initial) (breach 4 at)
+states_fault at false initial transitions = only_if (initial || transitions) (breach 4 at)
+
+-- 5
+abbrev pub header_fault : Option Declared → Option Declared → Span → Option Breach
+header_fault None b at = None
+header_fault (Some v) None at = None
+header_fault (Some v) (Some b) at = only_if ((may_be need.ModuleVariable v.denotes && may_be need.Body b.denotes) && not (nat_eq v.inside b.inside)) (breach 5 at)
+
+-- what an event breaks, among these scopes
+abbrev pub breach_at : Scopes → Event → Option Breach
+breach_at s (Declare names k inside) = twices None s names k (inside_of s inside)
+breach_at s (Receive ip interaction listed) = parameter_twice s (received s ip interaction) interaction listed
+breach_at s (Use x n steps) = misuses None (sought s (Use x n steps))
+breach_at s (By role) = misuses None (sought s (By role))
+breach_at s (Init modvar body) = header_fault (meaning s modvar.word) (meaning s body.word) body.span
+breach_at s (States at declared initial transitions) = states_fault at declared initial transitions
+breach_at s e = None
+
+-- the breach that is reported of these events
+abbrev pub least : Option Breach → Scopes → Events → Option Breach
+least first s [] = first
+least first s (e ∷ es) = least (noted first (breach_at s e)) (after_one s e) es

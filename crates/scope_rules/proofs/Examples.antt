@@ -1,0 +1,133 @@
+-- What is visible and what is broken, worked by hand on the events of small texts.
+use Rattle.std.proofs.Common.{◌≡◌, ℕ, inl, inr, true, [], ◌∷◌, ◌++◌, Some, None, refl}
+use Rattle.std.specs.Prelude.{codes}
+use Rattle.std.specs.List.{flat_map}
+use Rattle.estelle_tree.specs.declared.span.Span.{Span}
+use Rattle.estelle_tree.specs.declared.names.Use.{Use as Used}
+use Rattle.estelle_tree.specs.declared.tree.name.Name.{Name}
+use Rattle.scope_rules.specs.declared.declaration.Denotes.TheVariants as d
+use Rattle.scope_rules.specs.declared.declaration.Need.TheVariants as need
+use Rattle.scope_rules.specs.declared.declaration.Inside.TheVariants.{Nothing, At, Named}
+use Rattle.scope_rules.specs.declared.event.ScopeForm.TheVariants as scope
+use Rattle.scope_rules.specs.declared.event.Step.TheVariants as step
+use Rattle.scope_rules.specs.declared.event.Event.TheVariants.{Open, Close, Keep, Import, Receive, Array, Declare, Use, States}
+use Rattle.scope_rules.specs.TypeEvents.{Events, declare}
+use Rattle.scope_rules.specs.SpecificationEvents.{required_events}
+use Rattle.scope_rules.specs.Scopes.{start, after, meaning, sought}
+use Rattle.scope_rules.specs.NameRules.{Breaks, NotVisible, DeclaredTwice, names_from, used}
+
+abbrev span : ℕ → Span
+span n = record { start = n; end = n }
+
+-- a name of one letter, where it stands
+abbrev name : ℕ → ℕ → Name
+name letter n = record { word = letter ∷ []; span = span n }
+
+abbrev integer : ℕ → Name
+integer n = record { word = codes "integer"; span = span n }
+
+abbrev use_at : ℕ → ℕ → Used
+use_at n decl = record { at = span n; decl = span decl }
+
+-- ---- the counter with `k < 3` in place of `n < 3`
+
+-- var n: integer; state g; initialize to g begin n := 0 end; trans from g to g provided
+abbrev before_k : Events
+before_k =
+    Open scope.Inner ∷ (required_events ++ (States (span 0) true true true ∷ Open scope.Body
+    ∷ Use (integer 2) need.Type [] ∷ Declare (name 110 1 ∷ []) d.Variable (Named (integer 2) need.Type)
+    ∷ Declare (name 103 3 ∷ []) d.State Nothing
+    ∷ Use (name 103 4) need.State [] ∷ Open scope.Inner ∷ Use (name 110 5) need.Assigned [] ∷ Close
+    ∷ Open scope.Inner ∷ Open scope.Further ∷ Use (name 103 6) need.Origin [] ∷ Open scope.Further ∷ Use (name 103 7) need.State []
+    ∷ Open scope.Further ∷ []))
+
+abbrev counter : ℕ → Events
+counter letter = before_k ++ Use (name letter 8) need.Value []
+    ∷ Open scope.Inner ∷ Use (name 110 9) need.Assigned [] ∷ Use (name 110 10) need.Value [] ∷ Close
+    ∷ Close ∷ Close ∷ Close ∷ Close ∷ Close ∷ Close ∷ []
+
+-- rule 2 is broken at the k
+k_unseen : Breaks (counter 107) (record { number = 2; span = span 8 })
+k_unseen = record {
+  before = before_k;
+  event = Use (name 107 8) need.Value [];
+  rest = _;
+  here = refl;
+  holds = inr (inl (refl, (record { name = name 107 8; need = need.Value; found = None }, (inl refl, refl, refl))));
+}
+
+-- with n, each name means its declaration, and `integer` stands nowhere
+n_seen : names_from start (counter 110) ≡ use_at 2 0 ∷ use_at 4 3 ∷ use_at 5 1 ∷ use_at 6 3 ∷ use_at 7 3 ∷ use_at 8 1 ∷ use_at 9 1 ∷ use_at 10 1 ∷ []
+n_seen = refl
+
+-- ---- bodies inside bodies: what is private in the middle hides what is further out
+
+-- const c, d; in a body: var c; in a body in it, the name
+abbrev nested : Events
+nested =
+    Open scope.Body ∷ (declare (name 99 1) d.Constant Nothing ++ (declare (name 100 2) d.Constant Nothing ++ (Open scope.Body
+    ∷ (declare (name 99 3) d.Variable Nothing ++ Open scope.Body ∷ []))))
+
+hidden : meaning (after start nested) (99 ∷ []) ≡ None
+hidden = refl
+
+constant_seen : flat_map used (sought (after start nested) (Use (name 100 9) need.Constant [])) ≡ use_at 9 2 ∷ []
+constant_seen = refl
+
+-- ---- the second declaration in the text, though a routine is declared before all else
+
+-- const p; procedure p
+procedure_second : DeclaredTwice (span 8) (after start (Open scope.Body ∷ declare (name 112 8) d.Procedure Nothing)) (Declare (name 112 3 ∷ []) d.Constant Nothing)
+procedure_second = inl (record { at = span 8; denotes = d.Procedure; inside = 0 }, (refl, refl))
+
+-- ---- names behind dots
+
+-- var r: array [..] of record f: integer end, with the array at 2 and the record at 4
+abbrev with_record : Events
+with_record =
+    Open scope.Body ∷ Open scope.Inner ∷ Declare (name 102 5 ∷ []) d.Field Nothing ∷ Keep (span 4)
+    ∷ Array (span 2) (At (span 4)) ∷ Declare (name 114 1 ∷ []) d.Variable (At (span 2)) ∷ []
+
+-- r[..].f
+field_seen : flat_map used (sought (after start with_record) (Use (name 114 7) need.Selected (step.Index ∷ step.Member (name 102 9) need.Component ∷ []))) ≡ use_at 7 1 ∷ use_at 9 5 ∷ []
+field_seen = refl
+
+-- r.f: r is no record
+field_unseen : NotVisible (span 9) (after start with_record) (Use (name 114 7) need.Selected (step.Member (name 102 9) need.Component ∷ []))
+field_unseen = (record { name = name 102 9; need = need.Component; found = None }, (inr (inl refl), refl, refl))
+
+-- f: a field is found behind a dot alone
+field_alone : meaning (after start with_record) (102 ∷ []) ≡ None
+field_alone = refl
+
+-- ---- headers and their bodies
+
+-- module m(n: ..); ip p: c(r); body b for m;
+abbrev with_body : Events
+with_body =
+    Open scope.Body ∷ (declare (name 99 1) d.Channel (At (span 1)) ++ (declare (name 109 2) d.Header (At (span 2)) ++ (Open scope.Inner
+    ∷ Declare (name 110 3 ∷ []) d.Variable Nothing ∷ Declare (name 112 4 ∷ []) d.Ip (Named (name 99 5) need.Channel) ∷ Keep (span 2)
+    ∷ (declare (name 98 6) d.Body (Named (name 109 7) need.Header) ++ Open scope.Body ∷ Import (name 109 7) ∷ []))))
+
+-- inside the body: its own name, its header's ip and parameter
+inside_body : flat_map used (flat_map (sought (after start with_body)) (Use (name 98 10) need.Body [] ∷ Use (name 112 11) need.Ip [] ∷ Use (name 110 12) need.Value [] ∷ [])) ≡ use_at 10 6 ∷ use_at 11 4 ∷ use_at 12 3 ∷ []
+inside_body = refl
+
+-- a name of the body that its header has too
+of_header_too : DeclaredTwice (span 13) (after start with_body) (Declare (name 110 13 ∷ []) d.Variable Nothing)
+of_header_too = inl (record { at = span 3; denotes = d.Variable; inside = 0 }, (refl, refl))
+
+-- ---- the parameters of an interaction on a way that has a name of `any` already
+
+-- channel c with an interaction m(i); ip p: c; trans any i: ..; when p.m
+abbrev on_way : Events
+on_way =
+    Open scope.Body ∷ (declare (name 99 1) d.Channel (At (span 1)) ++ (Open scope.Inner ∷ (declare (name 109 2) d.Interaction (At (span 2)) ++ (Open scope.Inner
+    ∷ Declare (name 105 3 ∷ []) d.Variable Nothing ∷ Keep (span 2) ∷ Keep (span 1) ∷ Declare (name 112 4 ∷ []) d.Ip (Named (name 99 5) need.Channel)
+    ∷ Open scope.Inner ∷ Open scope.Further ∷ Declare (name 105 6 ∷ []) d.Constant Nothing ∷ Open scope.Further ∷ []))))
+
+without_list : DeclaredTwice (span 8) (after start on_way) (Receive (name 112 7) (name 109 8) None)
+without_list = ((105 ∷ [], (refl, refl)), refl)
+
+with_list : DeclaredTwice (span 9) (after start on_way) (Receive (name 112 7) (name 109 8) (Some (name 105 9 ∷ [])))
+with_list = (name 105 9, (inl refl, refl, refl, refl))

@@ -1,0 +1,10 @@
+pub mod Least
+pub mod Kinds
+pub mod TypeEvents
+pub mod ExpressionEvents
+pub mod StatementEvents
+pub mod DeclarationEvents
+pub mod ClauseEvents
+pub mod SpecificationEvents
+pub mod Scopes
+pub mod NameRules
