@@ -79,8 +79,7 @@ impl NameTable {
         }
     }
 
-    /// Whether some name stands here and there.
-    pub fn shares(&self, others: &NameTable) -> bool
+    fn some_is_in(&self, others: &NameTable) -> bool
         ensures { result ≡ common.shares self.now others.now }
     {
         for i in 0..self.names.len() {
@@ -89,5 +88,16 @@ impl NameTable {
             }
         }
         false
+    }
+
+    /// Whether some name stands here and there, in the time of the smaller of both.
+    #[tactic(auto, using(crate::proofs::Symmetry::shares_symmetric))]
+    pub fn shares(&self, others: &NameTable) -> bool
+        ensures { result ≡ common.shares self.now others.now }
+    {
+        if others.names.len() < self.names.len() {
+            return others.some_is_in(self);
+        }
+        self.some_is_in(others)
     }
 }

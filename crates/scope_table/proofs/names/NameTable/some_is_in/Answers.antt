@@ -1,6 +1,6 @@
 use Rattle.std.proofs.Common.{arith}
 use Rattle.scope_table.proofs.Entries.{shares_hit, shares_missed}
-use Rattle.scope_table.proofs.names.NameTable.shares.Goals as goal
+use Rattle.scope_table.proofs.names.NameTable.some_is_in.Goals as goal
 
 pub returns-then-is_in : goal.returns-then-is_in
 returns-then-is_in c =
