@@ -1,6 +1,4 @@
 pub mod Numbers
-pub mod Steps
-pub mod Lists
 pub mod TypePieces
 pub mod ExpressionPieces
 pub mod StatementPieces

@@ -1,5 +1,5 @@
 -- What the calls answer, by what the parsers do.
-use Rattle.std.proofs.Common.{◌≡◌, ◌<◌, ◌≤◌, ◌+◌, ℕ, suc, List, length, Result, Ok, Err, sym, ap, ◌∙◌, subst, inl, inr, arith}
+use Rattle.std.proofs.Common.{◌≡◌, ◌<◌, ◌≤◌, ◌+◌, ℕ, zero, suc, List, length, Result, Ok, Err, sym, refl, ap, ◌∙◌, subst, inl, inr, ◌⊎◌, arith}
 use Rattle.std.specs.Prelude.{IfOk, IfErr}
 use Rattle.estelle_tree.specs.declared.token.Placed.{Placed}
 use Rattle.estelle_tree.specs.Input.{Input, left}
@@ -10,13 +10,29 @@ use Rattle.token_reader.proofs.Sound.{Sound, ok_pair}
 use Rattle.token_reader.proofs.Complete.{After, Complete}
 use Rattle.pascal_parser.specs.declared.error.SyntaxError.{SyntaxError}
 use Rattle.pascal_parser.specs.declared.error.SyntaxError.TheVariants.{At, Memory}
-use Rattle.pascal_parser.specs.Places.{place, Reach}
-use Rattle.pascal_parser.specs.Onward.{Below, IsOnward}
-use Rattle.pascal_parser.specs.Answers.{IsSpelled, IsReached, IsAnswered, IsAtFrom, Answers}
+use Rattle.estelle_tree.specs.Beginning.{Beginning}
+use Rattle.syntax_places.specs.Places.{Reach}
+use Rattle.syntax_places.specs.Placed.{stop}
+use Rattle.syntax_places.specs.Laws.{Stops, IsBegun}
+use Rattle.pascal_parser.specs.Places.{place}
+use Rattle.syntax_places.specs.Onward.{Below, IsOnward}
+use Rattle.pascal_parser.specs.Answers.{IsSpelled, IsAnswered, Answers}
+use Rattle.pascal_parser.specs.Longest.{IsLongest, IsExact, IsRefused}
 use Rattle.pascal_parser.proofs.Numbers.{skip_left, place_of}
-use Rattle.pascal_parser.proofs.Steps.{Reached, Reaches}
+use Rattle.syntax_places.proofs.Steps.{Reached, Reaches}
 
 -- ---- what a parser that never goes back answers
+
+-- it is this node and this place, or a longer piece is read, or a token is refused that stands behind this piece
+abbrev IsReached : {A : Type 0} → A → ℕ → Result (A × ℕ) SyntaxError → Type 0
+IsReached x to (Ok found) = (to < found.1) ⊎ ((found.0 ≡ x) × (found.1 ≡ to))
+IsReached x to (Err (At p)) = to < p
+IsReached x to (Err Memory) = Unit {0}
+
+-- the place is one between these, unless memory ran out
+abbrev IsAtFrom : ℕ → ℕ → SyntaxError → Type 0
+IsAtFrom from to (At p) = (from ≤ p) × (p ≤ to)
+IsAtFrom from to Memory = Unit {0}
 
 apart : {A : Type 0} (l : ℕ) (y : A × Input) (o : Outcome A) → o ≡ Err (read.Refused l) → o ≡ Ok y → ⊥
 apart l y o refused reads = let no : Err (read.Refused l) ≡ Ok y = sym refused ∙ reads in cc
@@ -109,3 +125,81 @@ module _ {A : Type 0} (p : Parser A) (P : Spelling A) (sound : Sound p P) (on : 
           (node, omega arith)
       by (Err (At q)) a = absurd (apart a.0 (x, place tokens to) (p (place tokens at)) a.1 e)
       by (Err Memory) a = tt
+
+-- ---- the longest piece that begins a node
+
+module _ {A : Type 0} (p : Parser A) (P : Spelling A) (B : Beginning) (sound : Sound p P) (reaches : Reaches p P) (stops_there : Stops p B) (begun : IsBegun P B) (tokens : List Placed) (at : ℕ) (inside : at ≤ length tokens) where
+  onward : IsOnward p
+  onward i = (stops_there i).on
+
+  -- no piece that begins a node is longer than what the parser takes
+  no_longer : (to l : ℕ) → to + l ≡ length tokens → stop (p (place tokens at)) ≡ l → (other : ℕ) → other ≤ length tokens → B (place tokens at) (place tokens other) → other ≤ to
+  no_longer to l count is other fits b =
+      let short = (stops_there (place tokens at)).longest (place tokens other) b in
+      let there = skip_left other tokens 0 fits in
+      omega arith
+
+  found_longest : (x : A) (j : Input) (to : ℕ) → p (place tokens at) ≡ Ok (x, j) → to + left j ≡ length tokens → IsLongest B tokens at to
+  found_longest x j to e count = record {
+    inside = behind p P sound onward reaches tokens at inside (Ok (x, to)) (j, e, count);
+    begins = subst (λ j. B (place tokens at) j) (place_of tokens at j to inside (stops p P sound onward reaches tokens at inside x j e).0 count) (begun (place tokens at) j x (sound (place tokens at) j x e));
+    longest = no_longer to (left j) count (ap (λ (o : Outcome A). stop o) e);
+  }
+
+  refused_longest : (l q : ℕ) → p (place tokens at) ≡ Err (read.Refused l) → q + l ≡ length tokens → IsLongest B tokens at q
+  refused_longest l q e count =
+      let piece = (stops_there (place tokens at)).begun l e in
+      let total : q + left piece.at ≡ length tokens = ap (λ l. q + l) piece.count ∙ count in
+      record {
+        inside = refused p P sound onward reaches tokens at inside (Err (At q)) (l, e, count);
+        begins = subst (λ j. B (place tokens at) j) (place_of tokens at piece.at q inside piece.reach total) piece.begins;
+        longest = no_longer q l count (ap (λ (o : Outcome A). stop o) e);
+      }
+
+  pub exact : (r : Result (A × ℕ) SyntaxError) → Answers (length tokens) (p (place tokens at)) r → IfOk r (IsExact B P tokens at)
+  exact (Ok found) a = record {
+    longest = found_longest found.0 a.0 found.1 a.1 a.2;
+    spelled = spelled p P sound onward reaches tokens at inside (Ok found) a;
+    only = only;
+  }
+    where
+      only : (x : A) → IsSpelled P tokens at (x, found.1) → x ≡ found.0
+      only x is = by (reached p P sound onward reaches tokens at inside (Ok found) a x found.1 (found_longest found.0 a.0 found.1 a.1 a.2).inside.1 is)
+        where
+          by : IsReached x found.1 (Ok found) → x ≡ found.0
+          by (inl less) = absurd (omega arith)
+          by (inr same) = sym same.0
+  exact (Err e) a = tt
+
+  pub unspelled : (r : Result (A × ℕ) SyntaxError) → Answers (length tokens) (p (place tokens at)) r → IfErr r (IsRefused B P tokens at)
+  unspelled (Ok found) a = tt
+  unspelled (Err (At q)) a = (refused_longest a.0 q a.1 a.2, none)
+    where
+      none : (x : A) → IsSpelled P tokens at (x, q) → ⊥
+      none x is = let less : q < q = reached p P sound onward reaches tokens at inside (Err (At q)) a x q (refused_longest a.0 q a.1 a.2).inside.1 is in omega arith
+  unspelled (Err Memory) a = tt
+
+le_cases : (m n : ℕ) → m ≤ n → (m < n) ⊎ (m ≡ n)
+le_cases zero zero le = inr refl
+le_cases zero (suc n) le = inl (omega arith)
+le_cases (suc m) zero le = absurd (omega arith)
+le_cases (suc m) (suc n) le = up (le_cases m n (omega arith))
+  where
+    up : (m < n) ⊎ (m ≡ n) → (suc m < suc n) ⊎ (suc m ≡ suc n)
+    up (inl h) = inl (omega arith)
+    up (inr h) = inr (ap suc h)
+
+-- Whatever node a piece spells, the call comes as far: that follows from what it answers alone.
+pub as_far : {A : Type 0} (P : Spelling A) (B : Beginning) → IsBegun P B → (tokens : List Placed) (at : ℕ) (r : Result (A × ℕ) SyntaxError) → IfOk r (IsExact B P tokens at) → IfErr r (IsRefused B P tokens at)
+    → (x : A) (to : ℕ) → to ≤ length tokens → IsSpelled P tokens at (x, to) → IsReached x to r
+as_far {A} P B begun tokens at (Ok found) e f x to fits is = by (le_cases to found.1 (e.longest.longest to fits (begun (place tokens at) (place tokens to) x is)))
+  where
+    by : (to < found.1) ⊎ (to ≡ found.1) → IsReached x to (Ok found)
+    by (inl less) = inl less
+    by (inr same) = inr (sym (e.only x (subst (λ to. IsSpelled P tokens at (x, to)) same is)), sym same)
+as_far {A} P B begun tokens at (Err (At q)) e f x to fits is = by (le_cases to q (f.0.longest to fits (begun (place tokens at) (place tokens to) x is)))
+  where
+    by : (to < q) ⊎ (to ≡ q) → to < q
+    by (inl less) = less
+    by (inr same) = absurd (f.1 x (subst (λ to. IsSpelled P tokens at (x, to)) same is))
+as_far P B begun tokens at (Err Memory) e f x to fits is = tt

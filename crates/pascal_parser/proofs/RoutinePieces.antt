@@ -12,9 +12,9 @@ use Rattle.type_parser.specs.Definitions.{begins_formals, begins_block_decl, par
 use Rattle.statement_parser.specs.Statement.{opens, stmts_over, stmt_below}
 use Rattle.statement_parser.specs.Routine.{statement_part, word_by, routine_word, function_result, result, block_decls, routine}
 use Rattle.statement_parser.proofs.Routines.{routine_complete}
-use Rattle.pascal_parser.specs.Onward.{Below, IsOnward}
-use Rattle.pascal_parser.proofs.Steps.{step, stays, takes, refuses, expects, eats, names_one, Reaches}
-use Rattle.pascal_parser.proofs.Lists.{optional_onward, ended_onward, repeated_onward, separated_onward, several_onward}
+use Rattle.syntax_places.specs.Onward.{Below, IsOnward}
+use Rattle.syntax_places.proofs.Steps.{step, stays, takes, refuses, expects, eats, names_one, Reaches}
+use Rattle.syntax_places.proofs.Lists.{optional_onward, ended_onward, repeated_onward, separated_onward, several_onward}
 use Rattle.pascal_parser.proofs.TypePieces.{names_onward, constant_onward, typed_over_onward, type_below_onward}
 use Rattle.pascal_parser.proofs.StatementPieces.{opens_onward, stmts_over_onward, stmt_below_onward}
 

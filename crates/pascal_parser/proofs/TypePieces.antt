@@ -23,9 +23,9 @@ use Rattle.type_parser.proofs.Complete.{constant_complete, closed_complete, ordi
 use Rattle.token_reader.specs.Reader.{Parser, Outcome, refuse, span_since, eat, expect, name, number, char}
 use Rattle.token_reader.specs.Lists.{mark, separated, separated_if}
 use Rattle.type_parser.specs.Types.{begins_name, begins_ordinal, names, sign_of, number_from, name_from, char_from, constant_by, constant, enumeration, subrange, ordinal_name, named_by, ordinal_by, ordinal, typed_over, fields_over, array_over, record_over, set_type, ordinal_type, opening, type_by, type_over, type_below, type_expr}
-use Rattle.pascal_parser.specs.Onward.{Below, IsOnward}
-use Rattle.pascal_parser.proofs.Steps.{step, stays, refuses, expects, expects_one, eats, names_one, numbers_one, chars_one, Reached, Reaches, reads_on, reached_from, exact, last}
-use Rattle.pascal_parser.proofs.Lists.{mark_onward, separated_onward, separated_if_onward}
+use Rattle.syntax_places.specs.Onward.{Below, IsOnward}
+use Rattle.syntax_places.proofs.Steps.{step, stays, refuses, expects, expects_one, eats, names_one, numbers_one, chars_one, Reached, Reaches, reads_on, reached_from, exact, last}
+use Rattle.syntax_places.proofs.Lists.{mark_onward, separated_onward, separated_if_onward}
 
 -- ---- no parser goes back
 

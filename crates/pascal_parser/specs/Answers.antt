@@ -1,5 +1,5 @@
 -- What the calls answer.
-use Rattle.std.specs.Prelude.{◌≡◌, ℕ, ◌+◌, ◌<◌, ◌≤◌, List, Result, Ok, Err, ◌⊎◌}
+use Rattle.std.specs.Prelude.{◌≡◌, ℕ, ◌+◌, ◌≤◌, List, Result, Ok, Err}
 use Rattle.estelle_tree.specs.declared.token.Placed.{Placed}
 use Rattle.estelle_tree.specs.Input.{Input, left}
 use Rattle.estelle_tree.specs.Spelling.{Spelling}
@@ -14,22 +14,11 @@ use Rattle.pascal_parser.specs.Places.{place}
 abbrev pub IsSpelled : {A : Type 0} → Spelling A → List Placed → ℕ → A × ℕ → Type 0
 IsSpelled P tokens at found = P found.0 (place tokens at) (place tokens found.1)
 
--- it is this node and this place, or a longer piece is read, or a token is refused that stands behind this piece
-abbrev pub IsReached : {A : Type 0} → A → ℕ → Result (A × ℕ) SyntaxError → Type 0
-IsReached x to (Ok found) = (to < found.1) ⊎ ((found.0 ≡ x) × (found.1 ≡ to))
-IsReached x to (Err (At p)) = to < p
-IsReached x to (Err Memory) = Unit {0}
-
 -- it is this node and this place, unless memory ran out
 abbrev pub IsAnswered : {A : Type 0} → A → ℕ → Result (A × ℕ) SyntaxError → Type 0
 IsAnswered x to (Ok found) = (found.0 ≡ x) × (found.1 ≡ to)
 IsAnswered x to (Err (At p)) = ⊥
 IsAnswered x to (Err Memory) = Unit {0}
-
--- the place is one between these, unless memory ran out
-abbrev pub IsAtFrom : ℕ → ℕ → SyntaxError → Type 0
-IsAtFrom from to (At p) = (from ≤ p) × (p ≤ to)
-IsAtFrom from to Memory = Unit {0}
 
 -- ---- by the parsers
 

@@ -1,3 +1,3 @@
 pub mod Places
-pub mod Onward
 pub mod Answers
+pub mod Longest

@@ -11,11 +11,16 @@ ghost use Rattle.estelle_tree.specs.Expressions.{IsExpr};
 ghost use Rattle.estelle_tree.specs.Statements.{IsStmts};
 ghost use Rattle.estelle_tree.specs.Declarations.{IsRoutine};
 ghost use Rattle.estelle_tree.specs.Spells.{room_at, max_nesting};
+ghost use Rattle.estelle_tree.specs.BeginsTypes.{BeginsType};
+ghost use Rattle.estelle_tree.specs.BeginsExpressions.{BeginsExpr};
+ghost use Rattle.estelle_tree.specs.BeginsStatements.{BeginsStmts};
+ghost use Rattle.estelle_tree.specs.BeginsDeclarations.{BeginsRoutine};
 ghost use Rattle.type_parser.specs.Laws.{EndsOrdinal};
 ghost use Rattle.expression_parser.specs.Expression.{EndsExpr};
 ghost use Rattle.statement_parser.specs.Statement.{EndsStmts};
 ghost use Rattle.pascal_parser.specs.Places.{place};
-ghost use Rattle.pascal_parser.specs.Answers.{IsSpelled, IsReached, IsAnswered, IsAtFrom};
+ghost use Rattle.pascal_parser.specs.Longest.{IsExact, IsRefused};
+ghost use Rattle.pascal_parser.specs.Answers.{IsSpelled, IsAnswered};
 
 use crate::error::SyntaxError;
 use crate::reading::read_at;
@@ -42,10 +47,11 @@ pub fn expression(
     requires nesting { depth ≤ max_nesting }
     ensures spelled { IfOk result (IsSpelled (IsExpr (room_at depth)) tokens.now at) }
     ensures behind { IfOk result (λ found. (at ≤ found.1) × (found.1 ≤ length tokens.now)) }
-    ensures refused { IfErr result (IsAtFrom at (length tokens.now)) }
-    // Whatever node a piece from there on spells, the call comes as far.
-    ensures reached { (x : Expr) (to : ℕ) → to ≤ length tokens.now → IsSpelled (IsExpr (room_at depth)) tokens.now at (x, to) → IsReached x to result }
-    // It is the answer where nothing goes on with it behind the piece.
+    // Of the pieces from there on that begin an expression, the longest spells this one and no other.
+    ensures exact { IfOk result (IsExact (BeginsExpr (room_at depth)) (IsExpr (room_at depth)) tokens.now at) }
+    // Where that piece spells none, the call refuses behind it.
+    ensures refused { IfErr result (IsRefused (BeginsExpr (room_at depth)) (IsExpr (room_at depth)) tokens.now at) }
+    // A node that a piece spells is the answer where nothing goes on with it behind the piece.
     ensures ended { (x : Expr) (to : ℕ) → to ≤ length tokens.now → IsSpelled (IsExpr (room_at depth)) tokens.now at (x, to) → EndsExpr (place tokens.now to) → IsAnswered x to result }
 {
     let room = MAX_NESTING - depth;
@@ -65,10 +71,11 @@ pub fn type_expr(
     requires nesting { depth ≤ max_nesting }
     ensures spelled { IfOk result (IsSpelled (IsType (room_at depth)) tokens.now at) }
     ensures behind { IfOk result (λ found. (at ≤ found.1) × (found.1 ≤ length tokens.now)) }
-    ensures refused { IfErr result (IsAtFrom at (length tokens.now)) }
-    // Whatever node a piece from there on spells, the call comes as far.
-    ensures reached { (x : TypeExpr) (to : ℕ) → to ≤ length tokens.now → IsSpelled (IsType (room_at depth)) tokens.now at (x, to) → IsReached x to result }
-    // It is the answer where nothing goes on with it behind the piece.
+    // Of the pieces from there on that begin a type, the longest spells this one and no other.
+    ensures exact { IfOk result (IsExact (BeginsType (room_at depth)) (IsType (room_at depth)) tokens.now at) }
+    // Where that piece spells none, the call refuses behind it.
+    ensures refused { IfErr result (IsRefused (BeginsType (room_at depth)) (IsType (room_at depth)) tokens.now at) }
+    // A node that a piece spells is the answer where nothing goes on with it behind the piece.
     ensures ended { (x : TypeExpr) (to : ℕ) → to ≤ length tokens.now → IsSpelled (IsType (room_at depth)) tokens.now at (x, to) → EndsOrdinal (place tokens.now to) → IsAnswered x to result }
 {
     let room = (MAX_NESTING - depth) as u8;
@@ -88,10 +95,11 @@ pub fn statements(
     requires nesting { depth ≤ max_nesting }
     ensures spelled { IfOk result (IsSpelled (IsStmts (room_at depth)) tokens.now at) }
     ensures behind { IfOk result (λ found. (at ≤ found.1) × (found.1 ≤ length tokens.now)) }
-    ensures refused { IfErr result (IsAtFrom at (length tokens.now)) }
-    // Whatever node a piece from there on spells, the call comes as far.
-    ensures reached { (x : Stmts) (to : ℕ) → to ≤ length tokens.now → IsSpelled (IsStmts (room_at depth)) tokens.now at (x, to) → IsReached x to result }
-    // It is the answer where nothing goes on with it behind the piece.
+    // Of the pieces from there on that begin a statement sequence, the longest spells this one and no other.
+    ensures exact { IfOk result (IsExact (BeginsStmts (room_at depth)) (IsStmts (room_at depth)) tokens.now at) }
+    // Where that piece spells none, the call refuses behind it.
+    ensures refused { IfErr result (IsRefused (BeginsStmts (room_at depth)) (IsStmts (room_at depth)) tokens.now at) }
+    // A node that a piece spells is the answer where nothing goes on with it behind the piece.
     ensures ended { (x : Stmts) (to : ℕ) → to ≤ length tokens.now → IsSpelled (IsStmts (room_at depth)) tokens.now at (x, to) → EndsStmts (place tokens.now to) → IsAnswered x to result }
 {
     let room = (MAX_NESTING - depth) as u8;
@@ -111,7 +119,10 @@ pub fn routine(
     requires nesting { depth ≤ max_nesting }
     ensures spelled { IfOk result (IsSpelled (IsRoutine (room_at depth)) tokens.now at) }
     ensures behind { IfOk result (λ found. (at ≤ found.1) × (found.1 ≤ length tokens.now)) }
-    ensures refused { IfErr result (IsAtFrom at (length tokens.now)) }
+    // Of the pieces from there on that begin a routine, the longest spells this one and no other.
+    ensures exact { IfOk result (IsExact (BeginsRoutine (room_at depth)) (IsRoutine (room_at depth)) tokens.now at) }
+    // Where that piece spells none, the call refuses behind it.
+    ensures refused { IfErr result (IsRefused (BeginsRoutine (room_at depth)) (IsRoutine (room_at depth)) tokens.now at) }
     // Whatever routine a piece from there on spells is the answer.
     ensures answered { (x : Routine) (to : ℕ) → to ≤ length tokens.now → IsSpelled (IsRoutine (room_at depth)) tokens.now at (x, to) → IsAnswered x to result }
 {

@@ -1,7 +1,7 @@
 //! Reads a Pascal expression, type, statement sequence or routine from a place in a list of tokens,
-//! where it stands at a given nesting. It stands on the parsers of these forms. What is answered is
-//! spelled by the tokens up to the answered place; and whatever node a piece from there on spells, it is
-//! the answer, or a longer piece is answered, or a token behind it is refused.
+//! where it stands at a given nesting. It stands on the parsers of these forms. Of the
+//! pieces from there on that begin such a node, the longest is the answered node's; where no node spells
+//! it, the place behind it is told.
 #![tactic(auto)]
 
 mod calls;

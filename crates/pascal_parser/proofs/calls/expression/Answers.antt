@@ -4,7 +4,9 @@ use Rattle.expression_parser.specs.Expression.{expr, EndsExpr}
 use Rattle.expression_parser.proofs.Sound.{expr_sound}
 use Rattle.expression_parser.proofs.Complete.{expr_complete}
 use Rattle.pascal_parser.proofs.ExpressionPieces.{expr_onward, expr_reached}
-use Rattle.pascal_parser.proofs.Meeting.{spelled, behind, refused, reached, ended}
+use Rattle.pascal_parser.proofs.Meeting.{spelled, behind, ended, exact, unspelled}
+use Rattle.estelle_tree.specs.BeginsExpressions.{BeginsExpr}
+use Rattle.syntax_places.proofs.ExpressionPlaces.{expr_piece_at}
 use Rattle.pascal_parser.proofs.calls.expression.Goals as goal
 
 pub read_at-requires-clause-onward : goal.read_at-requires-clause-onward
@@ -23,17 +25,17 @@ returns-clause-behind c =
     let room = room_at c.args.depth in
     behind (expr room) (IsExpr room) (expr_sound room) (expr_onward room) (expr_reached room) c.args.tokens.now c.args.at c.requires.inside c.read_at.result c.read_at.ensures
 
+pub returns-clause-exact : goal.returns-clause-exact
+unfolding max_nesting
+returns-clause-exact c =
+    let room = room_at c.args.depth in
+    exact (expr room) (IsExpr room) (BeginsExpr room) (expr_sound room) (expr_reached room) (expr_piece_at room).placed (expr_piece_at room).whole c.args.tokens.now c.args.at c.requires.inside c.read_at.result c.read_at.ensures
+
 pub returns-clause-refused : goal.returns-clause-refused
 unfolding max_nesting
 returns-clause-refused c =
     let room = room_at c.args.depth in
-    refused (expr room) (IsExpr room) (expr_sound room) (expr_onward room) (expr_reached room) c.args.tokens.now c.args.at c.requires.inside c.read_at.result c.read_at.ensures
-
-pub returns-clause-reached : goal.returns-clause-reached
-unfolding max_nesting
-returns-clause-reached c =
-    let room = room_at c.args.depth in
-    reached (expr room) (IsExpr room) (expr_sound room) (expr_onward room) (expr_reached room) c.args.tokens.now c.args.at c.requires.inside c.read_at.result c.read_at.ensures
+    unspelled (expr room) (IsExpr room) (BeginsExpr room) (expr_sound room) (expr_reached room) (expr_piece_at room).placed (expr_piece_at room).whole c.args.tokens.now c.args.at c.requires.inside c.read_at.result c.read_at.ensures
 
 pub returns-clause-ended : goal.returns-clause-ended
 unfolding max_nesting

@@ -5,7 +5,9 @@ use Rattle.token_reader.proofs.Complete.{Anything}
 use Rattle.statement_parser.proofs.Routines.{routine_sound}
 use Rattle.statement_parser.proofs.Routines.{routine_complete}
 use Rattle.pascal_parser.proofs.RoutinePieces.{routine_onward, routine_reached}
-use Rattle.pascal_parser.proofs.Meeting.{spelled, behind, refused, ended}
+use Rattle.pascal_parser.proofs.Meeting.{spelled, behind, ended, exact, unspelled}
+use Rattle.estelle_tree.specs.BeginsDeclarations.{BeginsRoutine}
+use Rattle.syntax_places.proofs.RoutinePlaces.{routine_piece}
 use Rattle.pascal_parser.proofs.calls.routine.Goals as goal
 
 pub read_at-requires-clause-onward : goal.read_at-requires-clause-onward
@@ -24,11 +26,17 @@ returns-clause-behind c =
     let room = room_at c.args.depth in
     behind (routine room) (IsRoutine room) (routine_sound room) (routine_onward room) (routine_reached room) c.args.tokens.now c.args.at c.requires.inside c.read_at.result c.read_at.ensures
 
+pub returns-clause-exact : goal.returns-clause-exact
+unfolding max_nesting
+returns-clause-exact c =
+    let room = room_at c.args.depth in
+    exact (routine room) (IsRoutine room) (BeginsRoutine room) (routine_sound room) (routine_reached room) (routine_piece room).placed (routine_piece room).whole c.args.tokens.now c.args.at c.requires.inside c.read_at.result c.read_at.ensures
+
 pub returns-clause-refused : goal.returns-clause-refused
 unfolding max_nesting
 returns-clause-refused c =
     let room = room_at c.args.depth in
-    refused (routine room) (IsRoutine room) (routine_sound room) (routine_onward room) (routine_reached room) c.args.tokens.now c.args.at c.requires.inside c.read_at.result c.read_at.ensures
+    unspelled (routine room) (IsRoutine room) (BeginsRoutine room) (routine_sound room) (routine_reached room) (routine_piece room).placed (routine_piece room).whole c.args.tokens.now c.args.at c.requires.inside c.read_at.result c.read_at.ensures
 
 pub returns-clause-answered : goal.returns-clause-answered
 unfolding max_nesting

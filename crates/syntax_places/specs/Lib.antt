@@ -1,0 +1,5 @@
+pub mod Places
+pub mod Onward
+pub mod Placed
+pub mod Laws
+pub mod StatementLaws
