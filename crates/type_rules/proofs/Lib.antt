@@ -1,0 +1,7 @@
+pub mod Lists
+pub mod TypeEquations
+pub mod ExpressionEquations
+pub mod StatementEquations
+pub mod SpecificationEquations
+mod Examples
+mod ProvidedThree

@@ -1,0 +1,9 @@
+pub mod Types
+pub mod Meanings
+pub mod Sites
+pub mod TypeSites
+pub mod ExpressionSites
+pub mod StatementSites
+pub mod SpecificationSites
+pub mod Routines
+pub mod PascalRules
