@@ -68,6 +68,7 @@ module _ {A : Type 0} (item : Parser A) (P : Spelling A) (B : Beginning) (end : 
   part_whole word i j [] h = absurd h.item
   part_whole word i j (x ∷ xs) h = inr (h.at, h.mark, inr (x, h.item.0, h.item.1, (xs, j, h.item.2, inr refl)))
 
+-- `NAME "=" Const`
 const_def_piece : Piece const_def IsConstDef BeginsConstDef Anything
 unfolding const_def
 const_def_piece = record {
@@ -100,6 +101,7 @@ formal_whole : (is_var : Bool) (i a j : Input) → Flag k.Var is_var i a → Beg
 formal_whole false i a j e b = inl (subst (λ a. BeginsVarless a j) (sym e) b)
 formal_whole true i a j t b = inr (inr (a, t, b))
 
+-- Formal = [var] Names ":" NAME
 formal_piece : Piece formal IsFormal BeginsFormal Anything
 unfolding formal formal_after
 formal_piece = record {
@@ -109,6 +111,7 @@ formal_piece = record {
   whole = λ i j f h. formal_whole f.is_var i h.at j h.is_var (inr (f.names, h.names.mid, h.names.first, inr (h.names.at, h.names.mark, one_name f.type_name h.names.at j h.names.second)));
 }
 
+-- Formals = "(" Formal {";" Formal} ")"
 pub formals_piece : Piece formals AreFormals BeginFormals Anything
 unfolding formals
 formals_piece = record {
@@ -124,6 +127,7 @@ formals_piece = record {
 
 -- Where this many more levels may open.
 module _ (room : ℕ) where
+  -- `NAME "=" Type`
   type_def_piece : Piece (type_def room) (IsTypeDef room) (BeginsTypeDef room) EndsOrdinal
   unfolding type_def
   type_def_piece = record {

@@ -59,6 +59,7 @@ direction_back k.To d e = let same : direction.To ≡ d = cc in ap of_direction 
 direction_back k.Downto d e = let same : direction.Downto ≡ d = cc in ap of_direction same
 direction_back _ d e = absurd (cc)
 
+-- `to | downto` and what comes next
 direction_placed : {A : Type 0} (rest : Beginning) (i : Input) (f : Direction → Parser A) → ((d : Direction) (a : Input) → Placed rest a (f d a)) → Placed (AfterOne of_direction rest) i (and_then (direction_word i) f)
 unfolding direction_word
 direction_placed rest i f more = go (kind i) refl
@@ -79,7 +80,7 @@ case_after from e cs semicolon = do
   pure (form.Case e cs semicolon span)
 
 -- what is known of a parser of statements: what they spell, with `true` the whole ones, and what begins them
-pub record Below (p : Parser Stmt) (S : Bool → Spelling Stmt) (B : Beginning) : Type 0 where
+pub record LevelBelow (p : Parser Stmt) (S : Bool → Spelling Stmt) (B : Beginning) : Type 0 where
   pub placed : (i : Input) → Placed B i (p i)
   pub sound : SoundStmt p S
   pub complete : CompleteStmt p S
@@ -88,6 +89,7 @@ pub record Below (p : Parser Stmt) (S : Bool → Spelling Stmt) (B : Beginning) 
 
 -- ---- the bounds of a `for`
 module _ (room : ℕ) (fits : 0 < room) where
+  -- `NAME ":=" Expr` and what comes next
   start_placed : {A : Type 0} (rest : Beginning) (i : Input) (f : Name × Expr → Parser A) → First rest EndsExpr → ((x : Name × Expr) (a : Input) → Placed rest a (f x a)) → Placed (After k.Name (After k.Becomes (AfterExpr room rest))) i (and_then (start_bound room i) f)
   unfolding start_bound
   start_placed rest i f first more =
@@ -95,6 +97,7 @@ module _ (room : ℕ) (fits : 0 < room) where
       regrouped _ a (expect k.Becomes a) _ f (expected k.Becomes _ a _ (λ b t.
       regrouped _ b (expr_below room b) _ f (below_placed room rest b _ fits first (λ e c. more (n, e) c))))))
 
+  -- `(to | downto) Expr do` and what comes next
   end_placed : {A : Type 0} (rest : Beginning) (i : Input) (f : Direction × Expr → Parser A) → ((x : Direction × Expr) (a : Input) → Placed rest a (f x a)) → Placed (AfterOne of_direction (AfterExpr room (After k.Do rest))) i (and_then (end_bound room i) f)
   unfolding end_bound
   end_placed rest i f more =
@@ -109,10 +112,11 @@ module _ (room : ℕ) (fits : 0 < room) where
       regrouped _ a (end_bound room a) _ f (end_placed rest a _ (λ e b. more _ b))))
 
 -- ---- over the parser of the statements one level down
-module _ (below : Parser Stmt) (S : Bool → Spelling Stmt) (B : Beginning) (known : Below below S B) where
+module _ (below : Parser Stmt) (S : Bool → Spelling Stmt) (B : Beginning) (known : LevelBelow below S B) where
   pub stmt_piece : Piece below (S false) B EndsStmt
   stmt_piece = record { placed = known.placed; sound = plain below S known.sound; complete = known.complete false; whole = known.whole false }
 
+  -- Stmts = Stmt {";" Stmt}
   pub stmts_over_piece : Piece (stmts_over below) (StmtsOf (S false)) (BeginStmts (S false) B) EndsStmts
   unfolding stmts_over
   stmts_over_piece = record {
@@ -139,6 +143,7 @@ module _ (below : Parser Stmt) (S : Bool → Spelling Stmt) (B : Beginning) (kno
         span = refl;
       }) h)))
 
+  -- Case = Const {"," Const} ":" Stmt
   pub case_over_piece : Piece (case_over below) (CaseOf (S false)) (BeginCase B) EndsStmt
   unfolding case_over
   case_over_piece = record {

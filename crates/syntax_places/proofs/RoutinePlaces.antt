@@ -55,6 +55,7 @@ no_name k.Type e = refl
 no_name k.Var e = refl
 no_name _ e = absurd (cc)
 
+-- `begin Stmts end ";"`
 statement_part_placed : (room : ℕ) (i : Input) → Placed (BeginsStatementPart room) i (statement_part room i)
 unfolding statement_part opens
 statement_part_placed zero i = no_room k.Begin _ i
@@ -78,6 +79,7 @@ statement_part_piece room = record {
 
 -- Where this many more levels may open.
 module _ (room : ℕ) where
+  -- `{BlockDecl}`
   decls_known : (rest : Beginning) → Step (optional begins_block_decl (block_decl room)) (IsBlockDecl room) (BeginsBlockDecl room) rest (EndsPart begins_name) (λ j. EndsPart begins_name j × (begins_block_decl (kind j) ≡ false))
   decls_known rest =
       optional_step (block_decl room) (IsBlockDecl room) (BeginsBlockDecl room) (EndsPart begins_name) (block_decl_piece room) rest begins_block_decl
@@ -112,6 +114,7 @@ module _ (room : ℕ) where
       may_placed formals AreFormals BeginFormals rest Anything formals_piece begins_formals i f
       (first_after _ k.OpenParenthesis _ (λ i e. ap begins_formals e)) formals_begins (λ i m r. inr tt) other (more None i) (λ x a is. more (Some x) a)
 
+  -- a procedure behind its word
   headed_placed : (from : ℕ) (i : Input) → Placed (After k.Name (May BeginFormals AreFormals BeginsRest)) i (headed room from false i)
   unfolding headed
   headed_placed from i =
@@ -119,6 +122,7 @@ module _ (room : ℕ) where
       parameters_placed BeginsRest a _ (first_after _ k.Semicolon _ (λ i e. ap begins_formals e)) (λ ps b.
       rest_placed b _ (λ ds body c. (_, refl))))
 
+  -- a function behind its word
   function_placed : (from : ℕ) (i : Input) → Placed (After k.Name (May BeginFormals AreFormals (After k.Colon (After k.Name BeginsRest)))) i (headed room from true i)
   unfolding headed function_result
   function_placed from i =

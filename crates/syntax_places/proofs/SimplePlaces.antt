@@ -33,12 +33,14 @@ use Rattle.syntax_places.proofs.ExpressionPlaces.{no_levels, expr_piece_at, args
 
 -- ---- expressions
 
+-- by the kinds that go on with them
 pub expr_piece : (room : ℕ) → Piece (expr room) (IsExpr room) (BeginsExpr room) EndsExpr
 expr_piece room = let piece = expr_piece_at room in record { placed = piece.placed; sound = piece.sound; complete = expr_complete room; whole = piece.whole }
 
 args_piece : (room : ℕ) → Piece (args room) (IsArgs room) (BeginsArgs room) EndsArgs
 args_piece room = let piece = args_piece_at room in record { placed = piece.placed; sound = piece.sound; complete = args_complete room; whole = piece.whole }
 
+-- one level down, where a level may open
 pub expr_below_piece : (room : ℕ) → 0 < room → Piece (expr_below room) (ExprBelow room) (BeginsExprBelow room) EndsExpr
 unfolding expr_below
 expr_below_piece zero fits = absurd (omega arith)
@@ -61,6 +63,7 @@ part_whole : (part : Option Name) (i j : Input) → Optional (Behind k.Dot IsNam
 part_whole None i j e = inl e
 part_whole (Some n) i j h = inr (h.at, h.mark, one_name n h.at j h.item)
 
+-- Ip = NAME ["." NAME]
 pub ip_piece : Piece ip IsIp BeginsIp (λ j. kind j ≡ k.Dot → ⊥)
 unfolding ip
 ip_piece = record {
@@ -187,6 +190,7 @@ module _ (room : ℕ) where
       other : (stops : Kind) → calls_at stops ≡ false → kind (next i) ≡ stops → ⊥
       other stops s is = let no : true ≡ false = sym c ∙ (ap calls_at (sym e ∙ is) ∙ s) in cc
 
+  -- the second token tells an assignment from a call
   pub named_placed : (kind' : Kind) (i : Input) → kind (next i) ≡ kind' → Placed (BeginsAssignment or BeginsCall) i (named_by room kind' i)
   named_placed k.Becomes i e = assigns i (λ is. let no : k.Becomes ≡ k.OpenParenthesis = sym e ∙ is in cc)
   named_placed k.Dot i e = assigns i (λ is. let no : k.Dot ≡ k.OpenParenthesis = sym e ∙ is in cc)

@@ -28,10 +28,10 @@ use Rattle.syntax_places.proofs.Listing.{separated_whole}
 use Rattle.syntax_places.proofs.Following.{name_word, one_name}
 use Rattle.syntax_places.proofs.ExpressionPlaces.{no_levels, some_levels}
 use Rattle.syntax_places.proofs.SimplePlaces.{expr_piece, expr_below_piece, AfterExpr, BeginsAssignment, BeginsCall, named_placed, init_placed, output_placed, release_placed, detach_placed, connect_placed, disconnect_placed, attach_placed, ip_piece}
-use Rattle.syntax_places.proofs.NestedPlaces.{Below, stmt_piece, stmts_over_piece, case_over_piece, begin_placed, if_placed, while_placed, repeat_placed, for_placed, case_placed}
+use Rattle.syntax_places.proofs.NestedPlaces.{LevelBelow, stmt_piece, stmts_over_piece, case_over_piece, begin_placed, if_placed, while_placed, repeat_placed, for_placed, case_placed}
 
 -- ---- the first token tells which statement comes
-module _ (below : Parser Stmt) (S : Bool → Spelling Stmt) (B : Beginning) (known : Below below S B) (room : ℕ) where
+module _ (below : Parser Stmt) (S : Bool → Spelling Stmt) (B : Beginning) (known : LevelBelow below S B) (room : ℕ) where
   -- what comes behind the word of a statement
   abbrev BehindWord : Kind → Beginning
   BehindWord k.Name = BeginsMayBeArgs room
@@ -247,7 +247,7 @@ module _ (below : Parser Stmt) (S : Bool → Spelling Stmt) (B : Beginning) (kno
       of_start k.Output i j (inr (r.at, r.word, inr (r.names.mid, name_word p r.at r.names.mid r.names.first, inr (r.names.at, r.names.mark, inr (r.mid, name_word n r.names.at r.mid r.names.second, args_whole given r.mid j r.args)))))
 
 -- one level down from where this many levels may open
-pub stmt_below_known : (room : ℕ) → Below (stmt_below room) (StmtBelow room) (BeginsStmtBelow room)
+pub stmt_below_known : (room : ℕ) → LevelBelow (stmt_below room) (StmtBelow room) (BeginsStmtBelow room)
 unfolding stmt_below
 stmt_below_known zero = record {
   placed = λ i. refused Nothing i refl (λ m e. e);
