@@ -1,0 +1,9 @@
+use Rattle.std.proofs.Common.{arith}
+use Rattle.type_rules.specs.TypeSites.{variable_of, type_in, typing}
+use Rattle.declaration_table.proofs.Declaring.{each_more, declare-one}
+use Rattle.declaration_table.proofs.types.declare_variables.Goals as goal
+
+pub loop-name-preserved : goal.loop-name-preserved
+loop-name-preserved c =
+    let e = each_more (variable_of (type_in (typing c.args.type_expr.now))) c.args.names.now c.loop-name.name-index c.name-item.result c.args.table.now c.loop-name-test.true c.name-item.is in
+    grind (arith, declare-one)
