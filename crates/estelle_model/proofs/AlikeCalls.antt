@@ -1,0 +1,77 @@
+-- Calls, blocks and expressions in clauses mean alike on two states that show the same.
+use Rattle.std.proofs.Common.{◌≡◌, ℕ, zero, suc, ◌-◌, true, List, [], ◌∷◌, ◌++◌, length, take, refl, ap}
+use Rattle.std.specs.Prelude.{slice_index_or}
+use Rattle.pascal_values.specs.declared.fault.Fault.TheVariants.{CallDepth}
+use Rattle.pascal_values.specs.declared.value.Value.{Value}
+use Rattle.pascal_values.specs.declared.value.Value.TheVariants as pascal
+use Rattle.pascal_values.specs.Values.{parts_of}
+use Rattle.estelle_tree.specs.declared.tree.expression.Expr.{Expr}
+use Rattle.estelle_model.specs.Paths.{Path, is_inside}
+use Rattle.estelle_model.specs.States.{Offers}
+use Rattle.estelle_model.specs.Steps.{Do, ◌>>◌, pure, fail, spend}
+use Rattle.estelle_model.specs.Meant.{Routine, Meanings, result_number}
+use Rattle.estelle_model.specs.Expressions.{Here, Given, Call, expr}
+use Rattle.estelle_model.specs.Statements.{Action, stmts}
+use Rattle.estelle_model.specs.Calls.{Enters, call_by, frame_of, last_or, enter, leave, within, nested, max_depth}
+use Rattle.estelle_model.specs.Blocks.{given_values, enter_values, leave_values, from_block, block_step, clause_value}
+use Rattle.estelle_model.proofs.Alike.{Same, DoAlike, ValueAlike, then_same, pure_alike, fail_alike, spend_alike}
+use Rattle.estelle_model.proofs.AlikePlaces.{ShowAlike}
+use Rattle.estelle_model.proofs.AlikeOperands.{AllWithin, CallAlike}
+use Rattle.estelle_model.proofs.AlikeExpressions.{expr_alike}
+use Rattle.estelle_model.proofs.AlikeStatements.{ActAlike, seq_alike, stmts_alike}
+
+module _ (S T : Type 0) (on : Offers S) (on' : Offers T) (m : Path) (R : S → T → Type 0) where
+  -- what enters a routine of an instance at or below m does alike
+  abbrev pub EntersAlike : Enters S → Enters T → Type 0
+  EntersAlike enters enters' = (before : Do S) (before' : Do T) → DoAlike S T R before before' → (p : Path) → is_inside m p ≡ true → (r : Routine) (g : Given) → AllWithin m g.references → ValueAlike S T R (enters before p r g) (enters' before' p r g)
+
+  -- the statements of Estelle do alike, where what they enter does
+  abbrev pub ActsAlike : (Enters S → Here → Action S → Do S) → (Enters T → Here → Action T → Do T) → Type 0
+  ActsAlike act act' = (enters : Enters S) (enters' : Enters T) → EntersAlike enters enters' → ActAlike S T on on' m R (act enters) (act' enters')
+
+  enter_alike : (r : Routine) (vs : List Value) → DoAlike S T R (enter r vs) (enter r vs)
+  enter_alike r vs s t a = (refl, record { state = a.state; frames = ap (λ fs. fs ++ frame_of r vs ∷ []) a.frames; left = a.left })
+
+  leave_alike : (r : Routine) → ValueAlike S T R (leave r) (leave r)
+  unfolding leave
+  leave_alike r s t a = (ap (λ fs. slice_index_or (parts_of (last_or pascal.Unset fs)) (result_number r) pascal.Unset) a.frames, record { state = a.state; frames = ap (λ fs. take (length fs - 1) fs) a.frames; left = a.left })
+
+  enter_values_alike : (vs : List Value) → DoAlike S T R (enter_values vs) (enter_values vs)
+  enter_values_alike vs s t a = (refl, record { state = a.state; frames = refl; left = a.left })
+
+  leave_values_alike : (v : Value) → ValueAlike S T R (leave_values v) (leave_values v)
+  leave_values_alike v s t a = (refl, record { state = a.state; frames = refl; left = a.left })
+
+module _ (S T : Type 0) (on : Offers S) (on' : Offers T) (m : Path) (R : S → T → Type 0) (show : ShowAlike S T on on' m R) (meant : Meanings) (act : Enters S → Here → Action S → Do S) (act' : Enters T → Here → Action T → Do T) (acts : ActsAlike S T on on' m R act act') where
+  call_by_alike : (enters : Enters S) (enters' : Enters T) → EntersAlike S T on on' m R enters enters' → (p : Path) → is_inside m p ≡ true → CallAlike S T on on' m R (call_by enters p) (call_by enters' p)
+  call_by_alike enters enters' h p inside r g w = h (pure tt) (pure tt) (pure_alike S T R (Same {A = Unit {0}}) tt tt refl) p inside r g w
+
+  within_alike : (enters : Enters S) (enters' : Enters T) → EntersAlike S T on on' m R enters enters' → (depth : ℕ) (p : Path) → is_inside m p ≡ true → (r : Routine) (g : Given) → AllWithin m g.references → ValueAlike S T R (within S on meant act enters depth p r g) (within T on' meant act' enters' depth p r g)
+  within_alike enters enters' h depth p inside r g w =
+      let here : Here = record { path = p; frame = depth; references = g.references } in
+      then_same S T R (Same {A = Value}) (enter r g.values >> stmts S on meant (act enters) (call_by enters p) here r.body) (enter r g.values >> stmts T on' meant (act' enters') (call_by enters' p) here r.body) (λ _. leave r) (λ _. leave r)
+      (seq_alike S T R (enter r g.values) _ (enter r g.values) _ (enter_alike S T on on' m R r g.values) (stmts_alike S T on on' m R show meant (act enters) (act' enters') (acts enters enters' h) (call_by enters p) (call_by enters' p) (call_by_alike enters enters' h p inside) here (inside, w) r.body))
+      (λ _. leave_alike S T on on' m R r)
+
+  pub nested_alike : (n : ℕ) → EntersAlike S T on on' m R (nested S on meant act n) (nested T on' meant act' n)
+  nested_alike zero before before' b p inside r g w = then_same S T R (Same {A = Value}) spend spend (λ _. fail CallDepth) (λ _. fail CallDepth) (spend_alike S T R) (λ _. fail_alike S T R (Same {A = Value}) CallDepth)
+  nested_alike (suc n) before before' b p inside r g w = then_same S T R (Same {A = Value}) (spend >> before) (spend >> before') (λ _. within S on meant act (nested S on meant act n) (max_depth - n) p r g) (λ _. within T on' meant act' (nested T on' meant act' n) (max_depth - n) p r g)
+      (seq_alike S T R spend before spend before' (spend_alike S T R) b) (λ _. within_alike (nested S on meant act n) (nested T on' meant act' n) (nested_alike n) (max_depth - n) p inside r g w)
+
+  -- every block of an instance at or below m does alike
+  pub block_alike : (p : Path) → is_inside m p ≡ true → (r : Routine) (vs : List Value) → DoAlike S T R (block_step S on meant act p r vs) (block_step T on' meant act' p r vs)
+  unfolding block_step
+  block_alike p inside r vs = then_same S T R (Same {A = Unit {0}}) (within S on meant act (from_block S on meant act) 0 p r (given_values vs)) (within T on' meant act' (from_block T on' meant act') 0 p r (given_values vs)) (λ _. pure tt) (λ _. pure tt)
+      (within_alike (from_block S on meant act) (from_block T on' meant act') (nested_alike max_depth) 0 p inside r (given_values vs) tt) (λ _. pure_alike S T R (Same {A = Unit {0}}) tt tt refl)
+
+  -- and every expression in its clauses
+  pub clause_alike : (p : Path) → is_inside m p ≡ true → (vs : List Value) (e : Expr) → ValueAlike S T R (clause_value S on meant act p vs e) (clause_value T on' meant act' p vs e)
+  unfolding clause_value
+  clause_alike p inside vs e =
+      let here : Here = record { path = p; frame = 0; references = [] } in
+      let call : Call S = call_by (from_block S on meant act) p in
+      let call' : Call T = call_by (from_block T on' meant act') p in
+      then_same S T R (Same {A = Value}) (enter_values vs >> (expr S on meant call here e).value) (enter_values vs >> (expr T on' meant call' here e).value) (λ v. leave_values v) (λ v. leave_values v)
+      (then_same S T R (Same {A = Value}) (enter_values vs) (enter_values vs) (λ _. (expr S on meant call here e).value) (λ _. (expr T on' meant call' here e).value) (enter_values_alike S T on on' m R vs)
+      (λ _. (expr_alike S T on on' m R show meant call call' (call_by_alike (from_block S on meant act) (from_block T on' meant act') (nested_alike max_depth) p inside) here (inside, tt) e).value))
+      (λ v. leave_values_alike S T on on' m R v)

@@ -1,0 +1,102 @@
+-- Firings, the start and guards on the situation, and on a log that begins with all instances and links: they come to the same.
+use Rattle.std.proofs.Common.{◌≡◌, ℕ, Bool, true, false, List, [], ℤ, Ok, Err, Option, Some, None, refl, ap, cond}
+use Rattle.pascal_values.specs.declared.value.Value.{Value}
+use Rattle.estelle_tree.specs.declared.tree.expression.Expr.{Expr}
+use Rattle.estelle_tree.specs.declared.tree.clause.DelayHigh.{DelayHigh}
+use Rattle.estelle_tree.specs.declared.tree.clause.DelayHigh.TheVariants as high
+use Rattle.estelle_model.specs.declared.job.Guard.{Guard}
+use Rattle.estelle_model.specs.declared.job.Guard.TheVariants.{Off, Faulted}
+use Rattle.estelle_model.specs.Paths.{Path}
+use Rattle.estelle_model.specs.States.{Offers, IsFaithful, Logged, on_log}
+use Rattle.estelle_model.specs.Steps.{Outcome, pure, checked}
+use Rattle.estelle_model.specs.Operators.{int_of}
+use Rattle.estelle_model.specs.Blocks.{fresh, block_step}
+use Rattle.estelle_model.specs.Actions.{act, enter_state}
+use Rattle.estelle_model.specs.Transitions.{Transition, Delay}
+use Rattle.estelle_model.specs.Subject.{Subject, meant, meant_with, of_block, begins}
+use Rattle.estelle_model.specs.Clauses.{fire_step, start_step, value_of_expr, provided_step, int_step, between, from_on, high_step, at_once, delay_step, guard_step, answered}
+use Rattle.estelle_model.specs.Situation.{Situation, Acting, on_situation}
+use Rattle.estelle_model.specs.Firing.{begun, bare, guard_with}
+use Rattle.estelle_model.proofs.Alike.{Same, RunningAlike, OutcomeAlike, StepAlike, DoAlike, ValueAlike, then_same, pure_alike, checked_alike, if_alike}
+use Rattle.estelle_model.proofs.AlikeOperands.{bool_alike}
+use Rattle.estelle_model.proofs.AlikeActions.{EqualCores, enter_state_alike, blocks_alike, clauses_alike}
+
+module _ (S T : Type 0) (on : Offers S) (on' : Offers T) (f : IsFaithful S on) (f' : IsFaithful T on') (s : Subject) where
+  abbrev R : S → T → Type 0
+  R = EqualCores S T on on' f f'
+
+  pub fire_step_alike : (p : Path) (t : Transition) (vs : List Value) → DoAlike S T R (fire_step S on s p t vs) (fire_step T on' s p t vs)
+  fire_step_alike p t vs = then_same S T R (Same {A = Unit {0}})
+      (block_step S on (meant_with s t.chosen) (act S on s (meant_with s t.chosen)) p (of_block (meant_with s t.chosen) t.received t.block) vs)
+      (block_step T on' (meant_with s t.chosen) (act T on' s (meant_with s t.chosen)) p (of_block (meant_with s t.chosen) t.received t.block) vs)
+      (λ _. enter_state S on s (meant s) p t.to) (λ _. enter_state T on' s (meant s) p t.to)
+      (blocks_alike S T on on' f f' s (meant_with s t.chosen) p (of_block (meant_with s t.chosen) t.received t.block) vs)
+      (λ _. enter_state_alike S T on on' f f' s (meant s) p t.to)
+
+  pub start_step_alike : DoAlike S T R (start_step S on s) (start_step T on' s)
+  start_step_alike = then_same S T R (Same {A = Unit {0}})
+      (block_step S on (meant s) (act S on s (meant s)) [] (begins s 0).block []) (block_step T on' (meant s) (act T on' s (meant s)) [] (begins s 0).block [])
+      (λ _. enter_state S on s (meant s) [] (begins s 0).to) (λ _. enter_state T on' s (meant s) [] (begins s 0).to)
+      (blocks_alike S T on on' f f' s (meant s) [] (begins s 0).block []) (λ _. enter_state_alike S T on on' f f' s (meant s) [] (begins s 0).to)
+
+  module _ (p : Path) (t : Transition) (vs : List Value) where
+    value_alike : (e : Expr) → ValueAlike S T R (value_of_expr S on s p t vs e) (value_of_expr T on' s p t vs e)
+    value_alike e = clauses_alike S T on on' f f' s (meant_with s t.chosen) p vs e
+
+    provided_alike : (o : Option Expr) → StepAlike S T R (Same {A = Bool}) (provided_step S on s p t vs o) (provided_step T on' s p t vs o)
+    provided_alike None = pure_alike S T R (Same {A = Bool}) true true refl
+    provided_alike (Some e) = bool_alike S T on on' [] R (value_of_expr S on s p t vs e) (value_of_expr T on' s p t vs e) (value_alike e)
+
+    int_alike : (e : Expr) → StepAlike S T R (Same {A = ℤ}) (int_step S on s p t vs e) (int_step T on' s p t vs e)
+    int_alike e = then_same S T R (Same {A = ℤ}) (value_of_expr S on s p t vs e) (value_of_expr T on' s p t vs e) (λ v. checked (int_of v)) (λ v. checked (int_of v)) (value_alike e) (λ v. checked_alike S T R (int_of v))
+
+    high_alike : (low : ℤ) (o : Option DelayHigh) → StepAlike S T R (Same {A = Guard}) (high_step S on s p t vs low o) (high_step T on' s p t vs low o)
+    high_alike low None = checked_alike S T R (between S on s low low)
+    high_alike low (Some high.Star) = checked_alike S T R (from_on S on s low)
+    high_alike low (Some (high.Expr e)) = then_same S T R (Same {A = Guard}) (int_step S on s p t vs e) (int_step T on' s p t vs e) (λ n. checked (between S on s low n)) (λ n. checked (between T on' s low n)) (int_alike e) (λ n. checked_alike S T R (between S on s low n))
+
+    delay_alike : (timed : Bool) (o : Option Delay) → StepAlike S T R (Same {A = Guard}) (delay_step S on s p t vs timed o) (delay_step T on' s p t vs timed o)
+    delay_alike timed None = pure_alike S T R (Same {A = Guard}) (at_once S on s) (at_once T on' s) refl
+    delay_alike true (Some d) = pure_alike S T R (Same {A = Guard}) (at_once S on s) (at_once T on' s) refl
+    delay_alike false (Some d) = then_same S T R (Same {A = Guard}) (int_step S on s p t vs d.low) (int_step T on' s p t vs d.low) (λ low. high_step S on s p t vs low d.high) (λ low. high_step T on' s p t vs low d.high) (int_alike d.low) (λ low. high_alike low d.high)
+
+    pub guard_step_alike : (timed : Bool) → StepAlike S T R (Same {A = Guard}) (guard_step S on s p t vs timed) (guard_step T on' s p t vs timed)
+    guard_step_alike timed = then_same S T R (Same {A = Guard}) (provided_step S on s p t vs t.provided) (provided_step T on' s p t vs t.provided)
+        (λ holds. cond holds (delay_step S on s p t vs timed t.delay) (pure Off)) (λ holds. cond holds (delay_step T on' s p t vs timed t.delay) (pure Off)) (provided_alike t.provided)
+        (λ holds. if_alike S T R (Same {A = Guard}) holds (delay_step S on s p t vs timed t.delay) (pure Off) (delay_step T on' s p t vs timed t.delay) (pure Off) (delay_alike timed t.delay) (pure_alike S T R (Same {A = Guard}) Off Off refl))
+
+same_answer : (S T : Type 0) (R : S → T → Type 0) (o : Outcome S Guard) (o' : Outcome T Guard) → OutcomeAlike S T R (Same {A = Guard}) o o' → answered o ≡ answered o'
+same_answer S T R (Ok r) (Ok q) h = h.0
+same_answer S T R (Err e) (Err x) h = ap (λ y. Faulted y.0) h
+same_answer S T R (Ok r) (Err x) h = absurd h
+same_answer S T R (Err e) (Ok q) h = absurd h
+
+-- ---- the situation, and the log
+
+pub situation_is_faithful : IsFaithful Acting on_situation
+situation_is_faithful = record { does_core = λ e a. refl; keeps_core = λ p change a. refl }
+
+pub log_is_faithful : IsFaithful Logged on_log
+log_is_faithful = record { does_core = λ e l. refl; keeps_core = λ p change l. refl }
+
+-- the same instances and links
+abbrev pub ShownByLog : Acting → Logged → Type 0
+ShownByLog = EqualCores Acting Logged on_situation on_log situation_is_faithful log_is_faithful
+
+-- a log that begins with the instances and links of a situation
+abbrev pub whole_log : Situation → Logged
+whole_log g = record { image = g.core; log = [] }
+
+begun_alike : (g : Situation) (budget : ℕ) → RunningAlike Acting Logged ShownByLog (fresh (begun g) budget) (fresh (whole_log g) budget)
+begun_alike g budget = record { state = refl; frames = refl; left = refl }
+
+-- a firing: the same fault with the same units left, or the same units left and the same instances and links
+pub firing_on_log : (s : Subject) (budget : ℕ) (g : Situation) (p : Path) (t : Transition) (vs : List Value) → OutcomeAlike Acting Logged ShownByLog (Same {A = Unit {0}}) (fire_step Acting on_situation s p t vs (fresh (begun g) budget)) (fire_step Logged on_log s p t vs (fresh (whole_log g) budget))
+firing_on_log s budget g p t vs = fire_step_alike Acting Logged on_situation on_log situation_is_faithful log_is_faithful s p t vs (fresh (begun g) budget) (fresh (whole_log g) budget) (begun_alike g budget)
+
+pub start_on_log : (s : Subject) (budget : ℕ) → OutcomeAlike Acting Logged ShownByLog (Same {A = Unit {0}}) (start_step Acting on_situation s (fresh (begun (bare s)) budget)) (start_step Logged on_log s (fresh (whole_log (bare s)) budget))
+start_on_log s budget = start_step_alike Acting Logged on_situation on_log situation_is_faithful log_is_faithful s (fresh (begun (bare s)) budget) (fresh (whole_log (bare s)) budget) (begun_alike (bare s) budget)
+
+-- a guard: the same answer
+pub guard_on_log : (s : Subject) (budget : ℕ) (g : Situation) (p : Path) (t : Transition) (timed : Bool) (vs : List Value) → guard_with s budget g p t timed vs ≡ answered (guard_step Logged on_log s p t vs timed (fresh (whole_log g) budget))
+guard_on_log s budget g p t timed vs = same_answer Acting Logged ShownByLog _ _ (guard_step_alike Acting Logged on_situation on_log situation_is_faithful log_is_faithful s p t vs timed (fresh (begun g) budget) (fresh (whole_log g) budget) (begun_alike g budget))

@@ -1,0 +1,82 @@
+-- Places read and stored alike on two states that show the same of an instance and of those below it.
+use Rattle.std.proofs.Common.{◌≡◌, ℕ, true, List, ◌∷◌, Result, Ok, Option, Some, None, refl, ap, subst}
+use Rattle.std.specs.Prelude.{slice_get}
+use Rattle.std.specs.FinMap as map
+use Rattle.pascal_values.specs.declared.fault.Fault.{Fault}
+use Rattle.pascal_values.specs.declared.fault.Fault.TheVariants.{NoModule}
+use Rattle.pascal_values.specs.declared.value.Value.{Value}
+use Rattle.pascal_values.specs.Values.{into, part_of, changed_at, with_part}
+use Rattle.pascal_values.specs.Shapes.{fit_of}
+use Rattle.estelle_model.specs.declared.denoter.Denoter.{Denoter}
+use Rattle.estelle_model.specs.Types.{shape_of}
+use Rattle.estelle_model.specs.Paths.{Path, is_inside}
+use Rattle.estelle_model.specs.Core.{Instance}
+use Rattle.estelle_model.specs.Effects.{Store}
+use Rattle.estelle_model.specs.States.{Offers}
+use Rattle.estelle_model.specs.Steps.{Running, checked, checked_at}
+use Rattle.estelle_model.specs.Places.{Place, Of, In, deeper, of_variables, known, held_in, module_variables_of, load, put, put_at, store, child_step}
+use Rattle.estelle_model.proofs.Alike.{Same, RunningAlike, OutcomeAlike, StepAlike, DoAlike, ValueAlike, then_same, checked_alike}
+
+-- the place is in a frame, or in an instance at or below m
+abbrev pub IsWithin : Path → Place → Type 0
+IsWithin m (Of p x way) = is_inside m p ≡ true
+IsWithin m (In f x way) = Unit {0}
+
+-- the same place, which is within
+abbrev pub PlaceAlike : Path → Place → Place → Type 0
+PlaceAlike m a b = (a ≡ b) × IsWithin m a
+
+abbrev pub PathAlike : Path → Path → Path → Type 0
+PathAlike m p q = (p ≡ q) × (is_inside m p ≡ true)
+
+pub deeper_within : (m : Path) (a : Place) (k : ℕ) → IsWithin m a → IsWithin m (deeper a k)
+deeper_within m (Of p x way) k h = h
+deeper_within m (In f x way) k h = h
+
+-- two states show the same of the instances at and below m, and keep what is stored there
+pub record ShowAlike (S T : Type 0) (on : Offers S) (on' : Offers T) (m : Path) (R : S → T → Type 0) : Type 0 where
+  pub instances : (s : S) (t : T) → R s t → (p : Path) → is_inside m p ≡ true → map.get (on.core s).instances p ≡ map.get (on'.core t).instances p
+  pub held : (s : S) (t : T) → R s t → (p c : Path) (k : ℕ) → is_inside m p ≡ true → slice_get (module_variables_of (map.get (on.core s).instances p)) k ≡ Some (Some c) → is_inside m c ≡ true
+  pub stored : (s : S) (t : T) → R s t → (p : Path) (x : ℕ) (way : List ℕ) (v : Value) → is_inside m p ≡ true → R (on.keeps p (Store x way v) s) (on'.keeps p (Store x way v) t)
+
+module _ (S T : Type 0) (on : Offers S) (on' : Offers T) (m : Path) (R : S → T → Type 0) (show : ShowAlike S T on on' m R) where
+  frames_alike : (x : List Value → Result Value Fault) (s : Running S) (t : Running T) → RunningAlike S T R s t → OutcomeAlike S T R (Same {A = Value}) (checked_at (x s.frames) s) (checked_at (x t.frames) t)
+  frames_alike x s t r = subst (λ (fs : List Value). OutcomeAlike S T R (Same {A = Value}) (checked_at (x s.frames) s) (checked_at (x fs) t)) r.frames (checked_alike S T R (x s.frames) s t r)
+
+  instances_alike : {A : Type 0} (x : Option Instance → Result A Fault) (p : Path) → is_inside m p ≡ true → (s : Running S) (t : Running T) → RunningAlike S T R s t → OutcomeAlike S T R (Same {A = A}) (checked_at (x (map.get (on.core s.state).instances p)) s) (checked_at (x (map.get (on'.core t.state).instances p)) t)
+  instances_alike {A} x p h s t r = subst (λ (o : Option Instance). OutcomeAlike S T R (Same {A = A}) (checked_at (x (map.get (on.core s.state).instances p)) s) (checked_at (x o) t)) (show.instances s.state t.state r.state p h) (checked_alike S T R (x (map.get (on.core s.state).instances p)) s t r)
+
+  load_same : (a : Place) → IsWithin m a → ValueAlike S T R (load S on a) (load T on' a)
+  unfolding load
+  load_same (Of p x way) h s t r = instances_alike (λ o. known (of_variables o x way)) p h s t r
+  load_same (In f x way) h s t r = frames_alike (λ fs. known (Ok (into (slice_get fs f) (λ frame. part_of frame (x ∷ way))))) s t r
+
+  pub load_alike : (a b : Place) → PlaceAlike m a b → ValueAlike S T R (load S on a) (load T on' b)
+  load_alike a b h = subst (λ (c : Place). ValueAlike S T R (load S on a) (load T on' c)) h.0 (load_same a h.1)
+
+  put_at_alike : (o : Option Instance) (p : Path) (x : ℕ) (way : List ℕ) (v : Value) → is_inside m p ≡ true → DoAlike S T R (put_at S on o p x way v) (put_at T on' o p x way v)
+  put_at_alike None p x way v h s t r = ap (λ n. (NoModule, n)) r.left
+  put_at_alike (Some i) p x way v h s t r = (refl, record { state = show.stored s.state t.state r.state p x way v h; frames = r.frames; left = r.left })
+
+  put_same : (a : Place) (v : Value) → IsWithin m a → DoAlike S T R (put S on a v) (put T on' a v)
+  unfolding put
+  put_same (Of p x way) v h s t r = subst (λ (o : Option Instance). OutcomeAlike S T R (Same {A = Unit {0}}) (put_at S on (map.get (on.core s.state).instances p) p x way v s) (put_at T on' o p x way v t)) (show.instances s.state t.state r.state p h) (put_at_alike (map.get (on.core s.state).instances p) p x way v h s t r)
+  put_same (In f x way) v h s t r = (refl, record { state = r.state; frames = ap (λ fs. changed_at fs f (λ frame. with_part frame (x ∷ way) v)) r.frames; left = r.left })
+
+  pub put_alike : (a b : Place) (v : Value) → PlaceAlike m a b → DoAlike S T R (put S on a v) (put T on' b v)
+  put_alike a b v h = subst (λ (c : Place). DoAlike S T R (put S on a v) (put T on' c v)) h.0 (put_same a v h.1)
+
+  pub store_alike : (d : Denoter) (a b : Place) (v : Value) → PlaceAlike m a b → DoAlike S T R (store S on d a v) (store T on' d b v)
+  unfolding store
+  store_alike d a b v h = then_same S T R (Same {A = Unit {0}}) (checked (fit_of (shape_of d) v)) (checked (fit_of (shape_of d) v)) (λ _. put S on a v) (λ _. put T on' b v) (checked_alike S T R (fit_of (shape_of d) v)) (λ _. put_alike a b v h)
+
+  -- the child is the same, and is at or below m
+  pub child_alike : (p : Path) (k : ℕ) → is_inside m p ≡ true → StepAlike S T R (PathAlike m) (child_step S on p k) (child_step T on' p k)
+  unfolding child_step
+  child_alike p k h s t r = subst (λ (o : Option Instance). OutcomeAlike S T R (PathAlike m) (checked_at (held_in (slice_get (module_variables_of (map.get (on.core s.state).instances p)) k)) s) (checked_at (held_in (slice_get (module_variables_of o) k)) t)) (show.instances s.state t.state r.state p h)
+      (go (slice_get (module_variables_of (map.get (on.core s.state).instances p)) k) (λ c e. show.held s.state t.state r.state p c k h e))
+    where
+      go : (o : Option (Option Path)) → ((c : Path) → o ≡ Some (Some c) → is_inside m c ≡ true) → OutcomeAlike S T R (PathAlike m) (checked_at (held_in o) s) (checked_at (held_in o) t)
+      go None i = ap (λ n. (NoModule, n)) r.left
+      go (Some None) i = ap (λ n. (NoModule, n)) r.left
+      go (Some (Some c)) i = ((refl, i c refl), r)

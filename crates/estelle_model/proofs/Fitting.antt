@@ -1,0 +1,33 @@
+-- Which values fit the types of the examples.
+use Rattle.std.proofs.Common.{◌≡◌, ℤ, Ok, Err, ◌∙◌}
+use Rattle.std.specs.Prelude.{if◌then◌else◌}
+use Rattle.pascal_values.specs.declared.fault.Fault.TheVariants as fault
+use Rattle.pascal_values.specs.declared.value.Value.TheVariants as pascal
+use Rattle.pascal_values.specs.declared.value.Value.TheVariants.{outs-Int}
+use Rattle.pascal_values.specs.declared.value.Shape.TheVariants as shape
+use Rattle.pascal_values.specs.declared.value.Shape.TheVariants.{outs-Int as outs-IntShape}
+use Rattle.pascal_values.specs.declared.value.Shape.{Shape}
+use Rattle.pascal_values.specs.Integers.{is_between}
+use Rattle.pascal_values.specs.Shapes.{is_within, fit_of, blank_of}
+use Rattle.pascal_values.proofs.ShapeLemmas.{within_out, blank_out}
+use Rattle.estelle_model.specs.declared.denoter.Host.{Host}
+use Rattle.estelle_model.specs.declared.denoter.Host.TheVariants as host
+use Rattle.estelle_model.specs.declared.denoter.Denoter.{fold_out-Denoter}
+use Rattle.estelle_model.specs.declared.denoter.Denoter.TheVariants as denoter
+use Rattle.estelle_model.specs.declared.denoter.Denoter.TheVariants.{outs-Ordinal}
+use Rattle.estelle_model.specs.Types.{shape_of, shape_step, ordinal_shape}
+
+pub shape_ordinal : (h : Host) (low high : ℤ) → shape_of (denoter.Ordinal h low high) ≡ ordinal_shape h low high
+unfolding shape_of
+shape_ordinal h low high = fold_out-Denoter Shape shape_step (denoter.Ordinal h low high) ∙ simp (outs-Ordinal)
+
+pub within_int : (low high n : ℤ) → is_within (shape.Int low high) (pascal.Int n) ≡ is_between low high n
+within_int low high n = within_out (shape.Int low high) (pascal.Int n) ∙ simp (outs-IntShape, outs-Int)
+
+-- a number fits a subrange of integer where it lies between the bounds
+pub fit_int : (low high n : ℤ) → fit_of (shape_of (denoter.Ordinal host.Integer low high)) (pascal.Int n) ≡ (if is_between low high n then Ok tt else Err fault.Range)
+fit_int low high n = simp (outs-Int, shape_ordinal, within_int)
+
+-- a variable of a subrange of integer begins unset
+pub blank_int : (low high : ℤ) → blank_of (shape.Int low high) ≡ pascal.Unset
+blank_int low high = blank_out (shape.Int low high) ∙ simp (outs-IntShape)

@@ -1,0 +1,31 @@
+-- ---- one layer of a tree at a time
+pub mod ExpressionEquations
+pub mod StatementEquations
+-- ---- steps on two states that show the same do alike
+pub mod Alike
+pub mod AlikePlaces
+pub mod AlikeOperands
+pub mod AlikeExpressions
+pub mod AlikeStatements
+pub mod AlikeCalls
+pub mod AlikeActions
+pub mod AlikeFirings
+-- ---- loops, units and frames
+pub mod LoopLaws
+pub mod Units
+pub mod UnitsOfExpressions
+pub mod UnitsOfBlocks
+pub mod UnitsOfActions
+pub mod FrameLemmas
+-- ---- examples
+pub mod Trees
+pub mod Forms
+pub mod Points
+pub mod Fitting
+pub mod WorkedExpressions
+pub mod WorkedStatements
+pub mod WorkedCalls
+pub mod WorkedFaults
+pub mod WorkedActions
+pub mod WorkedNames
+pub mod WorkedFiring

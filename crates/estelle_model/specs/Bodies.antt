@@ -1,0 +1,208 @@
+-- The bodies of a specification, and what is declared in each (ISO/IEC 9074).
+use Rattle.std.specs.Prelude.{ℕ, suc, ◌+◌, Bool, true, false, List, [], ◌∷◌, ◌++◌, length, map, replicate, flat_map, option_to_list, Option, Some, None}
+use Rattle.estelle_tree.specs.declared.tree.name.Name.{Name}
+use Rattle.estelle_tree.specs.declared.tree.clause.Block.{Block}
+use Rattle.estelle_tree.specs.declared.tree.clause.Clause.{Clause}
+use Rattle.estelle_tree.specs.declared.tree.clause.TransBody.{TransBody}
+use Rattle.estelle_tree.specs.declared.tree.clause.TransBody.TheOpen.{TransBody-F, Group-F}
+use Rattle.estelle_tree.specs.declared.tree.clause.TransBody.TheFolds.{fold-TransBody}
+use Rattle.estelle_tree.specs.declared.tree.specification.Disc.{Disc}
+use Rattle.estelle_tree.specs.declared.tree.specification.Disc.TheVariants as disc
+use Rattle.estelle_tree.specs.declared.tree.specification.Head.{Head}
+use Rattle.estelle_tree.specs.declared.tree.specification.Head.TheVariants as head
+use Rattle.estelle_tree.specs.declared.tree.specification.Header.{Header as HeaderTree}
+use Rattle.estelle_tree.specs.declared.tree.specification.IpDecl.{IpDecl}
+use Rattle.estelle_tree.specs.declared.tree.specification.StatesetDef.{StatesetDef}
+use Rattle.estelle_tree.specs.declared.tree.specification.Init.{Init}
+use Rattle.estelle_tree.specs.declared.tree.specification.Trans.{Trans}
+use Rattle.estelle_tree.specs.declared.tree.specification.Parts.{Parts}
+use Rattle.estelle_tree.specs.declared.tree.specification.Decl.TheOpen.{Decl-F, Body-F, Parts-F}
+use Rattle.estelle_tree.specs.declared.tree.specification.Decl.TheFolds.{fold-Parts}
+use Rattle.estelle_tree.specs.declared.tree.specification.Spec.{Spec}
+use Rattle.estelle_model.specs.declared.denoter.Denoter.{Denoter}
+use Rattle.estelle_model.specs.Meant.{Heading, Meaning, Meanings, Own, Exported, Module, Ip, State, StateSet, Header, Body}
+use Rattle.estelle_model.specs.Denoted.{Declaration, Declarations, declare, numbered, Section, types_declare, sections_declare, section_types, count_names, section}
+use Rattle.estelle_model.specs.Definitions.{const_def, type_def, routine_declares, parameter_sections, channel_declares, block_declares}
+
+-- ---- the ways from `trans` to the blocks
+
+-- a block, with the clauses on the way to it
+pub record Way : Type 0 where
+  pub clauses : List Clause
+  pub block : Block
+
+abbrev pub behind : Clause → Way → Way
+behind c w = record { clauses = c ∷ w.clauses; block = w.block }
+
+abbrev pub trans_body_layer : TransBody-F (List Way) (List Way) → List Way
+trans_body_layer (TransBody-F.Block b) = record { clauses = []; block = b } ∷ []
+trans_body_layer (TransBody-F.Groups groups span) = flat_map (λ ws. ws) groups
+
+abbrev pub group_layer : Group-F (List Way) (List Way) → List Way
+group_layer g = map (behind g.clause) g.body
+
+-- in text order
+unfoldable pub ways : TransBody → List Way
+ways = fold-TransBody (List Way) (List Way) trans_body_layer group_layer
+
+-- ---- bodies as they stand
+
+-- what a declaration brings to the body in which it stands
+pub record Brought : Type 0 where
+  pub names : Declarations
+  pub variables : List Section
+  pub module_variables : List Name
+  pub ips : List IpDecl
+  pub states : List Name
+
+abbrev pub nothing : Brought
+nothing = record { names = []; variables = []; module_variables = []; ips = []; states = [] }
+
+-- a specification or a body, without the bodies in it
+pub record Standing : Type 0 where
+  -- none for the specification
+  pub name : Option Name
+  pub header : Option Name
+  pub brought : List Brought
+  pub init : Option Init
+  pub trans : List Trans
+
+-- which queue an interaction point has: its own discipline, or else the specification's, or else its own queue
+abbrev pub is_common : Bool → Option Disc → Bool
+is_common by_default None = by_default
+is_common by_default (Some (disc.Individual span)) = false
+is_common by_default (Some (disc.Common span)) = true
+
+abbrev pub default_of : List Head → Bool
+default_of [] = false
+default_of (head.Default d span ∷ more) = is_common false (Some d)
+default_of (head.Timescale unit span ∷ more) = default_of more
+
+abbrev pub ips_common : Bool → List IpDecl → List Bool
+ips_common by_default = flat_map (λ d. replicate (length d.names.names) (is_common by_default d.disc))
+
+abbrev pub ip_names : List IpDecl → List Name
+ip_names = flat_map (λ d. d.names.names)
+
+abbrev pub export_sections : HeaderTree → List Section
+export_sections h = map section h.exports
+
+-- the parameters, the exported variables and the interaction points of a header are those of an instance of each of its bodies
+abbrev pub header_declares : Bool → HeaderTree → Declarations
+header_declares by_default h =
+    types_declare (export_sections h)
+    ++ sections_declare (λ known n t. Own n t) 0 (parameter_sections h.params)
+    ++ sections_declare (λ known n t. Exported n t) (count_names (parameter_sections h.params)) (export_sections h)
+    ++ numbered (λ n known. Ip n) 0 (ip_names h.ips)
+    ++ declare h.name (λ known. Header (record {
+      parameters = section_types known (parameter_sections h.params);
+      exports = section_types known (export_sections h);
+      ips = ips_common by_default h.ips;
+    })) ∷ []
+
+abbrev pub numbers_of : Meaning → List ℕ
+numbers_of (State k) = k ∷ []
+numbers_of (StateSet ks) = ks
+numbers_of _ = []
+
+-- the states that names of states and of state sets stand for
+abbrev pub states_named : Meanings → List Name → List ℕ
+states_named known = flat_map (λ x. numbers_of (known x))
+
+abbrev pub stateset_declares : StatesetDef → Declaration
+stateset_declares d = declare d.name (λ known. StateSet (states_named known d.states.names))
+
+-- by_default : whether interaction points share the common queue where they name none
+module _ (by_default : Bool) where
+  abbrev pub decl_layer : Decl-F (Brought × List Standing) (List Standing) (List Standing) → Brought × List Standing
+  decl_layer (Decl-F.Const defs span) = (record nothing { names = flat_map const_def defs }, [])
+  decl_layer (Decl-F.Types defs span) = (record nothing { names = flat_map type_def defs }, [])
+  decl_layer (Decl-F.Channel c) = (record nothing { names = channel_declares c }, [])
+  decl_layer (Decl-F.Header h) = (record nothing { names = header_declares by_default h }, [])
+  decl_layer (Decl-F.Body bodies) = (nothing, bodies)
+  decl_layer (Decl-F.Ip ips span) = (record nothing { ips = ips }, [])
+  decl_layer (Decl-F.Modvar ms span) = (record nothing { module_variables = flat_map (λ m. m.names.names) ms }, [])
+  decl_layer (Decl-F.Var vars span) = (record nothing { names = types_declare (map section vars); variables = map section vars }, [])
+  decl_layer (Decl-F.State states span) = (record nothing { states = states.names }, [])
+  decl_layer (Decl-F.Stateset sets span) = (record nothing { names = map stateset_declares sets }, [])
+  decl_layer (Decl-F.Routine r) = (record nothing { names = routine_declares r }, [])
+
+  abbrev pub headed : Name → Name → List Standing → List Standing
+  headed x h [] = []
+  headed x h (b ∷ inner) = record b { name = Some x; header = Some h } ∷ inner
+
+  abbrev pub body_layer : Body-F (Brought × List Standing) (List Standing) (List Standing) → List Standing
+  body_layer b = headed b.name b.header b.parts
+
+  abbrev pub parts_layer : Parts-F (Brought × List Standing) (List Standing) (List Standing) → List Standing
+  parts_layer ps = record { name = None; header = None; brought = map (λ d. d.0) ps.decls; init = ps.init; trans = ps.trans } ∷ flat_map (λ d. d.1) ps.decls
+
+  -- what stands between `specification` and its end: the specification itself, and then the bodies in it in text order
+  unfoldable pub standings : Parts → List Standing
+  standings = fold-Parts (Brought × List Standing) (List Standing) (List Standing) decl_layer body_layer parts_layer
+
+-- the specification has the number 0, and the bodies have the numbers from 1 on
+abbrev pub bodies : Spec → List Standing
+bodies spec = standings (default_of spec.heads) spec.parts
+
+-- ---- what is declared in a body
+
+abbrev pub no_heading : Heading
+no_heading = record { parameters = []; exports = []; ips = [] }
+
+abbrev pub heading_of : Meaning → Heading
+heading_of (Header h) = h
+heading_of _ = no_heading
+
+-- the header of a body; the specification has none
+abbrev pub heading : Meanings → Option Name → Heading
+heading known None = no_heading
+heading known (Some x) = heading_of (known x)
+
+abbrev pub variables_in : Standing → List Section
+variables_in b = flat_map (λ d. d.variables) b.brought
+
+abbrev pub module_variables_in : Standing → List Name
+module_variables_in b = flat_map (λ d. d.module_variables) b.brought
+
+abbrev pub states_in : Standing → List Name
+states_in b = flat_map (λ d. d.states) b.brought
+
+abbrev pub ips_in : Standing → List IpDecl
+ips_in b = flat_map (λ d. d.ips) b.brought
+
+-- the types of the variables of an instance: the header's parameters, its exported variables, then the body's own
+abbrev pub variable_types : Meanings → Standing → List Denoter
+variable_types known b = (heading known b.header).parameters ++ (heading known b.header).exports ++ section_types known (variables_in b)
+
+-- of each interaction point of an instance, whether it shares the common queue: the external ones of the header, then the body's own
+abbrev pub ips_of_body : Meanings → Bool → Standing → List Bool
+ips_of_body known by_default b = (heading known b.header).ips ++ ips_common by_default (ips_in b)
+
+-- the number of the first variable that is the body's own
+abbrev pub own_from : Meanings → Standing → ℕ
+own_from known b = length ((heading known b.header).parameters ++ (heading known b.header).exports)
+
+abbrev pub ways_of : Standing → List Way
+ways_of b = flat_map (λ t. ways t.body) b.trans
+
+abbrev pub name_declares : ℕ → Option Name → Declarations
+name_declares k None = []
+name_declares k (Some x) = declare x (λ known. Body k) ∷ []
+
+-- what is declared in the body with a number
+abbrev pub body_declares : ℕ → Standing → Declarations
+body_declares k b =
+    numbered (λ n known. State n) 0 (states_in b)
+    ++ flat_map (λ d. d.names) b.brought
+    ++ sections_declare (λ known n t. Own (own_from known b + n) t) 0 (variables_in b)
+    ++ numbered (λ n known. Module n) 0 (module_variables_in b)
+    ++ numbered (λ n known. Ip (length (heading known b.header).ips + n)) 0 (ip_names (ips_in b))
+    ++ flat_map (λ i. block_declares [] i.block) (option_to_list b.init)
+    ++ flat_map (λ w. block_declares w.clauses w.block) (ways_of b)
+    ++ name_declares k b.name
+
+-- what is declared in bodies one after another, an outer one before those in it
+abbrev pub bodies_declare : ℕ → List Standing → Declarations
+bodies_declare k [] = []
+bodies_declare k (b ∷ bs) = body_declares k b ++ bodies_declare (suc k) bs

@@ -1,0 +1,123 @@
+-- What definitions, routines, blocks and headers declare (ISO 7185, 6.2 and 6.6; ISO/IEC 9074).
+use Rattle.std.specs.Prelude.{ℕ, ◌+◌, not, if◌then◌else◌, List, [], ◌∷◌, ◌++◌, length, map, replicate, filter, flat_map, option_to_list, Option, Some, None}
+use Rattle.estelle_tree.specs.declared.tree.name.Name.{Name}
+use Rattle.estelle_tree.specs.declared.tree.declaration.ConstDef.{ConstDef}
+use Rattle.estelle_tree.specs.declared.tree.declaration.TypeDef.{TypeDef}
+use Rattle.estelle_tree.specs.declared.tree.declaration.BlockDecl.{BlockDecl}
+use Rattle.estelle_tree.specs.declared.tree.declaration.BlockDecl.TheVariants as block_decl
+use Rattle.estelle_tree.specs.declared.tree.declaration.Formal.{Formal}
+use Rattle.estelle_tree.specs.declared.tree.declaration.Formals.{Formals}
+use Rattle.estelle_tree.specs.declared.tree.declaration.Routine.{Routine as RoutineTree}
+use Rattle.estelle_tree.specs.declared.tree.declaration.RoutineForm.{RoutineForm}
+use Rattle.estelle_tree.specs.declared.tree.declaration.RoutineForm.TheVariants as form
+use Rattle.estelle_tree.specs.declared.tree.clause.Block.{Block}
+use Rattle.estelle_tree.specs.declared.tree.clause.AnyDom.{AnyDom}
+use Rattle.estelle_tree.specs.declared.tree.clause.Clause.{Clause}
+use Rattle.estelle_tree.specs.declared.tree.clause.Clause.TheVariants as clause
+use Rattle.estelle_tree.specs.declared.tree.specification.Channel.{Channel}
+use Rattle.estelle_tree.specs.declared.tree.specification.Inter.{Inter}
+use Rattle.estelle_tree.specs.declared.tree.specification.Params.{Params}
+use Rattle.estelle_model.specs.declared.denoter.Denoter.{Denoter}
+use Rattle.estelle_model.specs.Meant.{Passing, ByValue, ByPlace, Meaning, Meanings, TypeName, Local, Var, Called, Interaction}
+use Rattle.estelle_model.specs.Constants.{const_meaning}
+use Rattle.estelle_model.specs.Denoted.{Declarations, declare, named_type, ordinal_declares, Section, types_declare, sections_declare, section_types, typing, section, of_named_type}
+
+-- ---- constant and type definitions, and variables (ISO 7185, 6.3 to 6.5)
+
+abbrev pub const_def : ConstDef → Declarations
+const_def d = declare d.name (λ known. const_meaning known d.value) ∷ []
+
+abbrev pub type_def : TypeDef → Declarations
+type_def d = (typing d.type_expr).declares ++ declare d.name (λ known. TypeName ((typing d.type_expr).denotes known)) ∷ []
+
+-- what a definition part declares, but for its variables themselves
+abbrev pub definitions : BlockDecl → Declarations
+definitions (block_decl.Const defs span) = flat_map const_def defs
+definitions (block_decl.Types defs span) = flat_map type_def defs
+definitions (block_decl.Var vars span) = types_declare (map section vars)
+
+abbrev pub variables_of : BlockDecl → List Section
+variables_of (block_decl.Var vars span) = map section vars
+variables_of _ = []
+
+abbrev pub local_variables : List BlockDecl → List Section
+local_variables = flat_map variables_of
+
+abbrev pub local : Meanings → ℕ → Denoter → Meaning
+local known n t = Local n t
+
+-- ---- routines (6.6.1, 6.6.2)
+
+abbrev pub formals_of : Option Formals → List Formal
+formals_of fs = flat_map (λ x. x.formals) (option_to_list fs)
+
+abbrev pub formal_section : Formal → Section
+formal_section f = of_named_type f.names.names f.type_name
+
+abbrev pub value_formals : RoutineTree → List Section
+value_formals r = map formal_section (filter (λ f. not f.is_var) (formals_of r.formals))
+
+abbrev pub var_formals : RoutineTree → List Section
+var_formals r = map formal_section (filter (λ f. f.is_var) (formals_of r.formals))
+
+-- one for each name
+abbrev pub passings : Meanings → Formal → List Passing
+passings known f = replicate (length f.names.names) (if f.is_var then ByPlace else ByValue (named_type known f.type_name))
+
+abbrev pub result_type : Meanings → RoutineForm → Option Denoter
+result_type known form.Procedure = None
+result_type known (form.Function x) = Some (named_type known x)
+
+abbrev pub routine_meaning : RoutineTree → Meanings → Meaning
+routine_meaning r known = Called (record {
+  parameters = flat_map (passings known) (formals_of r.formals);
+  locals = section_types known (local_variables r.decls);
+  result = result_type known r.form;
+  body = r.body;
+})
+
+-- the value parameters and the routine's own variables have rising numbers, and so have the var parameters
+abbrev pub routine_declares : RoutineTree → Declarations
+routine_declares r =
+    flat_map definitions r.decls
+    ++ sections_declare local 0 (value_formals r ++ local_variables r.decls)
+    ++ sections_declare (λ known n t. Var n t) 0 (var_formals r)
+    ++ declare r.name (routine_meaning r) ∷ []
+
+-- ---- channels, headers and their parameters (ISO/IEC 9074)
+
+abbrev pub parameter_sections : Option Params → List Section
+parameter_sections ps = flat_map (λ x. map (λ g. of_named_type g.names.names g.type_name) x.groups) (option_to_list ps)
+
+-- the parameters of an interaction are the first variables of the frame in which it is received
+abbrev pub inter_declares : Inter → Declarations
+inter_declares x = sections_declare local 0 (parameter_sections x.params) ++ declare x.name (λ known. Interaction (section_types known (parameter_sections x.params))) ∷ []
+
+abbrev pub channel_declares : Channel → Declarations
+channel_declares c = flat_map (λ g. flat_map inter_declares g.inters) c.groups
+
+-- ---- blocks and clauses
+
+abbrev pub types_received : Meaning → List Denoter
+types_received (Interaction ts) = ts
+types_received _ = []
+
+-- the interaction of a `when` clause
+abbrev pub interaction_of : Clause → List Name
+interaction_of (clause.When ip x params span) = x ∷ []
+interaction_of _ = []
+
+-- the types of the parameters of the interaction that is received under these clauses
+abbrev pub received : Meanings → List Clause → List Denoter
+received known cs = flat_map (λ x. types_received (known x)) (flat_map interaction_of cs)
+
+abbrev pub domains_of : Clause → List AnyDom
+domains_of (clause.Any domains span) = domains
+domains_of _ = []
+
+-- a block under these clauses: its own variables are numbered behind the parameters of the interaction
+abbrev pub block_declares : List Clause → Block → Declarations
+block_declares cs b =
+    flat_map (λ d. ordinal_declares d.domain) (flat_map domains_of cs)
+    ++ flat_map definitions b.decls
+    ++ sections_declare (λ known n t. Local (length (received known cs) + n) t) 0 (local_variables b.decls)

@@ -1,0 +1,34 @@
+-- ---- the state of a run, as far as blocks reach it
+pub mod Paths
+pub mod Links
+pub mod Core
+pub mod Effects
+pub mod States
+-- ---- types, values and operators
+pub mod Types
+pub mod Operators
+-- ---- what names mean
+pub mod Meant
+pub mod Constants
+pub mod Denoted
+pub mod Definitions
+pub mod Bodies
+pub mod Names
+pub mod Transitions
+pub mod Subject
+-- ---- what expressions, statements, blocks and clauses mean
+pub mod Steps
+pub mod Places
+pub mod Expressions
+pub mod Loops
+pub mod Statements
+pub mod Calls
+pub mod Actions
+pub mod Blocks
+pub mod Clauses
+-- ---- situations
+pub mod Situation
+pub mod Queues
+pub mod Firing
+pub mod Legal
+pub mod Jobs

@@ -1,0 +1,154 @@
+-- The operators and the required functions (ISO 7185, 6.7.2 and 6.6.6).
+use Rattle.std.specs.Prelude.{ℕ, nat_abs, Bool, not, ◌&&◌, if◌then◌else◌, List, [], ℤ, pos, ◌+ℤ◌, ◌-ℤ◌, Result, Ok, Err}
+use Rattle.std.specs.Int.RustNames.{int_le}
+use Rattle.pascal_values.specs.declared.fault.Fault.{Fault}
+use Rattle.pascal_values.specs.declared.fault.Fault.TheVariants.{Unset, Overflow, Range}
+use Rattle.pascal_values.specs.declared.value.Value.{Value, out-Value}
+use Rattle.pascal_values.specs.declared.value.Value.TheVariants as value
+use Rattle.pascal_values.specs.declared.value.Value.TheOpen.{Value-F}
+use Rattle.pascal_values.specs.declared.value.Relation.{Relation as Comparing}
+use Rattle.pascal_values.specs.declared.value.Relation.TheVariants as comparing
+use Rattle.pascal_values.specs.Integers.{is_between, sum_of, difference_of, product_of, quotient_of, remainder_of}
+use Rattle.pascal_values.specs.Sets.{is_member, union, intersection, difference, interval}
+use Rattle.pascal_values.specs.Order.{compares}
+use Rattle.estelle_tree.specs.declared.tree.type_expr.Sign.{Sign}
+use Rattle.estelle_tree.specs.declared.tree.type_expr.Sign.TheVariants as sign
+use Rattle.estelle_tree.specs.declared.tree.expression.Relation.{Relation}
+use Rattle.estelle_tree.specs.declared.tree.expression.Relation.TheVariants as relation
+use Rattle.estelle_model.specs.declared.denoter.Host.{Host}
+use Rattle.estelle_model.specs.declared.denoter.Host.TheVariants as host
+use Rattle.estelle_model.specs.Types.{least, greatest, ordinal_of, value_of}
+
+-- ---- operands. An accepted tree has none of another kind; here it counts as unset.
+
+infixl 10 ◌>>>◌
+abbrev pub ◌>>>◌ : {A B : Type 0} → Result A Fault → (A → Result B Fault) → Result B Fault
+(Ok a) >>> f = f a
+(Err e) >>> f = Err e
+
+abbrev pub int_at : Value-F Value → Result ℤ Fault
+int_at (Value-F.Int n) = Ok n
+int_at _ = Err Unset
+
+abbrev pub int_of : Value → Result ℤ Fault
+int_of v = int_at (out-Value v)
+
+abbrev pub bool_at : Value-F Value → Result Bool Fault
+bool_at (Value-F.Bool b) = Ok b
+bool_at _ = Err Unset
+
+abbrev pub bool_of : Value → Result Bool Fault
+bool_of v = bool_at (out-Value v)
+
+abbrev pub set_at : Value-F Value → Result (List ℕ) Fault
+set_at (Value-F.Set ns) = Ok ns
+set_at _ = Err Unset
+
+abbrev pub set_of_value : Value → Result (List ℕ) Fault
+set_of_value v = set_at (out-Value v)
+
+abbrev pub an_int : Result ℤ Fault → Result Value Fault
+an_int r = r >>> λ n. Ok (value.Int n)
+
+abbrev pub two_ints : (ℤ → ℤ → Result ℤ Fault) → Value → Value → Result Value Fault
+two_ints f v w = int_of v >>> λ m. int_of w >>> λ n. an_int (f m n)
+
+-- an operator that is one of integers, or of sets where the left operand is a set
+abbrev pub by_kind : (ℤ → ℤ → Result ℤ Fault) → (List ℕ → List ℕ → List ℕ) → Value → Value → Value-F Value → Result Value Fault
+by_kind on_ints on_sets v w (Value-F.Set a) = set_of_value w >>> λ b. Ok (value.Set (on_sets a b))
+by_kind on_ints on_sets v w _ = two_ints on_ints v w
+
+-- ---- operators that evaluate both operands
+
+unfoldable pub plus : Value → Value → Result Value Fault
+plus v w = by_kind sum_of union v w (out-Value v)
+
+unfoldable pub minus : Value → Value → Result Value Fault
+minus v w = by_kind difference_of difference v w (out-Value v)
+
+unfoldable pub times : Value → Value → Result Value Fault
+times v w = by_kind product_of intersection v w (out-Value v)
+
+unfoldable pub divided : Value → Value → Result Value Fault
+divided v w = two_ints quotient_of v w
+
+unfoldable pub modulo : Value → Value → Result Value Fault
+modulo v w = two_ints remainder_of v w
+
+-- a sign in front of a term
+unfoldable pub signed : Sign → Value → Result Value Fault
+signed sign.Plus v = an_int (int_of v)
+signed sign.Minus v = int_of v >>> λ n. an_int (difference_of (pos 0) n)
+
+unfoldable pub negation : Value → Result Value Fault
+negation v = bool_of v >>> λ b. Ok (value.Bool (not b))
+
+-- `in`: no ordinal outside 0..255 is a member
+abbrev pub contains : ℤ → List ℕ → Bool
+contains n ns = is_between (pos 0) (pos 255) n && is_member (nat_abs n) ns
+
+abbrev pub compared : Comparing → Value → Value → Result Value Fault
+compared op v w = Ok (value.Bool (compares op v w))
+
+unfoldable pub related : Relation → Value → Value → Result Value Fault
+related relation.Equal v w = compared comparing.Eq v w
+related relation.NotEqual v w = compared comparing.Ne v w
+related relation.Less v w = compared comparing.Lt v w
+related relation.AtMost v w = compared comparing.Le v w
+related relation.Greater v w = compared comparing.Gt v w
+related relation.AtLeast v w = compared comparing.Ge v w
+related relation.Member v w = ordinal_of v >>> λ n. set_of_value w >>> λ ns. Ok (value.Bool (contains n ns))
+
+-- ---- members of a set constructor (ISO 7185, 6.7.1)
+
+abbrev pub in_base : ℤ → Bool
+in_base n = is_between (pos 0) (pos 255) n
+
+-- one member
+unfoldable pub one_member : ℤ → Result (List ℕ) Fault
+one_member n = if in_base n then Ok (interval (nat_abs n) (nat_abs n)) else Err Range
+
+-- `a..b`, which has no member where a is greater than b
+unfoldable pub members_from : ℤ → ℤ → Result (List ℕ) Fault
+members_from a b = if int_le a b then (if in_base a && in_base b then Ok (interval (nat_abs a) (nat_abs b)) else Err Range) else Ok []
+
+-- ---- required functions
+
+pub data Required : Type 0 where
+  Abs : Required
+  Sqr : Required
+  Odd : Required
+  Succ : Required
+  Pred : Required
+  Ord : Required
+  Chr : Required
+
+-- beyond its host type there is no value: of integers that is Overflow, of other types Range
+abbrev pub beyond : Host → Fault
+beyond host.Integer = Overflow
+beyond _ = Range
+
+-- the value of a host type with an ordinal, if there is one
+abbrev pub stepped : Host → ℤ → Result Value Fault
+stepped h n = if is_between (least h) (greatest h) n then Ok (value_of h n) else Err (beyond h)
+
+abbrev pub is_odd : ℤ → Result Bool Fault
+is_odd n = remainder_of n (pos 2) >>> λ r. Ok (is_between (pos 1) (pos 1) r)
+
+-- what a required function gives of an argument whose type has this host
+unfoldable pub required_value : Required → Host → Value → Result Value Fault
+required_value Abs h v = int_of v >>> λ n. an_int (Ok (pos (nat_abs n)))
+required_value Sqr h v = int_of v >>> λ n. an_int (product_of n n)
+required_value Odd h v = int_of v >>> λ n. is_odd n >>> λ b. Ok (value.Bool b)
+required_value Succ h v = ordinal_of v >>> λ n. stepped h (n +ℤ pos 1)
+required_value Pred h v = ordinal_of v >>> λ n. stepped h (n -ℤ pos 1)
+required_value Ord h v = an_int (ordinal_of v)
+required_value Chr h v = int_of v >>> λ n. stepped host.Char n
+
+-- the host type of a required function's result
+abbrev pub required_host : Required → Host → Host
+required_host Odd h = host.Boolean
+required_host Succ h = h
+required_host Pred h = h
+required_host Chr h = host.Char
+required_host _ h = host.Integer

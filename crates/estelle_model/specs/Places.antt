@@ -1,0 +1,74 @@
+-- Places: where a variable's value, or a part of it, is kept; and how it is read and stored (ISO 7185, 6.5).
+use Rattle.std.specs.Prelude.{ℕ, if◌then◌else◌, List, [], ◌∷◌, ◌++◌, slice_get, Option, Some, None, Result, Ok, Err}
+use Rattle.std.specs.FinMap as map
+use Rattle.pascal_values.specs.declared.fault.Fault.{Fault}
+use Rattle.pascal_values.specs.declared.fault.Fault.TheVariants.{Unset, NoModule}
+use Rattle.pascal_values.specs.declared.value.Value.{Value}
+use Rattle.pascal_values.specs.Values.{into, part_of, changed_at, with_part}
+use Rattle.pascal_values.specs.Shapes.{is_unset, fit_of}
+use Rattle.estelle_model.specs.declared.denoter.Denoter.{Denoter}
+use Rattle.estelle_model.specs.Types.{shape_of}
+use Rattle.estelle_model.specs.Paths.{Path}
+use Rattle.estelle_model.specs.Core.{Instance}
+use Rattle.estelle_model.specs.Effects.{Store}
+use Rattle.estelle_model.specs.States.{Offers}
+use Rattle.estelle_model.specs.Steps.{Running, Step, Do, ◌>>◌, checked, checked_at}
+
+pub data Place : Type 0 where
+  -- a part of a variable of an instance
+  Of : (path : Path) (variable : ℕ) (way : List ℕ) → Place
+  -- a part of a variable of a block or routine that runs
+  In : (frame variable : ℕ) (way : List ℕ) → Place
+
+-- the part of it that a number tells
+abbrev pub deeper : Place → ℕ → Place
+deeper (Of p x way) k = Of p x (way ++ k ∷ [])
+deeper (In f x way) k = In f x (way ++ k ∷ [])
+
+abbrev pub of_variables : Option Instance → ℕ → List ℕ → Result (Option Value) Fault
+of_variables None x way = Err NoModule
+of_variables (Some i) x way = Ok (into (slice_get i.variables x) (λ v. part_of v way))
+
+-- a value that is set: a simple value or a set that is not, is Unset; an array or record may have parts that are not
+abbrev pub set_value : Option Value → Result Value Fault
+set_value None = Err Unset
+set_value (Some v) = if is_unset v then Err Unset else Ok v
+
+abbrev pub known : Result (Option Value) Fault → Result Value Fault
+known (Ok v) = set_value v
+known (Err e) = Err e
+
+abbrev pub held_in : Option (Option Path) → Result Path Fault
+held_in (Some (Some p)) = Ok p
+held_in _ = Err NoModule
+
+abbrev pub module_variables_of : Option Instance → List (Option Path)
+module_variables_of None = []
+module_variables_of (Some i) = i.module_variables
+
+module _ (S : Type 0) (on : Offers S) where
+  -- what stands at a place, if it is a place; NoModule where its instance is gone
+  abbrev pub held : Place → Running S → Result (Option Value) Fault
+  held (Of p x way) s = of_variables (map.get (on.core s.state).instances p) x way
+  held (In f x way) s = Ok (into (slice_get s.frames f) (λ frame. part_of frame (x ∷ way)))
+
+  -- the value of a place
+  unfoldable pub load : Place → Step S Value
+  load place = λ s. checked_at (known (held place s)) s
+
+  abbrev pub put_at : Option Instance → Path → ℕ → List ℕ → Value → Do S
+  put_at None p x way v = λ s. Err (NoModule, s.left)
+  put_at (Some i) p x way v = λ s. Ok (tt, record s { state = on.keeps p (Store x way v) s.state })
+
+  -- puts a value at a place, fit or not
+  unfoldable pub put : Place → Value → Do S
+  put (Of p x way) v = λ s. put_at (map.get (on.core s.state).instances p) p x way v s
+  put (In f x way) v = λ s. Ok (tt, record s { frames = changed_at s.frames f (λ frame. with_part frame (x ∷ way) v) })
+
+  -- stores a value, which must fit the type: else Unset, or Range
+  unfoldable pub store : Denoter → Place → Value → Do S
+  store t place v = checked (fit_of (shape_of t) v) >> put place v
+
+  -- the child that a module variable of an instance holds; NoModule where it is empty
+  unfoldable pub child_step : Path → ℕ → Step S Path
+  child_step p m = λ s. checked_at (held_in (slice_get (module_variables_of (map.get (on.core s.state).instances p)) m)) s

@@ -1,0 +1,141 @@
+-- Statements (ISO 7185, 6.8), and what the statements of Estelle are given.
+use Rattle.std.specs.Prelude.{Bool, false, ◌||◌, if◌then◌else◌, List, [], ◌∷◌, Option, Some, None, ℤ, Result, Ok, Err}
+use Rattle.pascal_values.specs.declared.fault.Fault.{Fault}
+use Rattle.pascal_values.specs.declared.fault.Fault.TheVariants as fault
+use Rattle.pascal_values.specs.declared.value.Value.{Value}
+use Rattle.pascal_values.specs.declared.value.Value.TheVariants as pascal
+use Rattle.pascal_values.specs.Integers.{is_between}
+use Rattle.estelle_tree.specs.declared.tree.name.Name.{Name}
+use Rattle.estelle_tree.specs.declared.tree.type_expr.Const.{Const}
+use Rattle.estelle_tree.specs.declared.tree.expression.Expr.{Expr}
+use Rattle.estelle_tree.specs.declared.tree.expression.Args.{Args}
+use Rattle.estelle_tree.specs.declared.tree.expression.Variable.{Variable}
+use Rattle.estelle_tree.specs.declared.tree.statement.Direction.{Direction}
+use Rattle.estelle_tree.specs.declared.tree.statement.Ip.{Ip}
+use Rattle.estelle_tree.specs.declared.tree.statement.Stmt.{Stmt}
+use Rattle.estelle_tree.specs.declared.tree.statement.Stmts.{Stmts}
+use Rattle.estelle_tree.specs.declared.tree.statement.Case.{Case}
+use Rattle.estelle_tree.specs.declared.tree.statement.Stmt.TheOpen.{Stmt-F, Case-F, Stmts-F}
+use Rattle.estelle_tree.specs.declared.tree.statement.Stmt.TheFolds.{fold-Stmt, fold-Case, fold-Stmts}
+use Rattle.estelle_model.specs.Types.{ordinal_of, value_of, host_of}
+use Rattle.estelle_model.specs.Operators.{◌>>>◌}
+use Rattle.estelle_model.specs.Constants.{constant_of}
+use Rattle.estelle_model.specs.States.{Offers}
+use Rattle.estelle_model.specs.Steps.{Step, Do, ◌>>=◌, pure, fail, all}
+use Rattle.estelle_model.specs.Meant.{Meaning, Meanings, Called}
+use Rattle.estelle_model.specs.Places.{put, store}
+use Rattle.estelle_model.specs.Expressions.{Here, Call, Operand, Access, bool_step, ordinal_step, give_all, no_arguments, expr, args, target, accessed}
+use Rattle.estelle_model.specs.Loops.{while_loop, repeat_loop, count_loop}
+
+-- the statements of Estelle (ISO/IEC 9074), with their arguments as expressions
+pub data Action (S : Type 0) : Type 0 where
+  Init : (module_variable body : Name) (arguments : List (Operand S)) → Action S
+  Release : (module_variable : Name) → Action S
+  Connect : (first second : Ip) → Action S
+  Disconnect : (a : Ip) → Action S
+  Attach : (own module_variable ip : Name) → Action S
+  Detach : (own : Name) → Action S
+  Output : (ip interaction : Name) (arguments : List (Operand S)) → Action S
+
+-- ---- labels
+
+abbrev pub has_ordinal : ℤ → Result ℤ Fault → Bool
+has_ordinal n (Ok m) = is_between n n m
+has_ordinal n (Err e) = false
+
+-- one of the labels is the value with this ordinal
+abbrev pub is_labelled : Meanings → ℤ → List Const → Bool
+is_labelled meant n [] = false
+is_labelled meant n (c ∷ cs) = has_ordinal n (constant_of meant c >>> ordinal_of) || is_labelled meant n cs
+
+-- the statement of the first case with the label; NoCase where there is none
+abbrev pub chosen : {S : Type 0} → Meanings → ℤ → List (List Const × Do S) → Do S
+chosen meant n [] = fail fault.NoCase
+chosen meant n (c ∷ cs) = if is_labelled meant n c.0 then c.1 else chosen meant n cs
+
+abbrev pub or_nothing : {S : Type 0} → Option (Do S) → Do S
+or_nothing None = pure tt
+or_nothing (Some p) = p
+
+-- act : what a statement of Estelle does
+module _ (S : Type 0) (on : Offers S) (meant : Meanings) (act : Here → Action S → Do S) (call : Call S) (here : Here) where
+  abbrev pub value_of_expr : Expr → Step S Value
+  value_of_expr e = (expr S on meant call here e).value
+
+  abbrev pub arguments : Option Args → List (Operand S)
+  arguments None = []
+  arguments (Some es) = args S on meant call here es
+
+  abbrev pub assign_to : Option (Access S) → Step S Value → Do S
+  assign_to None p = fail fault.Unset
+  assign_to (Some a) p = do
+    place ← a.place
+    v ← p
+    store S on a.denoter place v
+
+  -- the left side with its indices, then the right side, then the fit
+  unfoldable pub assign : Variable → Expr → Do S
+  assign v e = assign_to (target S on meant call here v) (value_of_expr e)
+
+  abbrev pub invoke_of : Meaning → List (Operand S) → Do S
+  invoke_of (Called r) es = do
+    given ← give_all r.parameters es no_arguments
+    result ← call r given
+    pure tt
+  invoke_of _ es = fail fault.Unset
+
+  unfoldable pub invoke : Name → Option Args → Do S
+  invoke x es = invoke_of (meant x) (arguments es)
+
+  unfoldable pub choose : Expr → Do S → Option (Do S) → Do S
+  choose test then_part else_part = do
+    b ← bool_step (value_of_expr test)
+    if b then then_part else or_nothing else_part
+
+  abbrev pub count_over : Option (Access S) → Step S ℤ → Direction → Step S ℤ → Do S → Do S
+  count_over None first dir last body = fail fault.Unset
+  count_over (Some a) first dir last body = do
+    m ← first
+    n ← last
+    place ← a.place
+    count_loop dir m n (λ k. store S on a.denoter place (value_of (host_of a.denoter) k)) (put S on place pascal.Unset) body
+
+  -- the bounds are evaluated once
+  unfoldable pub count : Name → Expr → Direction → Expr → Do S → Do S
+  count x first dir last body = count_over (accessed S on meant call here (meant x) []) (ordinal_step (value_of_expr first)) dir (ordinal_step (value_of_expr last)) body
+
+  unfoldable pub select : Expr → List (List Const × Do S) → Do S
+  select e cases = ordinal_step (value_of_expr e) >>= λ n. chosen meant n cases
+
+  abbrev pub stmt_layer : Stmt-F (Do S) (List Const × Do S) (Do S) → Do S
+  stmt_layer Stmt-F.Empty = pure tt
+  stmt_layer (Stmt-F.Assign v e span) = assign v e
+  stmt_layer (Stmt-F.Call x es span) = invoke x es
+  stmt_layer (Stmt-F.Begin body span) = body
+  stmt_layer (Stmt-F.If test then_part else_part span) = choose test then_part else_part
+  stmt_layer (Stmt-F.While test body span) = while_loop (bool_step (value_of_expr test)) body
+  stmt_layer (Stmt-F.Repeat body test span) = repeat_loop body (bool_step (value_of_expr test))
+  stmt_layer (Stmt-F.Count x first dir last body span) = count x first dir last body
+  stmt_layer (Stmt-F.Case e cases semicolon span) = select e cases
+  stmt_layer (Stmt-F.Init x b es span) = act here (Init x b (arguments es))
+  stmt_layer (Stmt-F.Release x span) = act here (Release x)
+  stmt_layer (Stmt-F.Connect a b span) = act here (Connect a b)
+  stmt_layer (Stmt-F.Disconnect a span) = act here (Disconnect a)
+  stmt_layer (Stmt-F.Attach p x q span) = act here (Attach p x q)
+  stmt_layer (Stmt-F.Detach p span) = act here (Detach p)
+  stmt_layer (Stmt-F.Output p m es span) = act here (Output p m (arguments es))
+
+  abbrev pub case_layer : Case-F (Do S) (List Const × Do S) (Do S) → List Const × Do S
+  case_layer c = (c.labels, c.body)
+
+  abbrev pub stmts_layer : Stmts-F (Do S) (List Const × Do S) (Do S) → Do S
+  stmts_layer x = all x.stmts
+
+  unfoldable pub stmt : Stmt → Do S
+  stmt = fold-Stmt (Do S) (List Const × Do S) (Do S) stmt_layer case_layer stmts_layer
+
+  unfoldable pub branch : Case → List Const × Do S
+  branch = fold-Case (Do S) (List Const × Do S) (Do S) stmt_layer case_layer stmts_layer
+
+  unfoldable pub stmts : Stmts → Do S
+  stmts = fold-Stmts (Do S) (List Const × Do S) (Do S) stmt_layer case_layer stmts_layer

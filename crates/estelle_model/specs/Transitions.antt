@@ -1,0 +1,142 @@
+-- The transitions of a body without nested clauses and without `any` (ISO/IEC 9074: flat transitions).
+use Rattle.std.specs.Prelude.{ℕ, zero, suc, List, [], ◌∷◌, map, flat_map, ℤ, pos, ◌+ℤ◌, Option, Some, None, Result, Ok, Err}
+use Rattle.pascal_values.specs.declared.fault.Fault.{Fault}
+use Rattle.pascal_values.specs.Shapes.{item_count}
+use Rattle.estelle_tree.specs.declared.tree.name.Name.{Name}
+use Rattle.estelle_tree.specs.declared.tree.expression.Expr.{Expr}
+use Rattle.estelle_tree.specs.declared.tree.clause.AnyDom.{AnyDom}
+use Rattle.estelle_tree.specs.declared.tree.clause.Block.{Block}
+use Rattle.estelle_tree.specs.declared.tree.clause.DelayHigh.{DelayHigh}
+use Rattle.estelle_tree.specs.declared.tree.clause.NextState.{NextState}
+use Rattle.estelle_tree.specs.declared.tree.clause.NextState.TheVariants as next
+use Rattle.estelle_tree.specs.declared.tree.clause.Clause.{Clause}
+use Rattle.estelle_tree.specs.declared.tree.clause.Clause.TheVariants as clause
+use Rattle.estelle_model.specs.declared.denoter.Denoter.{Denoter}
+use Rattle.estelle_model.specs.Types.{ordinal_of, value_of, host_of, range_of}
+use Rattle.estelle_model.specs.Operators.{◌>>>◌}
+use Rattle.estelle_model.specs.Meant.{Meaning, Meanings, Constant, Ip, State}
+use Rattle.estelle_model.specs.Constants.{constant_of}
+use Rattle.estelle_model.specs.Denoted.{Declarations, Declaration, declare, ordinal_type}
+use Rattle.estelle_model.specs.Definitions.{domains_of, received}
+use Rattle.estelle_model.specs.Bodies.{Way, Standing, ways_of, states_named}
+
+-- an interaction at an interaction point of the instance, by their number and name
+pub record When : Type 0 where
+  pub ip : ℕ
+  pub name : List ℕ
+
+-- what stands behind `delay`
+pub record Delay : Type 0 where
+  pub low : Expr
+  pub high : Option DelayHigh
+
+pub record Transition : Type 0 where
+  -- the states in which it is enabled; none stands for every state
+  pub from : Option (List ℕ)
+  -- the state after it; none keeps the state
+  pub to : Option ℕ
+  pub when : Option When
+  -- the types of the parameters of that interaction
+  pub received : List Denoter
+  pub provided : Option Expr
+  -- a smaller number is a higher priority
+  pub priority : Option ℤ
+  pub delay : Option Delay
+  -- the names of `any`, with the values that are chosen
+  pub chosen : Declarations
+  pub block : Block
+
+-- ---- the clauses on a way, on which each kind stands at most once
+
+abbrev pub or_first : {A : Type 0} → Option A → Option A → Option A
+or_first None more = more
+or_first (Some a) more = Some a
+
+-- what the first clause of a kind says
+abbrev pub said : {A : Type 0} → (Clause → Option A) → List Clause → Option A
+said by [] = None
+said by (c ∷ cs) = or_first (by c) (said by cs)
+
+module _ (known : Meanings) where
+  abbrev pub from_of : Clause → Option (List ℕ)
+  from_of (clause.From states span) = Some (states_named known states.names)
+  from_of _ = None
+
+  abbrev pub state_at : Meaning → Option ℕ
+  state_at (State k) = Some k
+  state_at _ = None
+
+  abbrev pub next_state : NextState → Option ℕ
+  next_state (next.Name x) = state_at (known x)
+  next_state next.Same = None
+
+  abbrev pub to_of : Clause → Option ℕ
+  to_of (clause.To state span) = next_state state
+  to_of _ = None
+
+  abbrev pub ip_at : Meaning → Name → Option When
+  ip_at (Ip k) x = Some (record { ip = k; name = x.word })
+  ip_at _ x = None
+
+  abbrev pub when_of : Clause → Option When
+  when_of (clause.When ip x params span) = ip_at (known ip) x
+  when_of _ = None
+
+  abbrev pub provided_of : Clause → Option Expr
+  provided_of (clause.Provided e span) = Some e
+  provided_of _ = None
+
+  abbrev pub number_at : Result ℤ Fault → Option ℤ
+  number_at (Ok n) = Some n
+  number_at (Err e) = None
+
+  abbrev pub priority_of : Clause → Option ℤ
+  priority_of (clause.Priority c span) = number_at (constant_of known c >>> ordinal_of)
+  priority_of _ = None
+
+  abbrev pub delay_of : Clause → Option Delay
+  delay_of (clause.Delay low high span) = Some (record { low = low; high = high })
+  delay_of _ = None
+
+  -- ---- choices of values for the names of `any`
+
+  -- so many numbers from one on
+  abbrev pub numbers_from : ℤ → ℕ → List ℤ
+  numbers_from n zero = []
+  numbers_from n (suc k) = n ∷ numbers_from (n +ℤ pos 1) k
+
+  -- the ordinals of an ordinal type from low to high
+  abbrev pub ordinals : Denoter → List ℤ
+  ordinals t = numbers_from (range_of t).0 (item_count (range_of t).0 (range_of t).1)
+
+  -- the name of an `any` clause is a constant with this ordinal
+  abbrev pub choice : Name → Denoter → ℤ → Declaration
+  choice x t n = declare x (λ known. Constant (value_of (host_of t) n) (host_of t))
+
+  abbrev pub choices : List (Name × Denoter) → List Declarations
+  choices [] = [] ∷ []
+  choices (x ∷ xs) = flat_map (λ n. map (λ ds. choice x.0 x.1 n ∷ ds) (choices xs)) (ordinals x.1)
+
+  abbrev pub names_of_domain : AnyDom → List (Name × Denoter)
+  names_of_domain d = map (λ x. (x, ordinal_type known d.domain)) d.names.names
+
+  abbrev pub flat_one : Way → Declarations → Transition
+  flat_one w chosen = record {
+    from = said from_of w.clauses;
+    to = said to_of w.clauses;
+    when = said when_of w.clauses;
+    received = received known w.clauses;
+    provided = said provided_of w.clauses;
+    priority = said priority_of w.clauses;
+    delay = said delay_of w.clauses;
+    chosen = chosen;
+    block = w.block;
+  }
+
+  -- one for each choice of values, the last name fastest, from low to high
+  abbrev pub flat_way : Way → List Transition
+  flat_way w = map (flat_one w) (choices (flat_map names_of_domain (flat_map domains_of w.clauses)))
+
+  -- in text order
+  abbrev pub flat : Standing → List Transition
+  flat b = flat_map flat_way (ways_of b)

@@ -1,0 +1,55 @@
+use crate::effect::Out;
+use estelle_tree::{Items, Path};
+use pascal_values::Fault;
+
+/// A flat transition of an instance, by its number from 1. Number 0 is the initialization.
+#[derive(Debug, Drop)]
+pub struct Pair {
+    pub path: Path,
+    pub trans: u32,
+}
+
+/// One step of a run. Outputs stand in the order in which they were made, and the numbers of
+/// dropped interactions rise.
+#[derive(Debug, Drop)]
+pub enum Event {
+    Start {
+        outs: Items<Out>,
+        drops: Items<u64>,
+    },
+    /// A system selects the transitions that it will fire. They stand in the order of paths.
+    Select {
+        system: Path,
+        now: u64,
+        takes: Items<Pair>,
+    },
+    Fire {
+        path: Path,
+        trans: u32,
+        outs: Items<Out>,
+        drops: Items<u64>,
+    },
+    Fault {
+        path: Path,
+        trans: u32,
+        kind: Fault,
+    },
+}
+
+/// How a run ends.
+#[derive(Clone, Copy, Debug, PartialEq, Eq)]
+pub enum End {
+    /// Nothing is selected, and nothing can be any more.
+    Dead,
+    /// The limit of firings is reached.
+    Turns,
+    Faulted(Fault),
+    /// The clock failed.
+    Clock,
+}
+
+/// The events of a run.
+#[derive(Debug, Drop)]
+pub struct Run {
+    pub events: Items<Event>,
+}

@@ -1,0 +1,18 @@
+//! What specifications mean. The meaning of a block is a function of its tree, over any state that can
+//! be read, that takes effects and that keeps changes of records.
+//!
+//! It stands on `pascal_values` and `estelle_tree`; evaluator, compiler, machine and judge stand on it.
+//! Here are the definitions, in `specs/`, and the types of what is computed.
+#![tactic(auto)]
+
+mod denoter;
+mod effect;
+mod event;
+mod image;
+mod job;
+
+pub use denoter::{Denoter, Host};
+pub use effect::{Effect, Out};
+pub use event::{End, Event, Pair, Run};
+pub use image::{Image, Interaction, Part};
+pub use job::{Done, Guard, Job, Outcome};
