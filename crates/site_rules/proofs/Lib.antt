@@ -1,0 +1,4 @@
+pub mod Members
+pub mod Following
+pub mod Openings
+pub mod Breaches
