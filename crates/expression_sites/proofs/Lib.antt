@@ -1,0 +1,2 @@
+pub mod SiteLists
+pub mod LoopLaws
