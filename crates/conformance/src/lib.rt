@@ -22,4 +22,6 @@ mod rows;
 #[cfg(test)]
 mod texts;
 #[cfg(test)]
+mod types;
+#[cfg(test)]
 mod worked;

@@ -1,0 +1,2 @@
+mod LabelSets
+mod SiteLists

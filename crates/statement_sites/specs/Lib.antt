@@ -1,0 +1,2 @@
+pub mod LabelHash
+pub mod LabelLaws
