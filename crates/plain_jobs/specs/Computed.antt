@@ -1,0 +1,77 @@
+-- What is computed of a job: its block is run on a log that begins with what the image shows.
+use Rattle.std.specs.Prelude.{◌≡◌, ℕ, zero, suc, List, [], ◌∷◌, fold, Option, Some, None, Ok, Err, IsTrue}
+use Rattle.std.specs.FinMap as map
+use Rattle.pascal_values.specs.declared.value.Value.{Value}
+use Rattle.estelle_model.specs.declared.image.Part.{Part}
+use Rattle.estelle_model.specs.declared.image.Image.{Image}
+use Rattle.estelle_model.specs.declared.image.Interaction.{Interaction}
+use Rattle.estelle_model.specs.declared.job.Job.{Job}
+use Rattle.estelle_model.specs.declared.job.Outcome.{Outcome}
+use Rattle.estelle_model.specs.declared.job.Outcome.TheVariants as outcome
+use Rattle.estelle_model.specs.Core.{Core}
+use Rattle.estelle_model.specs.States.{Logged, on_log}
+use Rattle.estelle_model.specs.Steps as step
+use Rattle.estelle_model.specs.Blocks.{fresh}
+use Rattle.estelle_model.specs.Transitions.{Transition}
+use Rattle.estelle_model.specs.Subject.{Subject, transition, meant, meant_with, begins}
+use Rattle.estelle_model.specs.Clauses.{fire_step, start_step}
+use Rattle.estelle_model.specs.Firing.{transition_at, bare}
+use Rattle.estelle_model.specs.Jobs.{Shows, insert_part}
+use Rattle.plain_jobs.specs.Plain.{is_plain, IsPlainRoutine, HasPlainRoutines}
+
+-- no statement of Estelle stands in what is run
+pub record IsPlain (s : Subject) : Type 0 where
+  pub routines : HasPlainRoutines (meant s)
+  -- the initialization of the specification
+  pub start : IsPlainRoutine (begins s 0).block
+  -- the transitions of each body, where the names of `any` have their values
+  pub routines_of : (k n : ℕ) (t : Transition) → transition s k n ≡ Some t → HasPlainRoutines (meant_with s t.chosen)
+  pub block_of : (k n : ℕ) (t : Transition) → transition s k n ≡ Some t → IsTrue (is_plain t.block.body)
+
+-- the instances and links that an image shows
+abbrev pub core_of : Image → Core
+core_of image = record { instances = fold insert_part map.empty image.parts; links = image.links }
+
+-- a log that begins with these instances and links
+abbrev pub log_from : Core → Logged
+log_from c = record { image = c; log = [] }
+
+-- the values of the interaction that is received, if one is
+abbrev pub values_of : Option Interaction → List Value
+values_of None = []
+values_of (Some i) = i.values
+
+-- the image is of the root, which has no other instance below it
+pub record IsRootAlone (image : Image) : Type 0 where
+  pub part : Part
+  pub parts : image.parts ≡ part ∷ []
+  pub path : part.path ≡ []
+
+-- the outcome is what a run on the log came to, without effects
+abbrev pub IsMade : step.Outcome Logged (Unit {0}) → Outcome → ℕ → Type 0
+IsMade (Ok r) (outcome.Ran image effects) left = Shows image r.1.state.image × (effects ≡ []) × (left ≡ r.1.left)
+IsMade (Err e) (outcome.Faulted kind) left = (kind ≡ e.0) × (left ≡ e.1)
+IsMade _ _ left = ⊥
+
+-- the start on a log
+abbrev pub start_run : Subject → ℕ → step.Outcome Logged (Unit {0})
+start_run s budget = start_step Logged on_log s (fresh (log_from (bare s).core) budget)
+
+-- a transition of the root on a log
+abbrev pub fire_run : Subject → Image → Option Interaction → ℕ → Transition → step.Outcome Logged (Unit {0})
+fire_run s image head budget t = fire_step Logged on_log s [] t (values_of head) (fresh (log_from (core_of image)) budget)
+
+-- where there is no such transition, nothing is asked
+abbrev pub IsMadeBy : Subject → Job → Option Transition → Outcome → ℕ → Type 0
+IsMadeBy s job None outcome left = Unit {0}
+IsMadeBy s job (Some t) outcome left = IsMade (fire_run s job.image job.head job.budget t) outcome left
+
+-- the outcome of the job with a transition's number is computed on a log; transition 0 is the initialization
+abbrev pub IsComputed : Subject → Job → ℕ → Outcome → ℕ → Type 0
+IsComputed s job zero outcome left = IsMade (start_run s job.budget) outcome left
+IsComputed s job (suc n) outcome left = IsMadeBy s job (transition_at s job.trans (map.get (core_of job.image).instances [])) outcome left
+
+-- a job of the root, which is alone; of the initialization, every job
+abbrev pub IsOfRoot : Job → ℕ → Type 0
+IsOfRoot job zero = Unit {0}
+IsOfRoot job (suc n) = (job.path ≡ []) × IsRootAlone job.image

@@ -1,0 +1,60 @@
+-- What is computed of a guard of the root: `provided` and the delay are evaluated on a log that begins with what the image shows.
+use Rattle.std.specs.Prelude.{◌≡◌, ℕ, Bool, true, false, ◌&&◌, if◌then◌else◌, [], Option, Some, None}
+use Rattle.std.specs.FinMap as map
+use Rattle.estelle_model.specs.declared.image.Image.{Image}
+use Rattle.estelle_model.specs.declared.image.Interaction.{Interaction}
+use Rattle.estelle_model.specs.declared.job.Guard.{Guard}
+use Rattle.estelle_model.specs.declared.job.Guard.TheVariants.{Off}
+use Rattle.estelle_model.specs.Core.{Instance}
+use Rattle.estelle_model.specs.States.{Logged, on_log}
+use Rattle.estelle_model.specs.Blocks.{fresh}
+use Rattle.estelle_model.specs.Transitions.{Transition, When}
+use Rattle.estelle_model.specs.Subject.{Subject, transition}
+use Rattle.estelle_model.specs.Clauses.{guard_step, answered}
+use Rattle.estelle_model.specs.Situation.{Situation}
+use Rattle.estelle_model.specs.Queues.{Found, NotNeeded, Head, Absent}
+use Rattle.estelle_model.specs.Firing.{transition_at, is_in_state, guard}
+use Rattle.estelle_model.specs.Legal.{AreLegal}
+use Rattle.estelle_model.specs.Jobs.{private, Shows, found_by}
+use Rattle.plain_jobs.specs.Computed.{core_of, log_from, values_of}
+
+-- the head that a transition finds, where it needs one
+abbrev pub head_of : Found → Option Interaction
+head_of NotNeeded = None
+head_of (Head i) = Some i
+head_of Absent = None
+
+-- this is what is known of a transition of the root in a situation
+pub record IsAskedIn (s : Subject) (g : Situation) (image : Image) (n : ℕ) (head : Option Interaction) (timed : Bool) : Type 0 where
+  pub legal : AreLegal s g.core.instances
+  pub private : Shows image (private s g.core [])
+  -- the head, if it needs one and finds it
+  pub finds : head ≡ head_of (found_by s g [] (transition_at s n (map.get g.core.instances [])))
+  -- a timer runs
+  pub runs : timed ≡ map.contains_key g.timers (record { path = []; trans = n })
+
+-- the guard in each such situation
+abbrev pub IsGuard : Subject → Image → ℕ → Option Interaction → Bool → ℕ → Guard → Type 0
+IsGuard s image n head timed budget answer = (g : Situation) → IsAskedIn s g image n head timed → answer ≡ guard s budget g [] n
+
+-- it needs no interaction, or its interaction is there
+abbrev pub is_received : Option When → Option Interaction → Bool
+is_received None head = true
+is_received (Some w) None = false
+is_received (Some w) (Some i) = true
+
+-- `provided` and the delay on a log
+abbrev pub guard_run : Subject → Image → Option Interaction → Bool → ℕ → Transition → Guard
+guard_run s image head timed budget t = answered (guard_step Logged on_log s [] t (values_of head) timed (fresh (log_from (core_of image)) budget))
+
+abbrev pub guard_by : Subject → Image → Option Interaction → Bool → ℕ → Instance → Option Transition → Guard
+guard_by s image head timed budget i None = Off
+guard_by s image head timed budget i (Some t) = if is_in_state t.from i.state && is_received t.when head then guard_run s image head timed budget t else Off
+
+abbrev pub guard_for : Subject → Image → ℕ → Option Interaction → Bool → ℕ → Option Instance → Guard
+guard_for s image n head timed budget None = Off
+guard_for s image n head timed budget (Some i) = guard_by s image head timed budget i (transition s i.body n)
+
+-- the guard of the root's transition with this number
+abbrev pub guard_of_image : Subject → Image → ℕ → Option Interaction → Bool → ℕ → Guard
+guard_of_image s image n head timed budget = guard_for s image n head timed budget (map.get (core_of image).instances [])
