@@ -5,6 +5,7 @@ use estelle_tree::{Span, Spec};
 use pascal_check::check;
 use scope_names::resolve;
 use scope_rules::Refusal;
+use spec_accept::accept;
 use std::alloc::Global;
 use std::test::Fail;
 
@@ -176,6 +177,43 @@ fn rules_on_types(rt: HostRuntime) -> Result<(), Fail> {
         if let Some(spec) = spec {
             assert!(rt;
                 judged(rt.alloc(), &spec) == Some(wanted(text.as_bytes())),
+                "{text}"
+            );
+        }
+    }
+    Ok(())
+}
+
+/// Texts that break rules of several kinds, or none.
+const MIXED: [&str; 4] = [
+    "specification s; var n: integer; initialize begin n := n + 1 end; end.",
+    "specification s; var n: integer; initialize begin n := true; {02}k := 1 end; end.",
+    "specification s; var n: integer; procedure p; begin end; initialize begin p(1); n := {40}true end; end.",
+    "specification s; type t = 3..1; var n: integer; {01}n: integer; end.",
+];
+
+fn accepted(alloc: Global, spec: Spec) -> Option<(u8, usize)> {
+    match accept(alloc, spec) {
+        Ok(_) => Some((0, 0)),
+        Err(
+            Refusal::Rule {
+                number,
+                span: Span { start, .. },
+            },
+        ) => Some((number, start as usize)),
+        Err(Refusal::Memory) => None,
+    }
+}
+
+// Of rules of several crates the least is reported, wherever it is broken.
+#[test]
+fn least_of_all_rules(rt: HostRuntime) -> Result<(), Fail> {
+    for text in &MIXED {
+        let spec = tree(rt.alloc(), text.as_bytes());
+        assert!(rt; spec.is_some(), "{text}");
+        if let Some(spec) = spec {
+            assert!(rt;
+                accepted(rt.alloc(), spec) == Some(wanted(text.as_bytes())),
                 "{text}"
             );
         }

@@ -1,0 +1,17 @@
+//! A specification of which no rule is broken.
+
+ghost use Rattle.std.specs.Prelude.{◌≡◌};
+ghost use Rattle.scope_rules.specs.declared.refusal.Breach.{Breach};
+ghost use Rattle.scope_rules.specs.NameRules.{names_of};
+ghost use Rattle.spec_accept.specs.Rules.{RuleBroken};
+
+use estelle_tree::{Names, Spec};
+
+/// A specification of which none of the rules is broken, with what its names mean.
+#[derive(Drop)]
+pub struct Checked {
+    pub spec: Spec,
+    pub names: Names,
+    pub ghost named: { names.uses ≡ names_of spec },
+    pub ghost kept: { (b : Breach) → ¬ (RuleBroken spec b) },
+}
