@@ -2,7 +2,16 @@
 pub mod Agree
 pub mod Same
 pub mod PlainAlike
+pub mod PlainRuns
 pub mod Roots
+pub mod Maps
+pub mod PrivateRuns
+pub mod PrivateAnswers
 pub mod RootRuns
 pub mod Answering
+pub mod PlainGuards
 pub mod AnsweringGuards
+pub mod PlainDeclarations
+pub mod PlainBodies
+-- ---- examples
+pub mod WorkedPlain

@@ -11,7 +11,7 @@ use Rattle.estelle_model.specs.Paths.{Path, path_cmp, is_inside}
 use Rattle.estelle_model.specs.Core.{Instance, Instances}
 use Rattle.estelle_model.specs.Effects.{Change, Store, Hold, Enter, changed, put_back, changed_in}
 use Rattle.estelle_model.specs.Firing.{alone}
-use Rattle.estelle_model.specs.Jobs.{part_of_entry, instance_of, insert_part, overlaid, outline, outline_of_parts}
+use Rattle.estelle_model.specs.Jobs.{part_of_entry, insert_part, overlaid, outline, outline_of_parts}
 use Rattle.estelle_model.proofs.AlikeActions.{inside_root}
 
 total : IsTotalOrder path_cmp
@@ -90,16 +90,6 @@ entries_of (Some i) = ([], i) ∷ []
 pub entries_alone : (o : Option Instance) → map.entries (alone o) ≡ entries_of o
 entries_alone None = entries_empty
 entries_alone (Some i) = map.entries-insert total map.empty [] i ∙ ap (λ es. map.put path_cmp [] i es) entries_empty
-
-one_part : (es : List (Path × Instance)) (part : Part) → each part_of_entry es ≡ part ∷ [] → es ≡ (part.path, instance_of part) ∷ []
-one_part [] part e = absurd (cc)
-one_part (x ∷ []) part e = let same : part_of_entry x ≡ part = cc in ap (λ (p : Part). (p.path, instance_of p) ∷ []) same
-one_part (x ∷ (y ∷ es)) part e = absurd (cc)
-
--- the map whose only part is the root's
-pub alone_of_part : (m : Instances) (part : Part) → part ∷ [] ≡ each part_of_entry (map.entries m) → part.path ≡ [] → m ≡ alone (Some (instance_of part))
-alone_of_part m part e root = map.same_entries_map m (alone (Some (instance_of part)))
-    (one_part (map.entries m) part (sym e) ∙ ap (λ p. (p, instance_of part) ∷ []) root ∙ sym (entries_alone (Some (instance_of part))))
 
 -- ---- what an image of it puts back
 

@@ -27,11 +27,11 @@ use Rattle.estelle_model.proofs.StatementEquations.{stmt_at, stmt_made, branch_m
 use Rattle.plain_jobs.specs.Plain.{plain_stmt_layer, plain_case_layer, plain_stmts_layer, is_plain_stmt, is_plain_case, is_plain, IsPlainRoutine, HasPlainRoutines}
 use Rattle.plain_jobs.proofs.Agree.{exprs_same, calls_same}
 
-both_left : (a b : Bool) → IsTrue (a && b) → IsTrue a
+pub both_left : (a b : Bool) → IsTrue (a && b) → IsTrue a
 both_left true b h = refl
 both_left false b h = h
 
-both_right : (a b : Bool) → IsTrue (a && b) → IsTrue b
+pub both_right : (a b : Bool) → IsTrue (a && b) → IsTrue b
 both_right true b h = h
 both_right false true h = refl
 both_right false false h = h

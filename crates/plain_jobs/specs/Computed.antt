@@ -1,8 +1,7 @@
 -- What is computed of a job: its block is run on a log that begins with what the image shows.
-use Rattle.std.specs.Prelude.{◌≡◌, ℕ, zero, suc, List, [], ◌∷◌, fold, Option, Some, None, Ok, Err, IsTrue}
+use Rattle.std.specs.Prelude.{◌≡◌, ℕ, zero, suc, List, [], fold, Option, Some, None, Ok, Err, IsTrue}
 use Rattle.std.specs.FinMap as map
 use Rattle.pascal_values.specs.declared.value.Value.{Value}
-use Rattle.estelle_model.specs.declared.image.Part.{Part}
 use Rattle.estelle_model.specs.declared.image.Image.{Image}
 use Rattle.estelle_model.specs.declared.image.Interaction.{Interaction}
 use Rattle.estelle_model.specs.declared.job.Job.{Job}
@@ -41,12 +40,6 @@ abbrev pub values_of : Option Interaction → List Value
 values_of None = []
 values_of (Some i) = i.values
 
--- the image is of the root, which has no other instance below it
-pub record IsRootAlone (image : Image) : Type 0 where
-  pub part : Part
-  pub parts : image.parts ≡ part ∷ []
-  pub path : part.path ≡ []
-
 -- the outcome is what a run on the log came to, without effects
 abbrev pub IsMade : step.Outcome Logged (Unit {0}) → Outcome → ℕ → Type 0
 IsMade (Ok r) (outcome.Ran image effects) left = Shows image r.1.state.image × (effects ≡ []) × (left ≡ r.1.left)
@@ -57,21 +50,16 @@ IsMade _ _ left = ⊥
 abbrev pub start_run : Subject → ℕ → step.Outcome Logged (Unit {0})
 start_run s budget = start_step Logged on_log s (fresh (log_from (bare s).core) budget)
 
--- a transition of the root on a log
-abbrev pub fire_run : Subject → Image → Option Interaction → ℕ → Transition → step.Outcome Logged (Unit {0})
-fire_run s image head budget t = fire_step Logged on_log s [] t (values_of head) (fresh (log_from (core_of image)) budget)
+-- the transition of a job on a log
+abbrev pub job_run : Subject → Job → Transition → step.Outcome Logged (Unit {0})
+job_run s job t = fire_step Logged on_log s job.path t (values_of job.head) (fresh (log_from (core_of job.image)) job.budget)
 
 -- where there is no such transition, nothing is asked
-abbrev pub IsMadeBy : Subject → Job → Option Transition → Outcome → ℕ → Type 0
-IsMadeBy s job None outcome left = Unit {0}
-IsMadeBy s job (Some t) outcome left = IsMade (fire_run s job.image job.head job.budget t) outcome left
+abbrev pub IsMadeOf : Subject → Job → Option Transition → Outcome → ℕ → Type 0
+IsMadeOf s job None outcome left = Unit {0}
+IsMadeOf s job (Some t) outcome left = IsMade (job_run s job t) outcome left
 
--- the outcome of the job with a transition's number is computed on a log; transition 0 is the initialization
+-- the outcome of the job with a transition's number is computed on a log; transition 0 is the initialization of the specification
 abbrev pub IsComputed : Subject → Job → ℕ → Outcome → ℕ → Type 0
 IsComputed s job zero outcome left = IsMade (start_run s job.budget) outcome left
-IsComputed s job (suc n) outcome left = IsMadeBy s job (transition_at s job.trans (map.get (core_of job.image).instances [])) outcome left
-
--- a job of the root, which is alone; of the initialization, every job
-abbrev pub IsOfRoot : Job → ℕ → Type 0
-IsOfRoot job zero = Unit {0}
-IsOfRoot job (suc n) = (job.path ≡ []) × IsRootAlone job.image
+IsComputed s job (suc n) outcome left = IsMadeOf s job (transition_at s job.trans (map.get (core_of job.image).instances job.path)) outcome left

@@ -1,10 +1,11 @@
--- What is computed of a guard of the root: `provided` and the delay are evaluated on a log that begins with what the image shows.
-use Rattle.std.specs.Prelude.{◌≡◌, ℕ, Bool, true, false, ◌&&◌, if◌then◌else◌, [], Option, Some, None}
+-- What is computed of a guard: `provided` and the delay are evaluated on a log that begins with what the image shows.
+use Rattle.std.specs.Prelude.{◌≡◌, ℕ, Bool, true, false, ◌&&◌, if◌then◌else◌, Option, Some, None}
 use Rattle.std.specs.FinMap as map
 use Rattle.estelle_model.specs.declared.image.Image.{Image}
 use Rattle.estelle_model.specs.declared.image.Interaction.{Interaction}
 use Rattle.estelle_model.specs.declared.job.Guard.{Guard}
 use Rattle.estelle_model.specs.declared.job.Guard.TheVariants.{Off}
+use Rattle.estelle_model.specs.Paths.{Path}
 use Rattle.estelle_model.specs.Core.{Instance}
 use Rattle.estelle_model.specs.States.{Logged, on_log}
 use Rattle.estelle_model.specs.Blocks.{fresh}
@@ -24,18 +25,18 @@ head_of NotNeeded = None
 head_of (Head i) = Some i
 head_of Absent = None
 
--- this is what is known of a transition of the root in a situation
-pub record IsAskedIn (s : Subject) (g : Situation) (image : Image) (n : ℕ) (head : Option Interaction) (timed : Bool) : Type 0 where
+-- this is what is known of a transition of an instance in a situation
+pub record IsAskedIn (s : Subject) (g : Situation) (p : Path) (image : Image) (n : ℕ) (head : Option Interaction) (timed : Bool) : Type 0 where
   pub legal : AreLegal s g.core.instances
-  pub private : Shows image (private s g.core [])
+  pub private : Shows image (private s g.core p)
   -- the head, if it needs one and finds it
-  pub finds : head ≡ head_of (found_by s g [] (transition_at s n (map.get g.core.instances [])))
+  pub finds : head ≡ head_of (found_by s g p (transition_at s n (map.get g.core.instances p)))
   -- a timer runs
-  pub runs : timed ≡ map.contains_key g.timers (record { path = []; trans = n })
+  pub runs : timed ≡ map.contains_key g.timers (record { path = p; trans = n })
 
 -- the guard in each such situation
-abbrev pub IsGuard : Subject → Image → ℕ → Option Interaction → Bool → ℕ → Guard → Type 0
-IsGuard s image n head timed budget answer = (g : Situation) → IsAskedIn s g image n head timed → answer ≡ guard s budget g [] n
+abbrev pub IsGuard : Subject → Path → Image → ℕ → Option Interaction → Bool → ℕ → Guard → Type 0
+IsGuard s p image n head timed budget answer = (g : Situation) → IsAskedIn s g p image n head timed → answer ≡ guard s budget g p n
 
 -- it needs no interaction, or its interaction is there
 abbrev pub is_received : Option When → Option Interaction → Bool
@@ -44,17 +45,17 @@ is_received (Some w) None = false
 is_received (Some w) (Some i) = true
 
 -- `provided` and the delay on a log
-abbrev pub guard_run : Subject → Image → Option Interaction → Bool → ℕ → Transition → Guard
-guard_run s image head timed budget t = answered (guard_step Logged on_log s [] t (values_of head) timed (fresh (log_from (core_of image)) budget))
+abbrev pub guard_run : Subject → Path → Image → Option Interaction → Bool → ℕ → Transition → Guard
+guard_run s p image head timed budget t = answered (guard_step Logged on_log s p t (values_of head) timed (fresh (log_from (core_of image)) budget))
 
-abbrev pub guard_by : Subject → Image → Option Interaction → Bool → ℕ → Instance → Option Transition → Guard
-guard_by s image head timed budget i None = Off
-guard_by s image head timed budget i (Some t) = if is_in_state t.from i.state && is_received t.when head then guard_run s image head timed budget t else Off
+abbrev pub guard_by : Subject → Path → Image → Option Interaction → Bool → ℕ → Instance → Option Transition → Guard
+guard_by s p image head timed budget i None = Off
+guard_by s p image head timed budget i (Some t) = if is_in_state t.from i.state && is_received t.when head then guard_run s p image head timed budget t else Off
 
-abbrev pub guard_for : Subject → Image → ℕ → Option Interaction → Bool → ℕ → Option Instance → Guard
-guard_for s image n head timed budget None = Off
-guard_for s image n head timed budget (Some i) = guard_by s image head timed budget i (transition s i.body n)
+abbrev pub guard_for : Subject → Path → Image → ℕ → Option Interaction → Bool → ℕ → Option Instance → Guard
+guard_for s p image n head timed budget None = Off
+guard_for s p image n head timed budget (Some i) = guard_by s p image head timed budget i (transition s i.body n)
 
--- the guard of the root's transition with this number
-abbrev pub guard_of_image : Subject → Image → ℕ → Option Interaction → Bool → ℕ → Guard
-guard_of_image s image n head timed budget = guard_for s image n head timed budget (map.get (core_of image).instances [])
+-- the guard of the instance's transition with this number
+abbrev pub guard_of_image : Subject → Path → Image → ℕ → Option Interaction → Bool → ℕ → Guard
+guard_of_image s p image n head timed budget = guard_for s p image n head timed budget (map.get (core_of image).instances p)

@@ -1,5 +1,5 @@
 -- The laws of bodies of Pascal alone.
-use Rattle.std.specs.Prelude.{◌≡◌, ℕ, Bool, List, Option}
+use Rattle.std.specs.Prelude.{◌≡◌, ℕ, Bool, List, Option, Some, IsTrue}
 use Rattle.pascal_values.specs.declared.value.Value.{Value}
 use Rattle.estelle_model.specs.declared.image.Image.{Image}
 use Rattle.estelle_model.specs.declared.image.Interaction.{Interaction}
@@ -11,12 +11,19 @@ use Rattle.estelle_model.specs.Steps.{Running}
 use Rattle.estelle_model.specs.Meant.{Routine, Meanings}
 use Rattle.estelle_model.specs.Actions.{act}
 use Rattle.estelle_model.specs.Blocks.{block_step}
-use Rattle.estelle_model.specs.Subject.{Subject}
+use Rattle.estelle_model.specs.Transitions.{Transition}
+use Rattle.estelle_model.specs.Subject.{Subject, transition}
+use Rattle.estelle_model.specs.Clauses.{fire_step, start_step}
 use Rattle.estelle_model.specs.Situation.{Acting, on_situation}
 use Rattle.estelle_model.specs.Jobs.{Answers}
 use Rattle.plain_jobs.specs.Plain.{IsPlainRoutine, HasPlainRoutines, Leaves}
-use Rattle.plain_jobs.specs.Computed.{IsPlain, IsRootAlone, IsComputed, IsOfRoot}
+use Rattle.plain_jobs.specs.Computed.{IsPlain, IsComputed}
+use Rattle.plain_jobs.specs.Specifications.{is_plain_specification}
 use Rattle.plain_jobs.specs.Guards.{IsGuard, guard_of_image}
+
+-- where no statement of Estelle stands in a specification, none is run, whatever its names mean
+abbrev pub SpecificationsArePlain : Type 0
+SpecificationsArePlain = (s : Subject) → IsTrue (is_plain_specification s.specification) → IsPlain s
 
 -- a block without statements of Estelle leaves the log as it is
 abbrev pub LogIsKept : Type 0
@@ -29,12 +36,20 @@ RestIsKept = (s : Subject) (known : Meanings) → HasPlainRoutines known → (p 
     Leaves (λ b. b ≡ record a.state { situation = record a.state.situation { core = record a.state.situation.core { instances = b.situation.core.instances } } })
     (block_step Acting on_situation known (act Acting on_situation s known) p r vs a)
 
--- what is computed on the log answers the job
+-- so a firing and the start make no effect
+abbrev pub FiringsKeepLog : Type 0
+FiringsKeepLog = (s : Subject) → IsPlain s → (k n : ℕ) (t : Transition) → transition s k n ≡ Some t → (p : Path) (vs : List Value) (l : Running Logged) →
+    Leaves (λ j. j.log ≡ l.state.log) (fire_step Logged on_log s p t vs l)
+
+abbrev pub StartKeepsLog : Type 0
+StartKeepsLog = (s : Subject) → IsPlain s → (l : Running Logged) → Leaves (λ j. j.log ≡ l.state.log) (start_step Logged on_log s l)
+
+-- what is computed on the log answers the job, whichever instance's it is
 abbrev pub JobsAreAnswered : Type 0
 JobsAreAnswered = (s : Subject) → IsPlain s → (job : Job) (done : Done) → done.ticket ≡ job.ticket → done.path ≡ job.path → done.trans ≡ job.trans →
-    IsOfRoot job job.trans → IsComputed s job job.trans done.outcome done.left → Answers s job done
+    IsComputed s job job.trans done.outcome done.left → Answers s job done
 
 -- what is computed of a guard on the log is the guard in each situation with this private part
 abbrev pub GuardsAreAnswered : Type 0
-GuardsAreAnswered = (s : Subject) → IsPlain s → (image : Image) → IsRootAlone image → (n : ℕ) (head : Option Interaction) (timed : Bool) (budget : ℕ) →
-    IsGuard s image n head timed budget (guard_of_image s image n head timed budget)
+GuardsAreAnswered = (s : Subject) → IsPlain s → (p : Path) (image : Image) (n : ℕ) (head : Option Interaction) (timed : Bool) (budget : ℕ) →
+    IsGuard s p image n head timed budget (guard_of_image s p image n head timed budget)

@@ -4,3 +4,4 @@ pub mod Plain
 pub mod Computed
 pub mod Guards
 pub mod Laws
+pub mod Specifications

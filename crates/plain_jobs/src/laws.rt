@@ -1,6 +1,11 @@
 //! Laws of bodies of Pascal alone: their contracts are the laws, and they do nothing.
 
-ghost use Rattle.plain_jobs.specs.Laws.{LogIsKept, RestIsKept, JobsAreAnswered, GuardsAreAnswered};
+ghost use Rattle.plain_jobs.specs.Laws.{SpecificationsArePlain, LogIsKept, RestIsKept, FiringsKeepLog, StartKeepsLog, JobsAreAnswered, GuardsAreAnswered};
+
+/// Where no statement of Estelle stands in a specification, none stands in what is run of it.
+pub fn specifications_are_plain()
+    ensures { SpecificationsArePlain }
+{}
 
 /// A block without statements of Estelle makes no effect: the log after it is the log before it, and of
 /// a situation only the records of instances change.
@@ -9,12 +14,18 @@ pub fn plain_blocks_keep()
     ensures rest { RestIsKept }
 {}
 
-/// Where the root is alone, the outcome of its block on the log answers the job.
+/// So neither a firing nor the start makes an effect.
+pub fn runs_keep_log()
+    ensures firing { FiringsKeepLog }
+    ensures start { StartKeepsLog }
+{}
+
+/// What the block of a job comes to on a log that begins with the private part answers the job.
 pub fn jobs_are_answered()
     ensures { JobsAreAnswered }
 {}
 
-/// Where the root is alone, a guard on the log is the guard in each situation with this private part.
+/// A guard on such a log is the guard in each situation with this private part.
 pub fn guards_are_answered()
     ensures { GuardsAreAnswered }
 {}

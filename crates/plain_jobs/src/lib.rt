@@ -6,4 +6,7 @@
 
 mod laws;
 
-pub use laws::{guards_are_answered, jobs_are_answered, plain_blocks_keep};
+pub use laws::{
+    guards_are_answered, jobs_are_answered, plain_blocks_keep, runs_keep_log,
+    specifications_are_plain,
+};
