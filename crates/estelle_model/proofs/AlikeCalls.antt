@@ -9,8 +9,11 @@ use Rattle.estelle_tree.specs.declared.tree.expression.Expr.{Expr}
 use Rattle.estelle_model.specs.Paths.{Path, is_inside}
 use Rattle.estelle_model.specs.States.{Offers}
 use Rattle.estelle_model.specs.Steps.{Do, ◌>>◌, pure, fail, spend}
-use Rattle.estelle_model.specs.Meant.{Routine, Meanings, result_number}
-use Rattle.estelle_model.specs.Expressions.{Here, Given, Call, expr}
+use Rattle.estelle_model.specs.declared.meaning.Routine.{Routine}
+use Rattle.estelle_model.specs.Meant.{Meanings, result_number}
+use Rattle.estelle_model.specs.declared.place.Here.{Here}
+use Rattle.estelle_model.specs.declared.place.Given.{Given}
+use Rattle.estelle_model.specs.Expressions.{Call, expr}
 use Rattle.estelle_model.specs.Statements.{Action, stmts}
 use Rattle.estelle_model.specs.Calls.{Enters, call_by, frame_of, last_or, enter, leave, within, nested, max_depth}
 use Rattle.estelle_model.specs.Blocks.{given_values, enter_values, leave_values, from_block, block_step, clause_value}

@@ -25,13 +25,21 @@ use Rattle.estelle_model.specs.declared.denoter.Host.{Host}
 use Rattle.estelle_model.specs.declared.denoter.Host.TheVariants as hosts
 use Rattle.estelle_model.specs.declared.denoter.Denoter.{Denoter}
 use Rattle.estelle_model.specs.Types.{host_of, item_of, field_of, bounds_of}
-use Rattle.estelle_model.specs.Operators.{negation, signed, related, Required, required_value, required_host}
+use Rattle.estelle_model.specs.declared.meaning.Required.{Required}
+use Rattle.estelle_model.specs.Operators.{negation, signed, related, required_value, required_host}
 use Rattle.estelle_model.specs.Paths.{Path}
 use Rattle.estelle_model.specs.States.{Offers}
 use Rattle.estelle_model.specs.Steps.{◌>>=◌, pure, fail, checked}
-use Rattle.estelle_model.specs.Meant.{Routine, Meaning, Meanings, Constant, Own, Exported, Local, Var, Field, Called, RequiredFunction, Module}
-use Rattle.estelle_model.specs.Places.{Place, Of, In, deeper, set_value, child_step}
-use Rattle.estelle_model.specs.Expressions.{Here, Given, Call, Operand, Access, Selecting, ordinal_step, multiplied, multiplied_host, added, added_host, computed, give_all, no_arguments, result_host, reference_at, index_step, indexed, fielded, selected, exported, behind_dot, behind_module, accessed, of_access, called, valued, required_of, designated, term_of, with_sign, simple_of, related_to, factor, selector, args, elem, expr, simple, term, variable}
+use Rattle.estelle_model.specs.declared.meaning.Routine.{Routine}
+use Rattle.estelle_model.specs.declared.meaning.Meaning.{Meaning}
+use Rattle.estelle_model.specs.declared.meaning.Meaning.TheVariants.{Constant, Own, Exported, Local, Var, Field, Called, RequiredFunction, Module}
+use Rattle.estelle_model.specs.Meant.{Meanings}
+use Rattle.estelle_model.specs.declared.place.Place.{Place}
+use Rattle.estelle_model.specs.declared.place.Place.TheVariants.{Of, In}
+use Rattle.estelle_model.specs.Places.{deeper, set_value, child_step}
+use Rattle.estelle_model.specs.declared.place.Here.{Here}
+use Rattle.estelle_model.specs.declared.place.Given.{Given}
+use Rattle.estelle_model.specs.Expressions.{Call, Operand, Access, Selecting, ordinal_step, multiplied, multiplied_host, added, added_host, computed, give_all, no_arguments, result_host, reference_at, index_step, indexed, fielded, selected, exported, behind_dot, behind_module, accessed, of_access, called, valued, required_of, designated, term_of, with_sign, simple_of, related_to, factor, selector, args, elem, expr, simple, term, variable}
 use Rattle.estelle_model.proofs.Alike.{Same, EachAlike, MaybeAlike, StepAlike, ValueAlike, then_alike, then_same, pure_alike, fail_alike, checked_alike}
 use Rattle.estelle_model.proofs.AlikePlaces.{IsWithin, PlaceAlike, PathAlike, deeper_within, ShowAlike, load_alike, child_alike}
 use Rattle.estelle_model.proofs.AlikeOperands.{within_at, GivenAlike, IsHereWithin, OperandAlike, AccessAlike, SelectingAlike, WrittenAlike, CallAlike, ordinal_alike, of_value_alike, both_alike, multiplied_alike, added_alike, computed_alike, computed_with, give_all_alike, member_alike, set_alike}

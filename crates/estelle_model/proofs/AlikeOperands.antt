@@ -17,9 +17,13 @@ use Rattle.estelle_model.specs.Operators.{bool_of, plus, minus, times, divided, 
 use Rattle.estelle_model.specs.Paths.{Path, is_inside}
 use Rattle.estelle_model.specs.States.{Offers}
 use Rattle.estelle_model.specs.Steps.{Step, ◌>>=◌, pure, checked}
-use Rattle.estelle_model.specs.Meant.{Routine, Passing, ByValue, ByPlace}
-use Rattle.estelle_model.specs.Places.{Place}
-use Rattle.estelle_model.specs.Expressions.{Here, Given, Call, Operand, Access, Selecting, Written, bool_step, ordinal_step, both, conjunction, disjunction, multiplied, added, computed, place_of_operand, give, give_all, member_step, set_step}
+use Rattle.estelle_model.specs.declared.meaning.Routine.{Routine}
+use Rattle.estelle_model.specs.declared.meaning.Passing.{Passing}
+use Rattle.estelle_model.specs.declared.meaning.Passing.TheVariants.{ByValue, ByPlace}
+use Rattle.estelle_model.specs.declared.place.Place.{Place}
+use Rattle.estelle_model.specs.declared.place.Here.{Here}
+use Rattle.estelle_model.specs.declared.place.Given.{Given}
+use Rattle.estelle_model.specs.Expressions.{Call, Operand, Access, Selecting, Written, bool_step, ordinal_step, both, conjunction, disjunction, multiplied, added, computed, place_of_operand, give, give_all, member_step, set_step}
 use Rattle.estelle_model.proofs.Alike.{Same, EachAlike, MaybeAlike, StepAlike, ValueAlike, then_alike, then_same, pure_alike, fail_alike, checked_alike, if_alike}
 use Rattle.estelle_model.proofs.AlikePlaces.{IsWithin, PlaceAlike}
 

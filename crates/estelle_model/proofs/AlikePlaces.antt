@@ -1,6 +1,6 @@
 -- Places read and stored alike on two states that show the same of an instance and of those below it.
 use Rattle.std.proofs.Common.{◌≡◌, ℕ, true, List, ◌∷◌, Result, Ok, Option, Some, None, refl, ap, subst}
-use Rattle.std.specs.Prelude.{slice_get}
+use Rattle.std.specs.Prelude.{slice_get, ℤ}
 use Rattle.std.specs.FinMap as map
 use Rattle.pascal_values.specs.declared.fault.Fault.{Fault}
 use Rattle.pascal_values.specs.declared.fault.Fault.TheVariants.{NoModule}
@@ -8,13 +8,15 @@ use Rattle.pascal_values.specs.declared.value.Value.{Value}
 use Rattle.pascal_values.specs.Values.{into, part_of, changed_at, with_part}
 use Rattle.pascal_values.specs.Shapes.{fit_of}
 use Rattle.estelle_model.specs.declared.denoter.Denoter.{Denoter}
-use Rattle.estelle_model.specs.Types.{shape_of}
+use Rattle.estelle_model.specs.Types.{shape_of, host_of, value_in}
 use Rattle.estelle_model.specs.Paths.{Path, is_inside}
 use Rattle.estelle_model.specs.Core.{Instance}
 use Rattle.estelle_model.specs.Effects.{Store}
 use Rattle.estelle_model.specs.States.{Offers}
 use Rattle.estelle_model.specs.Steps.{Running, checked, checked_at}
-use Rattle.estelle_model.specs.Places.{Place, Of, In, deeper, of_variables, known, held_in, module_variables_of, load, put, put_at, store, child_step}
+use Rattle.estelle_model.specs.declared.place.Place.{Place}
+use Rattle.estelle_model.specs.declared.place.Place.TheVariants.{Of, In}
+use Rattle.estelle_model.specs.Places.{deeper, of_variables, known, held_in, module_variables_of, load, put, put_at, store, store_ordinal, child_step}
 use Rattle.estelle_model.proofs.Alike.{Same, RunningAlike, OutcomeAlike, StepAlike, DoAlike, ValueAlike, then_same, checked_alike}
 
 -- the place is in a frame, or in an instance at or below m
@@ -69,6 +71,10 @@ module _ (S T : Type 0) (on : Offers S) (on' : Offers T) (m : Path) (R : S → T
   pub store_alike : (d : Denoter) (a b : Place) (v : Value) → PlaceAlike m a b → DoAlike S T R (store S on d a v) (store T on' d b v)
   unfolding store
   store_alike d a b v h = then_same S T R (Same {A = Unit {0}}) (checked (fit_of (shape_of d) v)) (checked (fit_of (shape_of d) v)) (λ _. put S on a v) (λ _. put T on' b v) (checked_alike S T R (fit_of (shape_of d) v)) (λ _. put_alike a b v h)
+
+  pub store_ordinal_alike : (d : Denoter) (a b : Place) (n : ℤ) → PlaceAlike m a b → DoAlike S T R (store_ordinal S on d a n) (store_ordinal T on' d b n)
+  unfolding store_ordinal
+  store_ordinal_alike d a b n h = then_same S T R (Same {A = Unit {0}}) (checked (value_in (host_of d) n)) (checked (value_in (host_of d) n)) (λ v. store S on d a v) (λ v. store T on' d b v) (checked_alike S T R (value_in (host_of d) n)) (λ v. store_alike d a b v h)
 
   -- the child is the same, and is at or below m
   pub child_alike : (p : Path) (k : ℕ) → is_inside m p ≡ true → StepAlike S T R (PathAlike m) (child_step S on p k) (child_step T on' p k)

@@ -15,17 +15,22 @@ use Rattle.estelle_tree.specs.declared.tree.statement.Stmts.{Stmts, roll-Stmts}
 use Rattle.estelle_tree.specs.declared.tree.statement.Stmt.TheOpen.{Stmt-F, Case-F, Stmts-F}
 use Rattle.estelle_tree.specs.declared.tree.statement.Stmt.TheFolds.{map-Case, map-Stmts, ind-Stmt, ind-Stmts}
 use Rattle.estelle_model.specs.declared.denoter.Denoter.{Denoter}
-use Rattle.estelle_model.specs.Types.{value_of, host_of}
 use Rattle.estelle_model.specs.Paths.{Path}
 use Rattle.estelle_model.specs.States.{Offers}
 use Rattle.estelle_model.specs.Steps.{Step, Do, ◌>>◌, spend}
-use Rattle.estelle_model.specs.Meant.{Routine, Meaning, Meanings, Called, result_number}
-use Rattle.estelle_model.specs.Places.{In, store}
-use Rattle.estelle_model.specs.Expressions.{Here, Given, Call, Operand, Access, Selecting, ordinal_step, give_all, no_arguments, result_of, assigned, target, variable}
+use Rattle.estelle_model.specs.declared.meaning.Routine.{Routine}
+use Rattle.estelle_model.specs.declared.meaning.Meaning.{Meaning}
+use Rattle.estelle_model.specs.declared.meaning.Meaning.TheVariants.{Called}
+use Rattle.estelle_model.specs.Meant.{Meanings, result_number}
+use Rattle.estelle_model.specs.declared.place.Place.TheVariants.{In}
+use Rattle.estelle_model.specs.Places.{store, store_ordinal}
+use Rattle.estelle_model.specs.declared.place.Here.{Here}
+use Rattle.estelle_model.specs.declared.place.Given.{Given}
+use Rattle.estelle_model.specs.Expressions.{Call, Operand, Access, Selecting, ordinal_step, give_all, no_arguments, result_of, assigned, target, variable}
 use Rattle.estelle_model.specs.Loops.{while_turns, repeat_turns, while_loop, repeat_loop, next_of, turns_of, count_turns, count_loop}
 use Rattle.estelle_model.specs.Statements.{Action, Init, Release, Connect, Disconnect, Attach, Detach, Output, is_labelled, chosen, or_nothing, value_of_expr, arguments, assign_to, assign, invoke_of, invoke, choose, count_over, count, select, stmt, branch, stmts}
 use Rattle.estelle_model.proofs.Alike.{Same, EachAlike, MaybeAlike, OutcomeAlike, StepAlike, DoAlike, ValueAlike, then_alike, then_same, pure_alike, fail_alike, if_alike, all_alike, spend_alike}
-use Rattle.estelle_model.proofs.AlikePlaces.{PlaceAlike, ShowAlike, put_alike, store_alike}
+use Rattle.estelle_model.proofs.AlikePlaces.{PlaceAlike, ShowAlike, put_alike, store_alike, store_ordinal_alike}
 use Rattle.estelle_model.proofs.AlikeOperands.{GivenAlike, IsHereWithin, OperandAlike, AccessAlike, SelectingAlike, CallAlike, bool_alike, ordinal_alike, give_all_alike}
 use Rattle.estelle_model.proofs.AlikeExpressions.{accessed_alike, expr_alike, args_alike, variable_alike}
 use Rattle.estelle_model.proofs.StatementEquations.{stmt_at, stmt_made, branch_at, branch_made, stmts_at, stmts_made}
@@ -143,7 +148,7 @@ module _ (S T : Type 0) (on : Offers S) (on' : Offers T) (m : Path) (R : S → T
       (λ i. then_same S T R (Same {A = Unit {0}}) _ _ _ _ (ordinal_alike S T on on' m R _ _ (value_alike last))
       (λ j. then_alike S T R (PlaceAlike m) (Same {A = Unit {0}}) x.place y.place _ _ h.place
       (λ p q pq. count_alike S T R dir i j _ _ _ _ _ _
-      (λ n. subst (λ (d : Denoter). DoAlike S T R (store S on x.denoter p (value_of (host_of x.denoter) n)) (store T on' d q (value_of (host_of d) n))) h.denoter (store_alike S T on on' m R show x.denoter p q (value_of (host_of x.denoter) n) pq))
+      (λ n. subst (λ (d : Denoter). DoAlike S T R (store_ordinal S on x.denoter p n) (store_ordinal T on' d q n)) h.denoter (store_ordinal_alike S T on on' m R show x.denoter p q n pq))
       (put_alike S T on on' m R show p q pascal.Unset pq) k)))
 
   for_alike : (x : Name) (first : Expr) (dir : Direction) (last : Expr) (b : Do S) (c : Do T) → DoAlike S T R b c → DoAlike S T R (count S on meant act call here x first dir last b) (count T on' meant act' call' here x first dir last c)

@@ -13,7 +13,8 @@ use Rattle.estelle_tree.specs.declared.tree.expression.Factor.TheFolds.{map-Sele
 use Rattle.estelle_model.specs.States.{Offers}
 use Rattle.estelle_model.specs.Steps.{Step}
 use Rattle.estelle_model.specs.Meant.{Meanings}
-use Rattle.estelle_model.specs.Expressions.{Here, Call, Operand, Selecting, Written, factor_layer, selector_layer, args_layer, elem_layer, expr_layer, simple_layer, term_layer, variable_layer, factor, selector, args, elem, expr, simple, term, variable}
+use Rattle.estelle_model.specs.declared.place.Here.{Here}
+use Rattle.estelle_model.specs.Expressions.{Call, Operand, Selecting, Written, factor_layer, selector_layer, args_layer, elem_layer, expr_layer, simple_layer, term_layer, variable_layer, factor, selector, args, elem, expr, simple, term, variable}
 
 module _ (S : Type 0) (on : Offers S) (meant : Meanings) (call : Call S) (here : Here) where
   -- one layer

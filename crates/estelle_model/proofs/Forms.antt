@@ -20,7 +20,8 @@ use Rattle.estelle_model.specs.Operators.{signed, related}
 use Rattle.estelle_model.specs.States.{Offers}
 use Rattle.estelle_model.specs.Steps.{Step, Do, ◌>>=◌, pure, checked, all}
 use Rattle.estelle_model.specs.Meant.{Meanings}
-use Rattle.estelle_model.specs.Expressions.{Here, Call, Operand, Written, computed, multiplied, multiplied_host, added, added_host, both, valued, designated, assigned, accessed, indexed, bool_step, ordinal_step, member_step, set_step, expr, args, elem, term, factor, variable, selector, target}
+use Rattle.estelle_model.specs.declared.place.Here.{Here}
+use Rattle.estelle_model.specs.Expressions.{Call, Operand, Written, computed, multiplied, multiplied_host, added, added_host, both, valued, designated, assigned, accessed, indexed, bool_step, ordinal_step, member_step, set_step, expr, args, elem, term, factor, variable, selector, target}
 use Rattle.estelle_model.specs.Loops.{while_loop}
 use Rattle.estelle_model.specs.Statements.{Action, assign_to, invoke_of, count_over, chosen, stmt, branch, stmts, assign, invoke, count, select}
 use Rattle.estelle_model.proofs.ExpressionEquations.{factor_made, selector_made, args_made, elem_made, expr_made, simple_made, term_made, variable_made}

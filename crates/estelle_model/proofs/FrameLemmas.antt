@@ -5,7 +5,8 @@ use Rattle.pascal_values.specs.declared.value.Value.{Value}
 use Rattle.pascal_values.specs.declared.value.Value.TheVariants as value
 use Rattle.pascal_values.specs.Values.{parts_of}
 use Rattle.estelle_model.specs.Steps.{Running}
-use Rattle.estelle_model.specs.Meant.{Routine, result_number}
+use Rattle.estelle_model.specs.declared.meaning.Routine.{Routine}
+use Rattle.estelle_model.specs.Meant.{result_number}
 use Rattle.estelle_model.specs.Calls.{last_or, leave}
 
 last_behind : (v : Value) (vs : List Value) (f : Value) → last_or v (vs ++ f ∷ []) ≡ f

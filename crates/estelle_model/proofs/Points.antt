@@ -12,7 +12,8 @@ use Rattle.estelle_model.specs.Operators.{related}
 use Rattle.estelle_model.specs.States.{Offers}
 use Rattle.estelle_model.specs.Steps.{Running, Do, ◌>>=◌, all}
 use Rattle.estelle_model.specs.Meant.{Meanings}
-use Rattle.estelle_model.specs.Expressions.{Here, Call, Operand, Access, Selecting, valued, added, designated, assigned, indexed, selector, elem, set_step, member_step, both, ordinal_step}
+use Rattle.estelle_model.specs.declared.place.Here.{Here}
+use Rattle.estelle_model.specs.Expressions.{Call, Operand, Access, Selecting, valued, added, designated, assigned, indexed, selector, elem, set_step, member_step, both, ordinal_step}
 use Rattle.estelle_model.specs.Statements.{Action, assign_to, invoke_of, chosen, branch, stmts}
 use Rattle.estelle_model.proofs.Trees as tree
 use Rattle.estelle_model.proofs.Forms.{mean, mean_factor, run, value_of, set_is, member_is, range_is, relation_is, sum_is, case_is, number_is, index_is, call_is, access_is, alone_is, assignment_is, call_statement_is, plain_call_is, sequence_is, empty_is}

@@ -9,7 +9,8 @@ use Rattle.estelle_tree.specs.declared.tree.statement.Stmt.TheFolds.{map-Case, m
 use Rattle.estelle_model.specs.States.{Offers}
 use Rattle.estelle_model.specs.Steps.{Do}
 use Rattle.estelle_model.specs.Meant.{Meanings}
-use Rattle.estelle_model.specs.Expressions.{Here, Call}
+use Rattle.estelle_model.specs.declared.place.Here.{Here}
+use Rattle.estelle_model.specs.Expressions.{Call}
 use Rattle.estelle_model.specs.Statements.{Action, stmt_layer, case_layer, stmts_layer, stmt, branch, stmts}
 
 module _ (S : Type 0) (on : Offers S) (meant : Meanings) (act : Here → Action S → Do S) (call : Call S) (here : Here) where

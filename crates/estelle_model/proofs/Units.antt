@@ -1,6 +1,6 @@
 -- No expression gives units back.
 use Rattle.std.proofs.Common.{ℕ, ◌-◌, ◌≤◌, Bool, true, false, List, [], ◌∷◌, ◌++◌, ℤ, Result, Ok, Err, Option, Some, None, arith, cond}
-use Rattle.std.specs.Prelude.{nat_lt, slice_get}
+use Rattle.std.specs.Prelude.{nat_lt, slice_get, ℤ}
 use Rattle.std.specs.FinMap as fin
 use Rattle.pascal_values.specs.declared.fault.Fault.{Fault}
 use Rattle.pascal_values.specs.declared.fault.Fault.TheVariants.{Unset, StepLimit}
@@ -13,14 +13,19 @@ use Rattle.estelle_tree.specs.declared.tree.expression.Adding.TheVariants as add
 use Rattle.estelle_tree.specs.declared.tree.expression.Multiplying.{Multiplying}
 use Rattle.estelle_tree.specs.declared.tree.expression.Multiplying.TheVariants as multiplying
 use Rattle.estelle_model.specs.declared.denoter.Denoter.{Denoter}
-use Rattle.estelle_model.specs.Types.{ordinal_of, shape_of}
+use Rattle.estelle_model.specs.Types.{ordinal_of, shape_of, host_of, value_in}
 use Rattle.estelle_model.specs.Operators.{bool_of, plus, minus, times, divided, modulo, one_member, members_from}
 use Rattle.estelle_model.specs.Core.{Instance}
 use Rattle.estelle_model.specs.States.{Offers}
 use Rattle.estelle_model.specs.Steps.{Outcome, Step, Do, and_then, ◌>>=◌, ◌>>◌, pure, fail, checked, all, spend}
-use Rattle.estelle_model.specs.Meant.{Routine, Passing, ByValue, ByPlace}
-use Rattle.estelle_model.specs.Places.{Place, Of, In, known, held, held_in, module_variables_of, load, put, put_at, store, child_step}
-use Rattle.estelle_model.specs.Expressions.{Given, Call, Operand, Access, Selecting, bool_step, ordinal_step, both, conjunction, disjunction, multiplied, added, place_of_operand, give, give_all, member_step, set_step}
+use Rattle.estelle_model.specs.declared.meaning.Routine.{Routine}
+use Rattle.estelle_model.specs.declared.meaning.Passing.{Passing}
+use Rattle.estelle_model.specs.declared.meaning.Passing.TheVariants.{ByValue, ByPlace}
+use Rattle.estelle_model.specs.declared.place.Place.{Place}
+use Rattle.estelle_model.specs.declared.place.Place.TheVariants.{Of, In}
+use Rattle.estelle_model.specs.Places.{known, held, held_in, module_variables_of, load, put, put_at, store, store_ordinal, child_step}
+use Rattle.estelle_model.specs.declared.place.Given.{Given}
+use Rattle.estelle_model.specs.Expressions.{Call, Operand, Access, Selecting, bool_step, ordinal_step, both, conjunction, disjunction, multiplied, added, place_of_operand, give, give_all, member_step, set_step}
 use Rattle.estelle_model.proofs.LoopLaws.{AtMost, NeverRaises}
 
 -- it holds of each
@@ -161,6 +166,10 @@ module _ (S : Type 0) (on : Offers S) where
   pub store_never : (d : Denoter) (a : Place) (v : Value) → NeverRaises (store S on d a v)
   unfolding store
   store_never d a v = seq_never S (Unit {0}) (checked (fit_of (shape_of d) v)) (put S on a v) (checked_never S (Unit {0}) (fit_of (shape_of d) v)) (put_never a v)
+
+  pub store_ordinal_never : (d : Denoter) (a : Place) (n : ℤ) → NeverRaises (store_ordinal S on d a n)
+  unfolding store_ordinal
+  store_ordinal_never d a n = then_never S Value (Unit {0}) (checked (value_in (host_of d) n)) (λ v. store S on d a v) (checked_never S Value (value_in (host_of d) n)) (λ v. store_never d a v)
 
   pub child_never : (p : List ℕ) (k : ℕ) → NeverRaises (child_step S on p k)
   unfolding child_step

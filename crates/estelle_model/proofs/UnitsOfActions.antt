@@ -15,9 +15,15 @@ use Rattle.estelle_model.specs.Effects.{Effect, Change, Hold, Enter}
 use Rattle.estelle_model.specs.Effects as effect
 use Rattle.estelle_model.specs.States.{Offers}
 use Rattle.estelle_model.specs.Steps.{Do, ◌>>=◌, ◌>>◌, pure, checked, spend}
-use Rattle.estelle_model.specs.Meant.{ByValue, Routine, Meaning, Meanings, Module, Ip, Body}
+use Rattle.estelle_model.specs.declared.meaning.Passing.TheVariants.{ByValue}
+use Rattle.estelle_model.specs.declared.meaning.Routine.{Routine}
+use Rattle.estelle_model.specs.declared.meaning.Meaning.{Meaning}
+use Rattle.estelle_model.specs.declared.meaning.Meaning.TheVariants.{Module, Ip, Body}
+use Rattle.estelle_model.specs.Meant.{Meanings}
 use Rattle.estelle_model.specs.Places.{child_step}
-use Rattle.estelle_model.specs.Expressions.{Here, Given, Operand, give_all, no_arguments}
+use Rattle.estelle_model.specs.declared.place.Here.{Here}
+use Rattle.estelle_model.specs.declared.place.Given.{Given}
+use Rattle.estelle_model.specs.Expressions.{Operand, give_all, no_arguments}
 use Rattle.estelle_model.specs.Statements.{Init, Release, Connect, Disconnect, Attach, Detach, Output}
 use Rattle.estelle_model.specs.Calls.{Enters}
 use Rattle.estelle_model.specs.Blocks.{block_step}

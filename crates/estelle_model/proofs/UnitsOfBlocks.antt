@@ -15,20 +15,27 @@ use Rattle.estelle_tree.specs.declared.tree.statement.Stmts.{Stmts, roll-Stmts}
 use Rattle.estelle_tree.specs.declared.tree.statement.Stmt.TheOpen.{Stmt-F, Case-F, Stmts-F}
 use Rattle.estelle_tree.specs.declared.tree.statement.Stmt.TheFolds.{map-Case, map-Stmts, ind-Stmt, ind-Stmts}
 use Rattle.estelle_model.specs.declared.denoter.Denoter.{Denoter}
-use Rattle.estelle_model.specs.Types.{ordinal_of, value_of, host_of}
+use Rattle.estelle_model.specs.Types.{ordinal_of}
 use Rattle.estelle_model.specs.Operators.{bool_of}
 use Rattle.estelle_model.specs.Paths.{Path}
 use Rattle.estelle_model.specs.States.{Offers}
 use Rattle.estelle_model.specs.Steps.{Step, Do, ◌>>=◌, ◌>>◌, pure, fail, spend}
-use Rattle.estelle_model.specs.Meant.{Routine, Meaning, Meanings, Called, result_number}
-use Rattle.estelle_model.specs.Places.{Place, In, put, store}
-use Rattle.estelle_model.specs.Expressions.{Here, Given, Call, Operand, Access, Selecting, bool_step, ordinal_step, give_all, no_arguments, accessed, result_of, assigned, target, variable}
+use Rattle.estelle_model.specs.declared.meaning.Routine.{Routine}
+use Rattle.estelle_model.specs.declared.meaning.Meaning.{Meaning}
+use Rattle.estelle_model.specs.declared.meaning.Meaning.TheVariants.{Called}
+use Rattle.estelle_model.specs.Meant.{Meanings, result_number}
+use Rattle.estelle_model.specs.declared.place.Place.{Place}
+use Rattle.estelle_model.specs.declared.place.Place.TheVariants.{In}
+use Rattle.estelle_model.specs.Places.{put, store, store_ordinal}
+use Rattle.estelle_model.specs.declared.place.Here.{Here}
+use Rattle.estelle_model.specs.declared.place.Given.{Given}
+use Rattle.estelle_model.specs.Expressions.{Call, Operand, Access, Selecting, bool_step, ordinal_step, give_all, no_arguments, accessed, result_of, assigned, target, variable}
 use Rattle.estelle_model.specs.Loops.{while_turns, repeat_turns, while_loop, repeat_loop, next_of, turns_of, count_turns, count_loop}
 use Rattle.estelle_model.specs.Statements.{Action, Init, Release, Connect, Disconnect, Attach, Detach, Output, is_labelled, chosen, or_nothing, value_of_expr, arguments, assign_to, assign, invoke_of, invoke, choose, count_over, count, select, stmt, branch, stmts}
 use Rattle.estelle_model.specs.Calls.{Enters, call_by, enter, leave, within, nested, max_depth}
 use Rattle.estelle_model.specs.Blocks.{given_values, from_block, block_step}
 use Rattle.estelle_model.proofs.LoopLaws.{NeverRaises}
-use Rattle.estelle_model.proofs.Units.{Each, IfThere, OperandNever, AccessNever, SelectingNever, CallNever, then_never, pure_never, fail_never, if_never, seq_never, all_never, spend_never, of_value_never, give_all_never, put_never, store_never}
+use Rattle.estelle_model.proofs.Units.{Each, IfThere, OperandNever, AccessNever, SelectingNever, CallNever, then_never, pure_never, fail_never, if_never, seq_never, all_never, spend_never, of_value_never, give_all_never, put_never, store_never, store_ordinal_never}
 use Rattle.estelle_model.proofs.UnitsOfExpressions.{accessed_never, args_never, expr_never, variable_never}
 use Rattle.estelle_model.proofs.StatementEquations.{stmt_at, stmt_made, branch_at, branch_made, stmts_at, stmts_made}
 
@@ -122,10 +129,10 @@ module _ (S : Type 0) (on : Offers S) (meant : Meanings) (act : Here → Action 
 
   count_over_never : (o : Option (Access S)) (first : Expr) (dir : Direction) (last : Expr) (b : Do S) → IfThere (AccessNever S) o → NeverRaises b → NeverRaises (count_over S on meant act call here o (ordinal_step (value_of_expr S on meant act call here first)) dir (ordinal_step (value_of_expr S on meant act call here last)) b)
   count_over_never None first dir last b h k = fail_never S (Unit {0}) fault.Unset
-  count_over_never (Some a) first dir last b h k = then_never S ℤ (Unit {0}) (ordinal_step (value_of_expr S on meant act call here first)) (λ i. ordinal_step (value_of_expr S on meant act call here last) >>= λ j. a.place >>= λ p. count_loop dir i j (λ n. store S on a.denoter p (value_of (host_of a.denoter) n)) (put S on p pascal.Unset) b) (ordinal_never first)
-      (λ i. then_never S ℤ (Unit {0}) (ordinal_step (value_of_expr S on meant act call here last)) (λ j. a.place >>= λ p. count_loop dir i j (λ n. store S on a.denoter p (value_of (host_of a.denoter) n)) (put S on p pascal.Unset) b) (ordinal_never last)
-      (λ j. then_never S Place (Unit {0}) a.place (λ p. count_loop dir i j (λ n. store S on a.denoter p (value_of (host_of a.denoter) n)) (put S on p pascal.Unset) b) h
-      (λ p. count_never S dir i j (λ n. store S on a.denoter p (value_of (host_of a.denoter) n)) (put S on p pascal.Unset) b (λ n. store_never S on a.denoter p (value_of (host_of a.denoter) n)) (put_never S on p pascal.Unset) k)))
+  count_over_never (Some a) first dir last b h k = then_never S ℤ (Unit {0}) (ordinal_step (value_of_expr S on meant act call here first)) (λ i. ordinal_step (value_of_expr S on meant act call here last) >>= λ j. a.place >>= λ p. count_loop dir i j (λ n. store_ordinal S on a.denoter p n) (put S on p pascal.Unset) b) (ordinal_never first)
+      (λ i. then_never S ℤ (Unit {0}) (ordinal_step (value_of_expr S on meant act call here last)) (λ j. a.place >>= λ p. count_loop dir i j (λ n. store_ordinal S on a.denoter p n) (put S on p pascal.Unset) b) (ordinal_never last)
+      (λ j. then_never S Place (Unit {0}) a.place (λ p. count_loop dir i j (λ n. store_ordinal S on a.denoter p n) (put S on p pascal.Unset) b) h
+      (λ p. count_never S dir i j (λ n. store_ordinal S on a.denoter p n) (put S on p pascal.Unset) b (λ n. store_ordinal_never S on a.denoter p n) (put_never S on p pascal.Unset) k)))
 
   for_never : (x : Name) (first : Expr) (dir : Direction) (last : Expr) (b : Do S) → NeverRaises b → NeverRaises (count S on meant act call here x first dir last b)
   unfolding count

@@ -22,13 +22,21 @@ use Rattle.estelle_tree.specs.declared.tree.expression.Variable.{Variable, roll-
 use Rattle.estelle_tree.specs.declared.tree.expression.Factor.TheOpen.{Factor-F, Selector-F, Args-F, Elem-F, Expr-F, Simple-F, Term-F, Variable-F}
 use Rattle.estelle_tree.specs.declared.tree.expression.Factor.TheFolds.{map-Selector, map-Args, map-Elem, map-Expr, map-Simple, map-Term, map-Variable, ind-Args, ind-Expr, ind-Variable}
 use Rattle.estelle_model.specs.Types.{ordinal_of, bounds_of}
-use Rattle.estelle_model.specs.Operators.{negation, signed, related, Required, required_value}
+use Rattle.estelle_model.specs.declared.meaning.Required.{Required}
+use Rattle.estelle_model.specs.Operators.{negation, signed, related, required_value}
 use Rattle.estelle_model.specs.Paths.{Path}
 use Rattle.estelle_model.specs.States.{Offers}
 use Rattle.estelle_model.specs.Steps.{◌>>=◌, pure, checked}
-use Rattle.estelle_model.specs.Meant.{Routine, Meaning, Meanings, Constant, Own, Exported, Local, Var, Field, Called, RequiredFunction, Module}
-use Rattle.estelle_model.specs.Places.{Place, Of, In, deeper, set_value, load, child_step}
-use Rattle.estelle_model.specs.Expressions.{Here, Given, Call, Operand, Access, Selecting, Written, ordinal_step, multiplied, multiplied_host, added, added_host, computed, give_all, no_arguments, reference_at, index_step, indexed, fielded, selected, exported, behind_dot, behind_module, accessed, of_access, called, valued, required_of, designated, term_of, with_sign, simple_of, factor, selector, args, elem, expr, simple, term, variable}
+use Rattle.estelle_model.specs.declared.meaning.Routine.{Routine}
+use Rattle.estelle_model.specs.declared.meaning.Meaning.{Meaning}
+use Rattle.estelle_model.specs.declared.meaning.Meaning.TheVariants.{Constant, Own, Exported, Local, Var, Field, Called, RequiredFunction, Module}
+use Rattle.estelle_model.specs.Meant.{Meanings}
+use Rattle.estelle_model.specs.declared.place.Place.{Place}
+use Rattle.estelle_model.specs.declared.place.Place.TheVariants.{Of, In}
+use Rattle.estelle_model.specs.Places.{deeper, set_value, load, child_step}
+use Rattle.estelle_model.specs.declared.place.Here.{Here}
+use Rattle.estelle_model.specs.declared.place.Given.{Given}
+use Rattle.estelle_model.specs.Expressions.{Call, Operand, Access, Selecting, Written, ordinal_step, multiplied, multiplied_host, added, added_host, computed, give_all, no_arguments, reference_at, index_step, indexed, fielded, selected, exported, behind_dot, behind_module, accessed, of_access, called, valued, required_of, designated, term_of, with_sign, simple_of, factor, selector, args, elem, expr, simple, term, variable}
 use Rattle.estelle_model.proofs.LoopLaws.{NeverRaises}
 use Rattle.estelle_model.proofs.Units.{Each, IfThere, OperandNever, AccessNever, SelectingNever, CallNever, then_never, pure_never, fail_never, checked_never, of_value_never, both_never, multiplied_never, added_never, give_all_never, member_never, set_never, load_never, child_never}
 use Rattle.estelle_model.proofs.ExpressionEquations.{factor_at, factor_made, selector_at, selector_made, args_at, args_made, elem_at, elem_made, expr_at, expr_made, simple_at, simple_made, term_at, term_made, variable_at, variable_made}

@@ -9,9 +9,10 @@ use Rattle.estelle_model.specs.Paths.{Path}
 use Rattle.estelle_model.specs.Core.{Instance}
 use Rattle.estelle_model.specs.States.{Offers}
 use Rattle.estelle_model.specs.Steps.{Running}
-use Rattle.estelle_model.specs.Meant.{Meanings, Module, Ip}
+use Rattle.estelle_model.specs.declared.meaning.Meaning.TheVariants.{Module, Ip}
+use Rattle.estelle_model.specs.Meant.{Meanings}
 use Rattle.estelle_model.specs.Places.{child_step}
-use Rattle.estelle_model.specs.Expressions.{Here}
+use Rattle.estelle_model.specs.declared.place.Here.{Here}
 use Rattle.estelle_model.specs.Calls.{nested}
 use Rattle.estelle_model.specs.Subject.{Subject, Child}
 use Rattle.estelle_model.specs.Actions.{act, at, is_bound, is_upper, release, connect, detach, init}

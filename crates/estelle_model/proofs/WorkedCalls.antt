@@ -10,9 +10,13 @@ use Rattle.estelle_model.specs.declared.denoter.Denoter.TheVariants.{outs-Array 
 use Rattle.estelle_model.specs.Paths.{Path}
 use Rattle.estelle_model.specs.States.{Offers}
 use Rattle.estelle_model.specs.Steps.{Running, Outcome, Do, and_then, pure, fail, spend}
-use Rattle.estelle_model.specs.Meant.{ByPlace, Routine, Meanings, Local, Var, Called}
+use Rattle.estelle_model.specs.declared.meaning.Passing.TheVariants.{ByPlace}
+use Rattle.estelle_model.specs.declared.meaning.Routine.{Routine}
+use Rattle.estelle_model.specs.declared.meaning.Meaning.TheVariants.{Local, Var, Called}
+use Rattle.estelle_model.specs.Meant.{Meanings}
 use Rattle.estelle_model.specs.Places.{load, store, put}
-use Rattle.estelle_model.specs.Expressions.{Here, called, no_arguments}
+use Rattle.estelle_model.specs.declared.place.Here.{Here}
+use Rattle.estelle_model.specs.Expressions.{called, no_arguments}
 use Rattle.estelle_model.specs.Statements.{Action}
 use Rattle.estelle_model.specs.Calls.{Enters, call_by, nested, within, leave, max_depth}
 use Rattle.estelle_model.proofs.Trees as tree

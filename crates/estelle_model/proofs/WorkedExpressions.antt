@@ -15,8 +15,11 @@ use Rattle.estelle_model.specs.declared.denoter.Host.TheVariants as host
 use Rattle.estelle_model.specs.Operators.{plus, divided, modulo, signed}
 use Rattle.estelle_model.specs.States.{Offers}
 use Rattle.estelle_model.specs.Steps.{Running, Outcome, Step, ◌>>=◌, pure, checked}
-use Rattle.estelle_model.specs.Meant.{Meaning, Meanings, Constant}
-use Rattle.estelle_model.specs.Expressions.{Here, Call, Operand, computed, multiplied, both, conjunction, disjunction, valued}
+use Rattle.estelle_model.specs.declared.meaning.Meaning.{Meaning}
+use Rattle.estelle_model.specs.declared.meaning.Meaning.TheVariants.{Constant}
+use Rattle.estelle_model.specs.Meant.{Meanings}
+use Rattle.estelle_model.specs.declared.place.Here.{Here}
+use Rattle.estelle_model.specs.Expressions.{Call, Operand, computed, multiplied, both, conjunction, disjunction, valued}
 use Rattle.estelle_model.proofs.Trees as tree
 use Rattle.estelle_model.proofs.Forms.{mean, mean_factor, number_is, parenthesised_is, access_is, product_is, sum_is, signed_is, signed_alone_is}
 

@@ -12,13 +12,16 @@ use Rattle.estelle_model.specs.declared.denoter.Host.TheVariants as host
 use Rattle.estelle_model.specs.declared.denoter.Denoter.TheVariants as denoter
 use Rattle.estelle_model.specs.declared.denoter.Denoter.TheVariants.{outs-Ordinal}
 use Rattle.estelle_model.specs.Types.{whole}
-use Rattle.estelle_model.specs.Operators.{Succ, Chr, required_value, one_member, members_from, related}
+use Rattle.estelle_model.specs.declared.meaning.Required.TheVariants.{Succ, Chr}
+use Rattle.estelle_model.specs.Operators.{required_value, one_member, members_from, related}
 use Rattle.estelle_model.specs.Paths.{Path}
 use Rattle.estelle_model.specs.States.{Offers}
 use Rattle.estelle_model.specs.Steps.{Running, Outcome, Do}
-use Rattle.estelle_model.specs.Meant.{Meaning, Local, RequiredFunction}
+use Rattle.estelle_model.specs.declared.meaning.Meaning.{Meaning}
+use Rattle.estelle_model.specs.declared.meaning.Meaning.TheVariants.{Local, RequiredFunction}
 use Rattle.estelle_model.specs.Places.{load}
-use Rattle.estelle_model.specs.Expressions.{Here, Call}
+use Rattle.estelle_model.specs.declared.place.Here.{Here}
+use Rattle.estelle_model.specs.Expressions.{Call}
 use Rattle.estelle_model.specs.Statements.{Action}
 use Rattle.estelle_model.proofs.Trees as tree
 use Rattle.estelle_model.proofs.StatementEquations.{branch_made}

@@ -20,7 +20,8 @@ use Rattle.estelle_model.specs.Operators.{plus, related}
 use Rattle.estelle_model.specs.Core.{Instance}
 use Rattle.estelle_model.specs.Effects.{Store, Enter}
 use Rattle.estelle_model.specs.States.{Offers}
-use Rattle.estelle_model.specs.Meant.{Meanings, Own, State}
+use Rattle.estelle_model.specs.declared.meaning.Meaning.TheVariants.{Own, State}
+use Rattle.estelle_model.specs.Meant.{Meanings}
 use Rattle.estelle_model.specs.Denoted.{Section, named_type}
 use Rattle.estelle_model.specs.Bodies.{Standing, Way, bodies, bodies_declare}
 use Rattle.estelle_model.specs.Names.{meant_by, declared}

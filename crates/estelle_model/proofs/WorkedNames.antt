@@ -1,6 +1,6 @@
 -- Examples of what names mean.
 use Rattle.std.proofs.Common.{◌≡◌, ℕ, Bool, false, true, List, [], ◌∷◌, pos, Some, None, refl, ap, ◌∙◌}
-use Rattle.std.specs.Prelude.{codes, nat_eq, if◌then◌else◌, slice_get}
+use Rattle.std.specs.Prelude.{codes, slice_get}
 use Rattle.pascal_values.specs.declared.value.Value.TheVariants as pascal
 use Rattle.pascal_values.specs.declared.value.Value.TheVariants.{outs-Int}
 use Rattle.estelle_tree.specs.declared.names.Use.{Use}
@@ -21,7 +21,10 @@ use Rattle.estelle_model.specs.declared.denoter.Host.TheVariants as host
 use Rattle.estelle_model.specs.declared.denoter.Denoter.{Denoter}
 use Rattle.estelle_model.specs.declared.denoter.Denoter.TheVariants as denoter
 use Rattle.estelle_model.specs.declared.denoter.Denoter.TheVariants.{outs-Ordinal}
-use Rattle.estelle_model.specs.Meant.{ByValue, ByPlace, Meaning, Meanings, Constant, TypeName, Local, Var, Called, Other}
+use Rattle.estelle_model.specs.declared.meaning.Passing.TheVariants.{ByValue, ByPlace}
+use Rattle.estelle_model.specs.declared.meaning.Meaning.{Meaning}
+use Rattle.estelle_model.specs.declared.meaning.Meaning.TheVariants.{Constant, TypeName, Local, Var, Called}
+use Rattle.estelle_model.specs.Meant.{Meanings}
 use Rattle.estelle_model.specs.Denoted.{Typing, Section, type_layer, fields_layer, typed_layer, typing, section, ordinal_type, ordinal_declares}
 use Rattle.estelle_model.specs.Definitions.{block_declares, routine_declares}
 use Rattle.estelle_model.specs.Names.{meant_by, with_all, declared}
@@ -115,8 +118,8 @@ f = record {
 }
 
 -- t is declared at 20 as 1..3
-abbrev pub around : ℕ → Meaning
-around place = if nat_eq place 20 then TypeName (denoter.Ordinal host.Integer (pos 1) (pos 3)) else Other
+abbrev pub around : List (ℕ × Meaning)
+around = (20, TypeName (denoter.Ordinal host.Integer (pos 1) (pos 3))) ∷ []
 
 abbrev pub names_of_f : List Use
 names_of_f = used 60 20 ∷ used 71 51 ∷ used 72 52 ∷ used 73 53 ∷ used 74 54 ∷ used 75 50 ∷ []

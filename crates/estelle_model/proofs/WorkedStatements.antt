@@ -19,11 +19,15 @@ use Rattle.estelle_model.specs.Operators.{bool_of, divided}
 use Rattle.estelle_model.specs.Paths.{Path}
 use Rattle.estelle_model.specs.States.{Offers}
 use Rattle.estelle_model.specs.Steps.{Running, Outcome, Step, Do, and_then, pure, checked_at, spend}
-use Rattle.estelle_model.specs.Meant.{Meaning, Meanings, Constant, Local}
+use Rattle.estelle_model.specs.declared.meaning.Meaning.{Meaning}
+use Rattle.estelle_model.specs.declared.meaning.Meaning.TheVariants.{Constant, Local}
+use Rattle.estelle_model.specs.Meant.{Meanings}
 use Rattle.estelle_model.specs.Names.{or_other}
-use Rattle.estelle_model.specs.Places.{In, load, store, put}
+use Rattle.estelle_model.specs.declared.place.Place.TheVariants.{In}
+use Rattle.estelle_model.specs.Places.{load, store, store_ordinal, put}
 use Rattle.estelle_model.specs.Loops.{count_loop, while_loop, while_turns}
-use Rattle.estelle_model.specs.Expressions.{Here, Call, Operand, Access, Selecting, computed, both, assigned, index_step, ordinal_step, bool_step}
+use Rattle.estelle_model.specs.declared.place.Here.{Here}
+use Rattle.estelle_model.specs.Expressions.{Call, Operand, Access, Selecting, computed, both, assigned, index_step, ordinal_step, bool_step}
 use Rattle.estelle_model.specs.Statements.{Action, assign_to, count_over}
 use Rattle.estelle_model.proofs.Trees as tree
 use Rattle.estelle_model.proofs.Fitting.{shape_ordinal, within_int, fit_int}
@@ -155,12 +159,12 @@ module _ (S : Type 0) (on : Offers S) (act : Here → Action S → Do S) (call :
 
   -- five turns take five units; then the variable is unset
   pub five_turns : (v : Value) → does (Local 0 integer ∷ []) (count_up (pos 1) (pos 5)) (v ∷ []) 5 ≡ Ok (tt, running (pascal.Unset ∷ []) 0)
-  unfolding count_loop store put spend
+  unfolding count_loop store_ordinal store put spend
   five_turns v = ap (λ p. p (running (v ∷ []) 5)) (counting (pos 1) (pos 5)) ∙ simp (outs-Int, outs-Fields, outs-Ordinal, shape_ordinal, within_int)
 
   -- a sixth turn has no unit
   pub sixth_turn : (v : Value) → does (Local 0 integer ∷ []) (count_up (pos 1) (pos 6)) (v ∷ []) 5 ≡ Err (fault.StepLimit, 0)
-  unfolding count_loop store put spend
+  unfolding count_loop store_ordinal store put spend
   sixth_turn v = ap (λ p. p (running (v ∷ []) 5)) (counting (pos 1) (pos 6)) ∙ simp (outs-Int, outs-Ordinal, shape_ordinal, within_int)
 
   -- without a turn it leaves its variable unset, and takes no unit

@@ -16,10 +16,14 @@ use Rattle.estelle_model.specs.Effects.{Effect, Change, Hold, Enter}
 use Rattle.estelle_model.specs.Effects as effect
 use Rattle.estelle_model.specs.States.{Offers}
 use Rattle.estelle_model.specs.Steps.{Step, Do, ◌>>=◌, ◌>>◌, pure, fail, checked, checked_at, spend}
-use Rattle.estelle_model.specs.Meant.{ByValue, Meaning, Meanings, Module, Ip, Body, Interaction}
+use Rattle.estelle_model.specs.declared.meaning.Passing.TheVariants.{ByValue}
+use Rattle.estelle_model.specs.declared.meaning.Meaning.{Meaning}
+use Rattle.estelle_model.specs.declared.meaning.Meaning.TheVariants.{Module, Ip, Body, Interaction}
+use Rattle.estelle_model.specs.Meant.{Meanings}
 use Rattle.estelle_model.specs.Subject.{Subject, Child, child_of}
 use Rattle.estelle_model.specs.Places.{child_step}
-use Rattle.estelle_model.specs.Expressions.{Here, Operand, give_all, no_arguments}
+use Rattle.estelle_model.specs.declared.place.Here.{Here}
+use Rattle.estelle_model.specs.Expressions.{Operand, give_all, no_arguments}
 use Rattle.estelle_model.specs.Statements.{Action, Init, Release, Connect, Disconnect, Attach, Detach, Output}
 use Rattle.estelle_model.specs.Calls.{Enters}
 

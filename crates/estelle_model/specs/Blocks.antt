@@ -6,8 +6,11 @@ use Rattle.estelle_tree.specs.declared.tree.expression.Expr.{Expr}
 use Rattle.estelle_model.specs.Paths.{Path}
 use Rattle.estelle_model.specs.States.{Offers}
 use Rattle.estelle_model.specs.Steps.{Running, Step, Do, ◌>>=◌, ◌>>◌, pure}
-use Rattle.estelle_model.specs.Meant.{Routine, Meanings}
-use Rattle.estelle_model.specs.Expressions.{Here, Given, expr}
+use Rattle.estelle_model.specs.declared.meaning.Routine.{Routine}
+use Rattle.estelle_model.specs.Meant.{Meanings}
+use Rattle.estelle_model.specs.declared.place.Here.{Here}
+use Rattle.estelle_model.specs.declared.place.Given.{Given}
+use Rattle.estelle_model.specs.Expressions.{expr}
 use Rattle.estelle_model.specs.Statements.{Action}
 use Rattle.estelle_model.specs.Calls.{Enters, call_by, within, nested, max_depth}
 

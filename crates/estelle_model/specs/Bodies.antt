@@ -1,5 +1,5 @@
 -- The bodies of a specification, and what is declared in each (ISO/IEC 9074).
-use Rattle.std.specs.Prelude.{ℕ, suc, ◌+◌, Bool, true, false, List, [], ◌∷◌, ◌++◌, length, map, replicate, flat_map, option_to_list, Option, Some, None}
+use Rattle.std.specs.Prelude.{ℕ, suc, ◌+◌, Bool, true, false, List, [], ◌∷◌, ◌++◌, length, map, replicate, flat_map, option_to_list, option_map, Option, Some, None}
 use Rattle.estelle_tree.specs.declared.tree.name.Name.{Name}
 use Rattle.estelle_tree.specs.declared.tree.clause.Block.{Block}
 use Rattle.estelle_tree.specs.declared.tree.clause.Clause.{Clause}
@@ -10,6 +10,10 @@ use Rattle.estelle_tree.specs.declared.tree.specification.Disc.{Disc}
 use Rattle.estelle_tree.specs.declared.tree.specification.Disc.TheVariants as disc
 use Rattle.estelle_tree.specs.declared.tree.specification.Head.{Head}
 use Rattle.estelle_tree.specs.declared.tree.specification.Head.TheVariants as head
+use Rattle.estelle_tree.specs.declared.tree.specification.SysAttr.{SysAttr}
+use Rattle.estelle_tree.specs.declared.tree.specification.SysAttr.TheVariants as system
+use Rattle.estelle_tree.specs.declared.tree.specification.Attr.{Attr}
+use Rattle.estelle_tree.specs.declared.tree.specification.Attr.TheVariants as attr
 use Rattle.estelle_tree.specs.declared.tree.specification.Header.{Header as HeaderTree}
 use Rattle.estelle_tree.specs.declared.tree.specification.IpDecl.{IpDecl}
 use Rattle.estelle_tree.specs.declared.tree.specification.StatesetDef.{StatesetDef}
@@ -20,9 +24,14 @@ use Rattle.estelle_tree.specs.declared.tree.specification.Decl.TheOpen.{Decl-F, 
 use Rattle.estelle_tree.specs.declared.tree.specification.Decl.TheFolds.{fold-Parts}
 use Rattle.estelle_tree.specs.declared.tree.specification.Spec.{Spec}
 use Rattle.estelle_model.specs.declared.denoter.Denoter.{Denoter}
-use Rattle.estelle_model.specs.Meant.{Heading, Meaning, Meanings, Own, Exported, Module, Ip, State, StateSet, Header, Body}
+use Rattle.estelle_model.specs.declared.meaning.Attribute.{Attribute}
+use Rattle.estelle_model.specs.declared.meaning.Attribute.TheVariants.{Systemprocess, Systemactivity, Process, Activity}
+use Rattle.estelle_model.specs.declared.meaning.Heading.{Heading}
+use Rattle.estelle_model.specs.declared.meaning.Meaning.{Meaning}
+use Rattle.estelle_model.specs.declared.meaning.Meaning.TheVariants.{Own, Exported, Module, Ip, State, StateSet, Header, Body}
+use Rattle.estelle_model.specs.Meant.{Meanings}
 use Rattle.estelle_model.specs.Denoted.{Declaration, Declarations, declare, numbered, Section, types_declare, sections_declare, section_types, count_names, section}
-use Rattle.estelle_model.specs.Definitions.{const_def, type_def, routine_declares, parameter_sections, channel_declares, block_declares}
+use Rattle.estelle_model.specs.Definitions.{const_def, type_def, routine_declares, parameter_sections, channel_declares, clause_declares, block_declares}
 
 -- ---- the ways from `trans` to the blocks
 
@@ -44,6 +53,17 @@ group_layer g = map (behind g.clause) g.body
 -- in text order
 unfoldable pub ways : TransBody → List Way
 ways = fold-TransBody (List Way) (List Way) trans_body_layer group_layer
+
+abbrev pub clauses_layer : TransBody-F (List Clause) (List Clause) → List Clause
+clauses_layer (TransBody-F.Block b) = []
+clauses_layer (TransBody-F.Groups groups span) = flat_map (λ cs. cs) groups
+
+abbrev pub clause_group_layer : Group-F (List Clause) (List Clause) → List Clause
+clause_group_layer g = g.clause ∷ g.body
+
+-- the clauses in text order
+unfoldable pub clauses : TransBody → List Clause
+clauses = fold-TransBody (List Clause) (List Clause) clauses_layer clause_group_layer
 
 -- ---- bodies as they stand
 
@@ -87,6 +107,15 @@ ip_names = flat_map (λ d. d.names.names)
 abbrev pub export_sections : HeaderTree → List Section
 export_sections h = map section h.exports
 
+abbrev pub system_attribute : SysAttr → Attribute
+system_attribute (system.Systemprocess span) = Systemprocess
+system_attribute (system.Systemactivity span) = Systemactivity
+
+abbrev pub attribute_of : Attr → Attribute
+attribute_of (attr.SysAttr a) = system_attribute a
+attribute_of (attr.Process span) = Process
+attribute_of (attr.Activity span) = Activity
+
 -- the parameters, the exported variables and the interaction points of a header are those of an instance of each of its bodies
 abbrev pub header_declares : Bool → HeaderTree → Declarations
 header_declares by_default h =
@@ -95,6 +124,7 @@ header_declares by_default h =
     ++ sections_declare (λ known n t. Exported n t) (count_names (parameter_sections h.params)) (export_sections h)
     ++ numbered (λ n known. Ip n) 0 (ip_names h.ips)
     ++ declare h.name (λ known. Header (record {
+      attribute = option_map attribute_of h.attr;
       parameters = section_types known (parameter_sections h.params);
       exports = section_types known (export_sections h);
       ips = ips_common by_default h.ips;
@@ -148,7 +178,7 @@ bodies spec = standings (default_of spec.heads) spec.parts
 -- ---- what is declared in a body
 
 abbrev pub no_heading : Heading
-no_heading = record { parameters = []; exports = []; ips = [] }
+no_heading = record { attribute = None; parameters = []; exports = []; ips = [] }
 
 abbrev pub heading_of : Meaning → Heading
 heading_of (Header h) = h
@@ -186,6 +216,9 @@ own_from known b = length ((heading known b.header).parameters ++ (heading known
 abbrev pub ways_of : Standing → List Way
 ways_of b = flat_map (λ t. ways t.body) b.trans
 
+abbrev pub clauses_in : Standing → List Clause
+clauses_in b = flat_map (λ t. clauses t.body) b.trans
+
 abbrev pub name_declares : ℕ → Option Name → Declarations
 name_declares k None = []
 name_declares k (Some x) = declare x (λ known. Body k) ∷ []
@@ -199,6 +232,7 @@ body_declares k b =
     ++ numbered (λ n known. Module n) 0 (module_variables_in b)
     ++ numbered (λ n known. Ip (length (heading known b.header).ips + n)) 0 (ip_names (ips_in b))
     ++ flat_map (λ i. block_declares [] i.block) (option_to_list b.init)
+    ++ flat_map clause_declares (clauses_in b)
     ++ flat_map (λ w. block_declares w.clauses w.block) (ways_of b)
     ++ name_declares k b.name
 

@@ -10,8 +10,11 @@ use Rattle.estelle_model.specs.Types.{shape_of}
 use Rattle.estelle_model.specs.Paths.{Path}
 use Rattle.estelle_model.specs.States.{Offers}
 use Rattle.estelle_model.specs.Steps.{Step, Do, ◌>>◌, pure, fail, spend}
-use Rattle.estelle_model.specs.Meant.{Routine, Meanings, result_types, result_number}
-use Rattle.estelle_model.specs.Expressions.{Here, Given, Call}
+use Rattle.estelle_model.specs.declared.meaning.Routine.{Routine}
+use Rattle.estelle_model.specs.Meant.{Meanings, result_types, result_number}
+use Rattle.estelle_model.specs.declared.place.Here.{Here}
+use Rattle.estelle_model.specs.declared.place.Given.{Given}
+use Rattle.estelle_model.specs.Expressions.{Call}
 use Rattle.estelle_model.specs.Statements.{Action, stmts}
 
 -- a variable of a type as it begins: each simple part and each set is unset

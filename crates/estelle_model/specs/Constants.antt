@@ -10,7 +10,9 @@ use Rattle.estelle_tree.specs.declared.tree.type_expr.Const.TheVariants as const
 use Rattle.estelle_model.specs.declared.denoter.Host.{Host}
 use Rattle.estelle_model.specs.declared.denoter.Host.TheVariants as host
 use Rattle.estelle_model.specs.Operators.{signed, ◌>>>◌}
-use Rattle.estelle_model.specs.Meant.{Meaning, Meanings, Constant, Other}
+use Rattle.estelle_model.specs.declared.meaning.Meaning.{Meaning}
+use Rattle.estelle_model.specs.declared.meaning.Meaning.TheVariants.{Constant, Other}
+use Rattle.estelle_model.specs.Meant.{Meanings}
 
 abbrev pub by_sign : Option Sign → Value → Result Value Fault
 by_sign None v = Ok v

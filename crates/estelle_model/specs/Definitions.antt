@@ -18,7 +18,11 @@ use Rattle.estelle_tree.specs.declared.tree.specification.Channel.{Channel}
 use Rattle.estelle_tree.specs.declared.tree.specification.Inter.{Inter}
 use Rattle.estelle_tree.specs.declared.tree.specification.Params.{Params}
 use Rattle.estelle_model.specs.declared.denoter.Denoter.{Denoter}
-use Rattle.estelle_model.specs.Meant.{Passing, ByValue, ByPlace, Meaning, Meanings, TypeName, Local, Var, Called, Interaction}
+use Rattle.estelle_model.specs.declared.meaning.Passing.{Passing}
+use Rattle.estelle_model.specs.declared.meaning.Passing.TheVariants.{ByValue, ByPlace}
+use Rattle.estelle_model.specs.declared.meaning.Meaning.{Meaning}
+use Rattle.estelle_model.specs.declared.meaning.Meaning.TheVariants.{TypeName, Local, Var, Called, Interaction}
+use Rattle.estelle_model.specs.Meant.{Meanings}
 use Rattle.estelle_model.specs.Constants.{const_meaning}
 use Rattle.estelle_model.specs.Denoted.{Declarations, declare, named_type, ordinal_declares, Section, types_declare, sections_declare, section_types, typing, section, of_named_type}
 
@@ -115,9 +119,12 @@ abbrev pub domains_of : Clause → List AnyDom
 domains_of (clause.Any domains span) = domains
 domains_of _ = []
 
+-- the values of the enumerations in the domains of an `any` clause
+abbrev pub clause_declares : Clause → Declarations
+clause_declares c = flat_map (λ d. ordinal_declares d.domain) (domains_of c)
+
 -- a block under these clauses: its own variables are numbered behind the parameters of the interaction
 abbrev pub block_declares : List Clause → Block → Declarations
 block_declares cs b =
-    flat_map (λ d. ordinal_declares d.domain) (flat_map domains_of cs)
-    ++ flat_map definitions b.decls
+    flat_map definitions b.decls
     ++ sections_declare (λ known n t. Local (length (received known cs) + n) t) 0 (local_variables b.decls)

@@ -16,19 +16,20 @@ use Rattle.estelle_model.specs.declared.denoter.Denoter.{Denoter}
 use Rattle.estelle_model.specs.declared.denoter.Denoter.TheVariants as denoter
 use Rattle.estelle_model.specs.Types.{ordinal_of, whole, host_of, range_of}
 use Rattle.estelle_model.specs.Operators.{◌>>>◌}
-use Rattle.estelle_model.specs.Meant.{Meaning, Meanings, Constant, TypeName, Field}
+use Rattle.estelle_model.specs.declared.meaning.Meaning.{Meaning}
+use Rattle.estelle_model.specs.declared.meaning.Meaning.TheVariants.{Constant, TypeName, Field}
+use Rattle.estelle_model.specs.Meant.{Meanings}
 use Rattle.estelle_model.specs.Constants.{constant_of, host_of_const}
 
--- a declaration: where its name begins, and what it says of the name, in terms of what names mean there
+-- what is declared together: for each name where it begins and what it means, in terms of what names mean there
 pub record Declaration : Type 0 where
-  pub at : ℕ
-  pub says : Meanings → Meaning
+  pub says : Meanings → List (ℕ × Meaning)
 
 abbrev pub Declarations : Type 0
 Declarations = List Declaration
 
 abbrev pub declare : Name → (Meanings → Meaning) → Declaration
-declare x says = record { at = x.span.start; says = says }
+declare x says = record { says = λ known. (x.span.start, says known) ∷ [] }
 
 -- names declared one after another, with rising numbers
 abbrev pub numbered : (ℕ → Meanings → Meaning) → ℕ → List Name → Declarations
@@ -76,9 +77,14 @@ pub record Typing : Type 0 where
 abbrev pub Section : Type 0
 Section = List Name × Typing
 
--- the names of a section, with rising numbers
-abbrev pub section_names : (Meanings → ℕ → Denoter → Meaning) → ℕ → Section → Declarations
-section_names mean n s = numbered (λ k known. mean known k (s.1.denotes known)) n s.0
+-- what names with rising numbers mean
+abbrev pub rising : (ℕ → Meaning) → ℕ → List Name → List (ℕ × Meaning)
+rising mean n [] = []
+rising mean n (x ∷ xs) = (x.span.start, mean n) ∷ rising mean (suc n) xs
+
+-- the names of a section are declared together, with rising numbers
+abbrev pub section_names : (Meanings → ℕ → Denoter → Meaning) → ℕ → Section → Declaration
+section_names mean n s = record { says = λ known. rising (λ k. mean known k (s.1.denotes known)) n s.0 }
 
 -- what the types of sections declare
 abbrev pub types_declare : List Section → Declarations
@@ -87,7 +93,7 @@ types_declare = flat_map (λ s. s.1.declares)
 -- the names of sections one after another, with rising numbers
 abbrev pub sections_declare : (Meanings → ℕ → Denoter → Meaning) → ℕ → List Section → Declarations
 sections_declare mean n [] = []
-sections_declare mean n (s ∷ ss) = section_names mean n s ++ sections_declare mean (n + length s.0) ss
+sections_declare mean n (s ∷ ss) = section_names mean n s ∷ sections_declare mean (n + length s.0) ss
 
 -- the type of each name of sections, in order
 abbrev pub section_types : Meanings → List Section → List Denoter

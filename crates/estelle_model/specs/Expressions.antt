@@ -27,23 +27,21 @@ use Rattle.estelle_model.specs.declared.denoter.Host.{Host}
 use Rattle.estelle_model.specs.declared.denoter.Host.TheVariants as hosts
 use Rattle.estelle_model.specs.declared.denoter.Denoter.{Denoter}
 use Rattle.estelle_model.specs.Types.{ordinal_of, shape_of, host_of, item_of, field_of, bounds_of}
-use Rattle.estelle_model.specs.Operators.{bool_of, plus, minus, times, divided, modulo, signed, negation, related, one_member, members_from, Required, required_value, required_host}
-use Rattle.estelle_model.specs.Paths.{Path}
+use Rattle.estelle_model.specs.declared.meaning.Required.{Required}
+use Rattle.estelle_model.specs.Operators.{bool_of, plus, minus, times, divided, modulo, signed, negation, related, one_member, members_from, required_value, required_host}
 use Rattle.estelle_model.specs.States.{Offers}
 use Rattle.estelle_model.specs.Steps.{Step, ◌>>=◌, pure, fail, checked}
-use Rattle.estelle_model.specs.Meant.{Routine, Passing, ByValue, ByPlace, Meaning, Meanings, Constant, Own, Local, Var, Module, Exported, Field, Called, RequiredFunction, result_number}
-use Rattle.estelle_model.specs.Places.{Place, Of, In, deeper, set_value, load, child_step}
-
--- where a block or a routine runs: the instance, the number of the frame, which is how deep calls nest, and what the var parameters name
-pub record Here : Type 0 where
-  pub path : Path
-  pub frame : ℕ
-  pub references : List Place
-
--- the arguments of a call: values, and the places for var parameters
-pub record Given : Type 0 where
-  pub values : List Value
-  pub references : List Place
+use Rattle.estelle_model.specs.declared.meaning.Routine.{Routine}
+use Rattle.estelle_model.specs.declared.meaning.Passing.{Passing}
+use Rattle.estelle_model.specs.declared.meaning.Passing.TheVariants.{ByValue, ByPlace}
+use Rattle.estelle_model.specs.declared.meaning.Meaning.{Meaning}
+use Rattle.estelle_model.specs.declared.meaning.Meaning.TheVariants.{Constant, Own, Local, Var, Module, Exported, Field, Called, RequiredFunction}
+use Rattle.estelle_model.specs.Meant.{Meanings, result_number}
+use Rattle.estelle_model.specs.declared.place.Place.{Place}
+use Rattle.estelle_model.specs.declared.place.Place.TheVariants.{Of, In}
+use Rattle.estelle_model.specs.Places.{deeper, set_value, load, child_step}
+use Rattle.estelle_model.specs.declared.place.Here.{Here}
+use Rattle.estelle_model.specs.declared.place.Given.{Given}
 
 -- what a call of a routine does, and a function's result
 abbrev pub Call : Type 0 → Type 0

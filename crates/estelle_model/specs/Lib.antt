@@ -32,3 +32,11 @@ pub mod Queues
 pub mod Firing
 pub mod Legal
 pub mod Jobs
+-- ---- runs
+pub mod Attributes
+pub mod Delays
+pub mod Selection
+pub mod Runs
+pub mod Ends
+pub mod Schedule
+pub mod Trace

@@ -8,8 +8,10 @@ use Rattle.estelle_tree.specs.declared.names.Use.{Use}
 use Rattle.estelle_tree.specs.declared.tree.name.Name.{Name}
 use Rattle.estelle_model.specs.declared.denoter.Host.TheVariants as host
 use Rattle.estelle_model.specs.Types.{whole}
-use Rattle.estelle_model.specs.Operators.{Abs, Sqr, Odd, Succ, Pred, Ord, Chr}
-use Rattle.estelle_model.specs.Meant.{Meaning, Meanings, Constant, TypeName, RequiredFunction, Other}
+use Rattle.estelle_model.specs.declared.meaning.Required.TheVariants.{Abs, Sqr, Odd, Succ, Pred, Ord, Chr}
+use Rattle.estelle_model.specs.declared.meaning.Meaning.{Meaning}
+use Rattle.estelle_model.specs.declared.meaning.Meaning.TheVariants.{Constant, TypeName, RequiredFunction, Other}
+use Rattle.estelle_model.specs.Meant.{Meanings}
 use Rattle.estelle_model.specs.Denoted.{Declaration, Declarations}
 
 -- the required identifiers (ISO 7185, 6.1.3, 6.3, 6.4.2.2 and 6.6.6), by their words
@@ -28,9 +30,13 @@ or_other (Some m) = m
 abbrev pub required_meaning : List ℕ → Meaning
 required_meaning w = or_other (lookup (bytes_eq w) required)
 
--- what is declared at a place
+-- what is declared at each place, the latest first
 abbrev pub Declared : Type 0
-Declared = ℕ → Meaning
+Declared = List (ℕ × Meaning)
+
+-- what is declared at a place
+abbrev pub at_place : Declared → ℕ → Meaning
+at_place known place = or_other (lookup (nat_eq place) known)
 
 -- the name in the declaration of a name in use
 abbrev pub declaration_of : List Use → Name → Option Span
@@ -39,22 +45,22 @@ declaration_of (u ∷ us) x = if nat_eq u.at.start x.span.start then Some u.decl
 
 -- a required identifier is declared nowhere
 abbrev pub meaning_at : Declared → Name → Option Span → Meaning
-meaning_at at x None = Other
-meaning_at at x (Some decl) = if nat_eq decl.end 0 then required_meaning x.word else at decl.start
+meaning_at known x None = Other
+meaning_at known x (Some decl) = if nat_eq decl.end 0 then required_meaning x.word else at_place known decl.start
 
 -- what the names in use mean, by what is declared
 abbrev pub meant_by : List Use → Declared → Meanings
-meant_by names at = λ x. meaning_at at x (declaration_of names x)
+meant_by names known = λ x. meaning_at known x (declaration_of names x)
 
 -- with one more declaration, which speaks of those before it
 abbrev pub with_one : List Use → Declared → Declaration → Declared
-with_one names at d = λ place. if nat_eq place d.at then d.says (meant_by names at) else at place
+with_one names known d = fold (λ k e. e ∷ k) known (d.says (meant_by names known))
 
 abbrev pub with_all : List Use → Declared → Declarations → Declared
-with_all names at ds = fold (with_one names) at ds
+with_all names known ds = fold (with_one names) known ds
 
 abbrev pub none_yet : Declared
-none_yet = λ place. Other
+none_yet = []
 
 -- what is declared at each place
 abbrev pub declared : List Use → Declarations → Declared

@@ -18,6 +18,8 @@ use Rattle.estelle_tree.specs.declared.tree.expression.Relation.TheVariants as r
 use Rattle.estelle_model.specs.declared.denoter.Host.{Host}
 use Rattle.estelle_model.specs.declared.denoter.Host.TheVariants as host
 use Rattle.estelle_model.specs.Types.{least, greatest, ordinal_of, value_of}
+use Rattle.estelle_model.specs.declared.meaning.Required.{Required}
+use Rattle.estelle_model.specs.declared.meaning.Required.TheVariants.{Abs, Sqr, Odd, Succ, Pred, Ord, Chr}
 
 -- ---- operands. An accepted tree has none of another kind; here it counts as unset.
 
@@ -114,15 +116,6 @@ members_from a b = if int_le a b then (if in_base a && in_base b then Ok (interv
 
 -- ---- required functions
 
-pub data Required : Type 0 where
-  Abs : Required
-  Sqr : Required
-  Odd : Required
-  Succ : Required
-  Pred : Required
-  Ord : Required
-  Chr : Required
-
 -- beyond its host type there is no value: of integers that is Overflow, of other types Range
 abbrev pub beyond : Host → Fault
 beyond host.Integer = Overflow
@@ -135,9 +128,12 @@ stepped h n = if is_between (least h) (greatest h) n then Ok (value_of h n) else
 abbrev pub is_odd : ℤ → Result Bool Fault
 is_odd n = remainder_of n (pos 2) >>> λ r. Ok (is_between (pos 1) (pos 1) r)
 
+abbrev pub magnitude : ℤ → Result ℤ Fault
+magnitude n = if int_le (pos 0) n then Ok n else difference_of (pos 0) n
+
 -- what a required function gives of an argument whose type has this host
 unfoldable pub required_value : Required → Host → Value → Result Value Fault
-required_value Abs h v = int_of v >>> λ n. an_int (Ok (pos (nat_abs n)))
+required_value Abs h v = int_of v >>> λ n. an_int (magnitude n)
 required_value Sqr h v = int_of v >>> λ n. an_int (product_of n n)
 required_value Odd h v = int_of v >>> λ n. is_odd n >>> λ b. Ok (value.Bool b)
 required_value Succ h v = ordinal_of v >>> λ n. stepped h (n +ℤ pos 1)

@@ -1,5 +1,5 @@
 -- Places: where a variable's value, or a part of it, is kept; and how it is read and stored (ISO 7185, 6.5).
-use Rattle.std.specs.Prelude.{ℕ, if◌then◌else◌, List, [], ◌∷◌, ◌++◌, slice_get, Option, Some, None, Result, Ok, Err}
+use Rattle.std.specs.Prelude.{ℕ, if◌then◌else◌, List, [], ◌∷◌, ◌++◌, slice_get, Option, Some, None, ℤ, Result, Ok, Err}
 use Rattle.std.specs.FinMap as map
 use Rattle.pascal_values.specs.declared.fault.Fault.{Fault}
 use Rattle.pascal_values.specs.declared.fault.Fault.TheVariants.{Unset, NoModule}
@@ -7,18 +7,14 @@ use Rattle.pascal_values.specs.declared.value.Value.{Value}
 use Rattle.pascal_values.specs.Values.{into, part_of, changed_at, with_part}
 use Rattle.pascal_values.specs.Shapes.{is_unset, fit_of}
 use Rattle.estelle_model.specs.declared.denoter.Denoter.{Denoter}
-use Rattle.estelle_model.specs.Types.{shape_of}
+use Rattle.estelle_model.specs.Types.{shape_of, host_of, value_in}
 use Rattle.estelle_model.specs.Paths.{Path}
 use Rattle.estelle_model.specs.Core.{Instance}
 use Rattle.estelle_model.specs.Effects.{Store}
 use Rattle.estelle_model.specs.States.{Offers}
-use Rattle.estelle_model.specs.Steps.{Running, Step, Do, ◌>>◌, checked, checked_at}
-
-pub data Place : Type 0 where
-  -- a part of a variable of an instance
-  Of : (path : Path) (variable : ℕ) (way : List ℕ) → Place
-  -- a part of a variable of a block or routine that runs
-  In : (frame variable : ℕ) (way : List ℕ) → Place
+use Rattle.estelle_model.specs.Steps.{Running, Step, Do, ◌>>=◌, ◌>>◌, checked, checked_at}
+use Rattle.estelle_model.specs.declared.place.Place.{Place}
+use Rattle.estelle_model.specs.declared.place.Place.TheVariants.{Of, In}
 
 -- the part of it that a number tells
 abbrev pub deeper : Place → ℕ → Place
@@ -68,6 +64,10 @@ module _ (S : Type 0) (on : Offers S) where
   -- stores a value, which must fit the type: else Unset, or Range
   unfoldable pub store : Denoter → Place → Value → Do S
   store t place v = checked (fit_of (shape_of t) v) >> put place v
+
+  -- stores the value with an ordinal: a host type without one is out of range too
+  unfoldable pub store_ordinal : Denoter → Place → ℤ → Do S
+  store_ordinal t place n = checked (value_in (host_of t) n) >>= λ v. store t place v
 
   -- the child that a module variable of an instance holds; NoModule where it is empty
   unfoldable pub child_step : Path → ℕ → Step S Path

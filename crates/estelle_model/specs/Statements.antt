@@ -17,14 +17,17 @@ use Rattle.estelle_tree.specs.declared.tree.statement.Stmts.{Stmts}
 use Rattle.estelle_tree.specs.declared.tree.statement.Case.{Case}
 use Rattle.estelle_tree.specs.declared.tree.statement.Stmt.TheOpen.{Stmt-F, Case-F, Stmts-F}
 use Rattle.estelle_tree.specs.declared.tree.statement.Stmt.TheFolds.{fold-Stmt, fold-Case, fold-Stmts}
-use Rattle.estelle_model.specs.Types.{ordinal_of, value_of, host_of}
+use Rattle.estelle_model.specs.Types.{ordinal_of}
 use Rattle.estelle_model.specs.Operators.{◌>>>◌}
 use Rattle.estelle_model.specs.Constants.{constant_of}
 use Rattle.estelle_model.specs.States.{Offers}
 use Rattle.estelle_model.specs.Steps.{Step, Do, ◌>>=◌, pure, fail, all}
-use Rattle.estelle_model.specs.Meant.{Meaning, Meanings, Called}
-use Rattle.estelle_model.specs.Places.{put, store}
-use Rattle.estelle_model.specs.Expressions.{Here, Call, Operand, Access, bool_step, ordinal_step, give_all, no_arguments, expr, args, target, accessed}
+use Rattle.estelle_model.specs.declared.meaning.Meaning.{Meaning}
+use Rattle.estelle_model.specs.declared.meaning.Meaning.TheVariants.{Called}
+use Rattle.estelle_model.specs.Meant.{Meanings}
+use Rattle.estelle_model.specs.Places.{put, store, store_ordinal}
+use Rattle.estelle_model.specs.declared.place.Here.{Here}
+use Rattle.estelle_model.specs.Expressions.{Call, Operand, Access, bool_step, ordinal_step, give_all, no_arguments, expr, args, target, accessed}
 use Rattle.estelle_model.specs.Loops.{while_loop, repeat_loop, count_loop}
 
 -- the statements of Estelle (ISO/IEC 9074), with their arguments as expressions
@@ -98,7 +101,7 @@ module _ (S : Type 0) (on : Offers S) (meant : Meanings) (act : Here → Action 
     m ← first
     n ← last
     place ← a.place
-    count_loop dir m n (λ k. store S on a.denoter place (value_of (host_of a.denoter) k)) (put S on place pascal.Unset) body
+    count_loop dir m n (λ k. store_ordinal S on a.denoter place k) (put S on place pascal.Unset) body
 
   -- the bounds are evaluated once
   unfoldable pub count : Name → Expr → Direction → Expr → Do S → Do S

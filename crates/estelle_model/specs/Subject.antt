@@ -12,12 +12,14 @@ use Rattle.estelle_tree.specs.declared.tree.specification.Init.{Init}
 use Rattle.estelle_tree.specs.declared.tree.specification.Spec.{Spec}
 use Rattle.estelle_model.specs.declared.denoter.Denoter.{Denoter}
 use Rattle.estelle_model.specs.Types.{shape_of}
-use Rattle.estelle_model.specs.Meant.{ByValue, Routine, Meanings}
-use Rattle.estelle_model.specs.Denoted.{Declarations, section_types}
+use Rattle.estelle_model.specs.declared.meaning.Passing.TheVariants.{ByValue}
+use Rattle.estelle_model.specs.declared.meaning.Routine.{Routine}
+use Rattle.estelle_model.specs.Meant.{Meanings}
+use Rattle.estelle_model.specs.Denoted.{section_types}
 use Rattle.estelle_model.specs.Definitions.{local_variables}
 use Rattle.estelle_model.specs.Bodies.{Standing, bodies, bodies_declare, default_of, heading, variable_types, module_variables_in, ips_of_body}
-use Rattle.estelle_model.specs.Names.{Declared, meant_by, with_all, declared}
-use Rattle.estelle_model.specs.Transitions.{Transition, flat, state_at}
+use Rattle.estelle_model.specs.Names.{Declared, meant_by, declared}
+use Rattle.estelle_model.specs.Transitions.{Choice, with_choices, Transition, flat, state_at}
 use Rattle.estelle_model.specs.Core.{Instance}
 
 pub record Subject : Type 0 where
@@ -33,8 +35,8 @@ abbrev pub meant : Subject → Meanings
 meant s = meant_by s.names (declared_in s)
 
 -- what it means where the names of an `any` clause have values
-abbrev pub meant_with : Subject → Declarations → Meanings
-meant_with s chosen = meant_by s.names (with_all s.names (declared_in s) chosen)
+abbrev pub meant_with : Subject → List Choice → Meanings
+meant_with s chosen = meant_by s.names (with_choices (declared_in s) chosen)
 
 abbrev pub body : Subject → ℕ → Option Standing
 body s k = slice_get (bodies s.specification) k

@@ -1,6 +1,8 @@
 -- The transitions of a body without nested clauses and without `any` (ISO/IEC 9074: flat transitions).
-use Rattle.std.specs.Prelude.{ℕ, zero, suc, List, [], ◌∷◌, map, flat_map, ℤ, pos, ◌+ℤ◌, Option, Some, None, Result, Ok, Err}
+use Rattle.std.specs.Prelude.{ℕ, zero, suc, List, [], ◌∷◌, map, flat_map, fold, ℤ, pos, ◌+ℤ◌, Option, Some, None, Result, Ok, Err}
 use Rattle.pascal_values.specs.declared.fault.Fault.{Fault}
+use Rattle.pascal_values.specs.declared.value.Value.{Value}
+use Rattle.pascal_values.specs.declared.value.Value.TheVariants as pascal
 use Rattle.pascal_values.specs.Shapes.{item_count}
 use Rattle.estelle_tree.specs.declared.tree.name.Name.{Name}
 use Rattle.estelle_tree.specs.declared.tree.expression.Expr.{Expr}
@@ -11,12 +13,16 @@ use Rattle.estelle_tree.specs.declared.tree.clause.NextState.{NextState}
 use Rattle.estelle_tree.specs.declared.tree.clause.NextState.TheVariants as next
 use Rattle.estelle_tree.specs.declared.tree.clause.Clause.{Clause}
 use Rattle.estelle_tree.specs.declared.tree.clause.Clause.TheVariants as clause
+use Rattle.estelle_model.specs.declared.denoter.Host.{Host}
 use Rattle.estelle_model.specs.declared.denoter.Denoter.{Denoter}
-use Rattle.estelle_model.specs.Types.{ordinal_of, value_of, host_of, range_of}
+use Rattle.estelle_model.specs.Types.{ordinal_of, value_in, host_of, range_of}
 use Rattle.estelle_model.specs.Operators.{◌>>>◌}
-use Rattle.estelle_model.specs.Meant.{Meaning, Meanings, Constant, Ip, State}
+use Rattle.estelle_model.specs.declared.meaning.Meaning.{Meaning}
+use Rattle.estelle_model.specs.declared.meaning.Meaning.TheVariants.{Constant, Ip, State}
+use Rattle.estelle_model.specs.Meant.{Meanings}
 use Rattle.estelle_model.specs.Constants.{constant_of}
-use Rattle.estelle_model.specs.Denoted.{Declarations, Declaration, declare, ordinal_type}
+use Rattle.estelle_model.specs.Denoted.{ordinal_type}
+use Rattle.estelle_model.specs.Names.{Declared}
 use Rattle.estelle_model.specs.Definitions.{domains_of, received}
 use Rattle.estelle_model.specs.Bodies.{Way, Standing, ways_of, states_named}
 
@@ -30,6 +36,16 @@ pub record Delay : Type 0 where
   pub low : Expr
   pub high : Option DelayHigh
 
+-- a value that is chosen for a name of an `any` clause, by the place of the name
+pub record Choice : Type 0 where
+  pub at : ℕ
+  pub value : Value
+  pub host : Host
+
+-- with the chosen values as constants
+abbrev pub with_choices : Declared → List Choice → Declared
+with_choices known cs = fold (λ k c. (c.at, Constant c.value c.host) ∷ k) known cs
+
 pub record Transition : Type 0 where
   -- the states in which it is enabled; none stands for every state
   pub from : Option (List ℕ)
@@ -42,8 +58,8 @@ pub record Transition : Type 0 where
   -- a smaller number is a higher priority
   pub priority : Option ℤ
   pub delay : Option Delay
-  -- the names of `any`, with the values that are chosen
-  pub chosen : Declarations
+  -- the values that are chosen for the names of `any`
+  pub chosen : List Choice
   pub block : Block
 
 -- ---- the clauses on a way, on which each kind stands at most once
@@ -109,18 +125,23 @@ module _ (known : Meanings) where
   abbrev pub ordinals : Denoter → List ℤ
   ordinals t = numbers_from (range_of t).0 (item_count (range_of t).0 (range_of t).1)
 
-  -- the name of an `any` clause is a constant with this ordinal
-  abbrev pub choice : Name → Denoter → ℤ → Declaration
-  choice x t n = declare x (λ known. Constant (value_of (host_of t) n) (host_of t))
+  -- an ordinal that the host type does not have counts as unset; no accepted tree has one
+  abbrev pub or_unset : Result Value Fault → Value
+  or_unset (Ok v) = v
+  or_unset (Err e) = pascal.Unset
 
-  abbrev pub choices : List (Name × Denoter) → List Declarations
+  -- the name of an `any` clause is a constant with this ordinal
+  abbrev pub choice : Name → Denoter → ℤ → Choice
+  choice x t n = record { at = x.span.start; value = or_unset (value_in (host_of t) n); host = host_of t }
+
+  abbrev pub choices : List (Name × Denoter) → List (List Choice)
   choices [] = [] ∷ []
-  choices (x ∷ xs) = flat_map (λ n. map (λ ds. choice x.0 x.1 n ∷ ds) (choices xs)) (ordinals x.1)
+  choices (x ∷ xs) = flat_map (λ n. map (λ cs. choice x.0 x.1 n ∷ cs) (choices xs)) (ordinals x.1)
 
   abbrev pub names_of_domain : AnyDom → List (Name × Denoter)
   names_of_domain d = map (λ x. (x, ordinal_type known d.domain)) d.names.names
 
-  abbrev pub flat_one : Way → Declarations → Transition
+  abbrev pub flat_one : Way → List Choice → Transition
   flat_one w chosen = record {
     from = said from_of w.clauses;
     to = said to_of w.clauses;

@@ -1,5 +1,5 @@
 -- Types, and the values that belong to them (ISO 7185, 6.4).
-use Rattle.std.specs.Prelude.{ℕ, ◌^◌, ◌-◌, nat_abs, nat_eq, slice_get, Option, Some, None, ℤ, pos, negsuc, Result, Ok, Err}
+use Rattle.std.specs.Prelude.{ℕ, if◌then◌else◌, ◌^◌, ◌-◌, nat_abs, nat_eq, slice_get, Option, Some, None, ℤ, pos, negsuc, Result, Ok, Err}
 use Rattle.pascal_values.specs.declared.fault.Fault.{Fault}
 use Rattle.pascal_values.specs.declared.fault.Fault.TheVariants as fault
 use Rattle.pascal_values.specs.declared.value.Value.{Value, out-Value}
@@ -7,6 +7,7 @@ use Rattle.pascal_values.specs.declared.value.Value.TheVariants as value
 use Rattle.pascal_values.specs.declared.value.Value.TheOpen.{Value-F}
 use Rattle.pascal_values.specs.declared.value.Shape.{Shape}
 use Rattle.pascal_values.specs.declared.value.Shape.TheVariants as shape
+use Rattle.pascal_values.specs.Integers.{is_between}
 use Rattle.pascal_values.specs.Shapes.{bool_ordinal}
 use Rattle.estelle_model.specs.declared.denoter.Host.{Host}
 use Rattle.estelle_model.specs.declared.denoter.Host.TheVariants as host
@@ -45,6 +46,10 @@ value_of host.Integer n = value.Int n
 value_of host.Boolean n = value.Bool (nat_eq (nat_abs n) 1)
 value_of host.Char n = value.Char (nat_abs n)
 value_of (host.Enumeration last) n = value.Enum (nat_abs n)
+
+-- the value with an ordinal, where the host type has one
+abbrev pub value_in : Host → ℤ → Result Value Fault
+value_in h n = if is_between (least h) (greatest h) n then Ok (value_of h n) else Err fault.Range
 
 -- ---- types
 

@@ -10,9 +10,15 @@ mod effect;
 mod event;
 mod image;
 mod job;
+mod meaning;
+mod place;
+mod shared;
 
 pub use denoter::{Denoter, Host};
 pub use effect::{Effect, Out};
 pub use event::{End, Event, Pair, Run};
 pub use image::{Image, Interaction, Part};
 pub use job::{Done, Guard, Job, Outcome};
+pub use meaning::{Attribute, Heading, Meaning, Passing, Required, Routine};
+pub use place::{Given, Here, Place};
+pub use shared::{Statements, Type};

@@ -12,9 +12,14 @@ use Rattle.estelle_tree.specs.declared.tree.statement.Stmt.TheOpen.{Stmt-F}
 use Rattle.estelle_tree.specs.declared.tree.statement.Stmt.TheFolds.{fold-Stmts}
 use Rattle.estelle_model.specs.States.{Offers}
 use Rattle.estelle_model.specs.Steps.{Step, Do, ◌>>=◌, pure, checked}
-use Rattle.estelle_model.specs.Meant.{Routine, Meaning, Meanings, Called}
+use Rattle.estelle_model.specs.declared.meaning.Routine.{Routine}
+use Rattle.estelle_model.specs.declared.meaning.Meaning.{Meaning}
+use Rattle.estelle_model.specs.declared.meaning.Meaning.TheVariants.{Called}
+use Rattle.estelle_model.specs.Meant.{Meanings}
 use Rattle.estelle_model.specs.Places.{set_value}
-use Rattle.estelle_model.specs.Expressions.{Here, Given, Call, Operand, Selecting, Written, bool_step, ordinal_step, computed, give_all, no_arguments, result_host, called, valued, designated, accessed, factor_layer, selector_layer, args_layer, elem_layer, expr_layer, simple_layer, term_layer, variable_layer, expr, args, variable, assigned, target}
+use Rattle.estelle_model.specs.declared.place.Here.{Here}
+use Rattle.estelle_model.specs.declared.place.Given.{Given}
+use Rattle.estelle_model.specs.Expressions.{Call, Operand, Selecting, Written, bool_step, ordinal_step, computed, give_all, no_arguments, result_host, called, valued, designated, accessed, factor_layer, selector_layer, args_layer, elem_layer, expr_layer, simple_layer, term_layer, variable_layer, expr, args, variable, assigned, target}
 use Rattle.estelle_model.specs.Loops.{while_loop, repeat_loop}
 use Rattle.estelle_model.specs.Statements.{Action, Init, Output, chosen, or_nothing, arguments, assign_to, assign, invoke_of, invoke, choose, count_over, count, select, stmt_layer, case_layer, stmts_layer, stmts}
 use Rattle.plain_jobs.specs.Plain.{IsPlainRoutine, HasPlainRoutines}

@@ -56,7 +56,7 @@ by_path = record {
   congr = λ a b c. nat_list_cmp_total.congr a.path b.path c.path;
 }
 
-pairs_total : IsTotalOrder pair_cmp
+pub pairs_total : IsTotalOrder pair_cmp
 pairs_total = then_total by_path (record {
   antisymm = λ a b. nat_cmp_total.antisymm a.trans b.trans;
   trans = λ a b c. nat_cmp_total.trans a.trans b.trans c.trans;
@@ -67,7 +67,7 @@ none_less : (b : Bool) (n : ℕ) → n ≡ 0 → cond b (n - 1) n ≡ 0
 none_less true n e = omega arith
 none_less false n e = e
 
-remove_empty : (k : Pair) → map.remove (map.empty {K = Pair} {X = Timer} {R = pair_cmp}) k ≡ map.empty
+pub remove_empty : (k : Pair) → map.remove (map.empty {K = Pair} {X = Timer} {R = pair_cmp}) k ≡ map.empty
 remove_empty k = map.empty_of_len _ (map.len-remove pairs_total map.empty k ∙ none_less _ _ (map.len-empty pair_cmp Timer))
 
 -- where no timer runs, none is dropped

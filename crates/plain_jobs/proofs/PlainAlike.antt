@@ -8,8 +8,9 @@ use Rattle.estelle_model.specs.Paths.{Path, is_inside}
 use Rattle.estelle_model.specs.Effects.{Store}
 use Rattle.estelle_model.specs.States.{Offers}
 use Rattle.estelle_model.specs.Steps.{Running, Outcome, Do, fail}
-use Rattle.estelle_model.specs.Meant.{Routine, Meanings}
-use Rattle.estelle_model.specs.Expressions.{Here}
+use Rattle.estelle_model.specs.declared.meaning.Routine.{Routine}
+use Rattle.estelle_model.specs.Meant.{Meanings}
+use Rattle.estelle_model.specs.declared.place.Here.{Here}
 use Rattle.estelle_model.specs.Statements.{Action}
 use Rattle.estelle_model.specs.Calls.{Enters}
 use Rattle.estelle_model.specs.Blocks.{block_step, clause_value}

@@ -1,5 +1,5 @@
 -- A specification without statements of Estelle has none in any body, and so none in what is run.
-use Rattle.std.proofs.Common.{◌≡◌, ℕ, zero, suc, Bool, List, [], ◌∷◌, ◌++◌, map, length, ℤ, Option, Some, None, refl, sym, subst, ◌∙◌}
+use Rattle.std.proofs.Common.{◌≡◌, ℕ, zero, suc, Bool, List, [], ◌∷◌, ◌++◌, map, length, Option, Some, None, refl, sym, subst, ◌∙◌}
 use Rattle.std.specs.Prelude.{IsTrue, flat_map, ◌+◌, ◌&&◌, option_map, option_and_then, option_to_list, unwrap_or}
 use Rattle.std.specs.List.{list_all}
 use Rattle.estelle_tree.specs.declared.tree.name.Name.{Name}
@@ -14,19 +14,19 @@ use Rattle.estelle_tree.specs.declared.tree.specification.Body.{Body, roll-Body}
 use Rattle.estelle_tree.specs.declared.tree.specification.Parts.{Parts, roll-Parts}
 use Rattle.estelle_tree.specs.declared.tree.specification.Decl.TheOpen.{Decl-F, Body-F, Parts-F}
 use Rattle.estelle_tree.specs.declared.tree.specification.Decl.TheFolds.{map-Body, map-Parts, fold-Decl, fold-Body, fold-roll-Body, fold-roll-Parts, ind-Parts}
-use Rattle.estelle_model.specs.declared.denoter.Denoter.{Denoter}
-use Rattle.estelle_model.specs.Meant.{Meanings, Own, Exported, Ip, State, Interaction, Header, Module}
+use Rattle.estelle_model.specs.declared.meaning.Meaning.TheVariants.{Own, Exported, Ip, State, Interaction, Header, Module}
+use Rattle.estelle_model.specs.Meant.{Meanings}
 use Rattle.estelle_model.specs.Denoted.{Declaration, Declarations, declare, numbered, types_declare, sections_declare, section_types, count_names}
-use Rattle.estelle_model.specs.Definitions.{const_def, type_def, local, parameter_sections, inter_declares, channel_declares, domains_of, block_declares}
-use Rattle.estelle_model.specs.Bodies.{Way, ways, Brought, Standing, ip_names, ips_common, export_sections, header_declares, stateset_declares, decl_layer, headed, body_layer, parts_layer, standings, default_of, bodies, heading, variables_in, module_variables_in, states_in, ips_in, own_from, ways_of, name_declares, body_declares, bodies_declare}
+use Rattle.estelle_model.specs.Definitions.{const_def, type_def, local, parameter_sections, inter_declares, channel_declares, domains_of, clause_declares, block_declares}
+use Rattle.estelle_model.specs.Bodies.{Way, ways, Brought, Standing, ip_names, ips_common, export_sections, header_declares, stateset_declares, decl_layer, headed, body_layer, parts_layer, standings, default_of, bodies, heading, variables_in, module_variables_in, states_in, ips_in, own_from, ways_of, attribute_of, clauses_in, name_declares, body_declares, bodies_declare}
 use Rattle.estelle_model.specs.Names.{none_yet}
-use Rattle.estelle_model.specs.Transitions.{Transition, ordinals, choice, choices, names_of_domain, flat_one, flat_way}
+use Rattle.estelle_model.specs.Transitions.{Choice, Transition, choices, names_of_domain, flat_one, flat_way}
 use Rattle.estelle_model.specs.Subject.{Subject, declared_in, meant, body, transitions_of, transitions, numbered_one, transition, of_init, nothing_to_do, no_statements}
 use Rattle.plain_jobs.specs.Plain.{is_plain, IsPlainRoutine}
 use Rattle.plain_jobs.specs.Computed.{IsPlain}
 use Rattle.plain_jobs.specs.Specifications.{is_plain_way, is_plain_trans, is_plain_init, plain_decl_layer, plain_body_layer, plain_parts_layer, is_plain_decl, is_plain_body, is_plain_parts, is_plain_specification}
 use Rattle.plain_jobs.proofs.Same.{both_left, both_right, plain_stmts_made}
-use Rattle.plain_jobs.proofs.PlainDeclarations.{Each, each_append, each_flat, flat_all, each_map, each_at, SaysPlain, AllPlain, numbered_plain, sections_plain, vars_plain, const_plain, type_def_plain, routine_plain, block_plain, PlainAt, names_plain, declared_plain}
+use Rattle.plain_jobs.proofs.PlainDeclarations.{Each, each_append, each_flat, flat_all, each_map, each_at, SaysPlain, AllPlain, numbered_plain, sections_plain, vars_plain, const_plain, type_def_plain, routine_plain, clause_plain, block_plain, PlainAt, names_plain, declared_plain, chosen_plain}
 
 each_of_all : {A : Type 0} (test : A → Bool) (xs : List A) → IsTrue (list_all test xs) → Each (λ x. IsTrue (test x)) xs
 each_of_all test [] h = tt
@@ -36,7 +36,7 @@ each_of_all test (x ∷ xs) h = (both_left (test x) (list_all test xs) h, each_o
 
 inter_plain : (x : Inter) → AllPlain (inter_declares x)
 inter_plain x = each_append SaysPlain (sections_declare local 0 (parameter_sections x.params)) (declare x.name (λ known. Interaction (section_types known (parameter_sections x.params))) ∷ [])
-    (sections_plain local (λ known n t. tt) 0 (parameter_sections x.params)) ((λ known. tt), tt)
+    (sections_plain local (λ known n t. tt) 0 (parameter_sections x.params)) ((λ known. (tt, tt)), tt)
 
 channel_plain : (c : Channel) → AllPlain (channel_declares c)
 channel_plain c = flat_all SaysPlain (λ g. flat_map inter_declares g.inters) (λ g. flat_all SaysPlain inter_declares inter_plain g.inters) c.groups
@@ -47,18 +47,18 @@ header_plain by_default h =
     let parameters : Declarations = sections_declare (λ known n t. Own n t) 0 (parameter_sections h.params) in
     let exports : Declarations = sections_declare (λ known n t. Exported n t) (count_names (parameter_sections h.params)) (export_sections h) in
     let ips : Declarations = numbered (λ n known. Ip n) 0 (ip_names h.ips) in
-    let itself : Declaration = declare h.name (λ known. Header (record { parameters = section_types known (parameter_sections h.params); exports = section_types known (export_sections h); ips = ips_common by_default h.ips })) in
+    let itself : Declaration = declare h.name (λ known. Header (record { attribute = option_map attribute_of h.attr; parameters = section_types known (parameter_sections h.params); exports = section_types known (export_sections h); ips = ips_common by_default h.ips })) in
     each_append SaysPlain (types ++ parameters ++ exports ++ ips) (itself ∷ [])
     (each_append SaysPlain (types ++ parameters ++ exports) ips
     (each_append SaysPlain (types ++ parameters) exports
     (each_append SaysPlain types parameters (vars_plain h.exports) (sections_plain (λ known n t. Own n t) (λ known n t. tt) 0 (parameter_sections h.params)))
     (sections_plain (λ known n t. Exported n t) (λ known n t. tt) (count_names (parameter_sections h.params)) (export_sections h)))
     (numbered_plain (λ n known. Ip n) (λ n known. tt) 0 (ip_names h.ips)))
-    ((λ known. tt), tt)
+    ((λ known. (tt, tt)), tt)
 
 sets_plain : (xs : List StatesetDef) → AllPlain (map stateset_declares xs)
 sets_plain [] = tt
-sets_plain (x ∷ xs) = ((λ known. tt), sets_plain xs)
+sets_plain (x ∷ xs) = ((λ known. (tt, tt)), sets_plain xs)
 
 -- ---- bodies as they stand
 
@@ -197,7 +197,7 @@ module _ (d : Bool) where
 
 name_plain : (k : ℕ) (x : Option Name) → AllPlain (name_declares k x)
 name_plain k None = tt
-name_plain k (Some x) = ((λ known. tt), tt)
+name_plain k (Some x) = ((λ known. (tt, tt)), tt)
 
 body_plain : (k : ℕ) (b : Standing) → PlainStanding b → AllPlain (body_declares k b)
 body_plain k b h =
@@ -207,9 +207,11 @@ body_plain k b h =
     let children : Declarations = numbered (λ n known. Module n) 0 (module_variables_in b) in
     let ips : Declarations = numbered (λ n known. Ip (length (heading known b.header).ips + n)) 0 (ip_names (ips_in b)) in
     let init : Declarations = flat_map (λ (i : Init). block_declares [] i.block) (option_to_list b.init) in
+    let domains : Declarations = flat_map clause_declares (clauses_in b) in
     let blocks : Declarations = flat_map (λ (w : Way). block_declares w.clauses w.block) (ways_of b) in
-    each_append SaysPlain (states ++ brought ++ variables ++ children ++ ips ++ init ++ blocks) (name_declares k b.name)
-    (each_append SaysPlain (states ++ brought ++ variables ++ children ++ ips ++ init) blocks
+    each_append SaysPlain (states ++ brought ++ variables ++ children ++ ips ++ init ++ domains ++ blocks) (name_declares k b.name)
+    (each_append SaysPlain (states ++ brought ++ variables ++ children ++ ips ++ init ++ domains) blocks
+    (each_append SaysPlain (states ++ brought ++ variables ++ children ++ ips ++ init) domains
     (each_append SaysPlain (states ++ brought ++ variables ++ children ++ ips) init
     (each_append SaysPlain (states ++ brought ++ variables ++ children) ips
     (each_append SaysPlain (states ++ brought ++ variables) children
@@ -219,6 +221,7 @@ body_plain k b h =
     (numbered_plain (λ n known. Module n) (λ n known. tt) 0 (module_variables_in b)))
     (numbered_plain (λ n known. Ip (length (heading known b.header).ips + n)) (λ n known. tt) 0 (ip_names (ips_in b))))
     (flat_all SaysPlain (λ (i : Init). block_declares [] i.block) (λ i. block_plain [] i.block) (option_to_list b.init)))
+    (flat_all SaysPlain clause_declares clause_plain (clauses_in b)))
     (flat_all SaysPlain (λ (w : Way). block_declares w.clauses w.block) (λ w. block_plain w.clauses w.block) (ways_of b)))
     (name_plain k b.name)
 
@@ -228,16 +231,15 @@ bodies_plain k (b ∷ bs) h = each_append SaysPlain (body_declares k b) (bodies_
 
 -- ---- transitions
 
-choices_plain : (known : Meanings) (xs : List (Name × Denoter)) → Each AllPlain (choices known xs)
-choices_plain known [] = (tt, tt)
-choices_plain known (x ∷ xs) = flat_all AllPlain (λ (n : ℤ). map (λ ds. choice known x.0 x.1 n ∷ ds) (choices known xs))
-    (λ n. each_map AllPlain AllPlain (λ ds. choice known x.0 x.1 n ∷ ds) (λ ds h. ((λ k. tt), h)) (choices known xs) (choices_plain known xs)) (ordinals known x.1)
-
 abbrev PlainTransition : Transition → Type 0
-PlainTransition t = AllPlain t.chosen × IsTrue (is_plain t.block.body)
+PlainTransition t = IsTrue (is_plain t.block.body)
+
+choices_plain : (known : Meanings) (w : Way) → IsTrue (is_plain_way w) → (cs : List (List Choice)) → Each PlainTransition (map (flat_one known w) cs)
+choices_plain known w h [] = tt
+choices_plain known w h (c ∷ cs) = (h, choices_plain known w h cs)
 
 way_plain : (known : Meanings) (w : Way) → IsTrue (is_plain_way w) → Each PlainTransition (flat_way known w)
-way_plain known w h = each_map AllPlain PlainTransition (flat_one known w) (λ ds k. (k, h)) (choices known (flat_map (names_of_domain known) (flat_map domains_of w.clauses))) (choices_plain known (flat_map (names_of_domain known) (flat_map domains_of w.clauses)))
+way_plain known w h = choices_plain known w h (choices known (flat_map (names_of_domain known) (flat_map domains_of w.clauses)))
 
 ways_plain : (b : Standing) → PlainStanding b → Each (λ w. IsTrue (is_plain_way w)) (ways_of b)
 ways_plain b h = each_flat (λ (t : Trans). IsTrue (is_plain_trans t)) (λ w. IsTrue (is_plain_way w)) (λ t. ways t.body) (λ t k. each_of_all is_plain_way (ways t.body) k) b.trans (each_of_all is_plain_trans b.trans h.trans)
@@ -269,11 +271,11 @@ pub plain_specification : (s : Subject) → IsTrue (is_plain_specification s.spe
 plain_specification s h =
     let all : Each PlainStanding (bodies s.specification) = parts_plain (default_of s.specification.heads) s.specification.parts h in
     let standing : (k : ℕ) (b : Standing) → body s k ≡ Some b → PlainStanding b = λ k b e. each_at PlainStanding (bodies s.specification) k b all e in
-    let at : PlainAt (declared_in s) = declared_plain s.names none_yet (bodies_declare 0 (bodies s.specification)) (λ place. tt) (bodies_plain 0 (bodies s.specification) all) in
+    let at : PlainAt (declared_in s) = declared_plain s.names none_yet (bodies_declare 0 (bodies s.specification)) tt (bodies_plain 0 (bodies s.specification) all) in
     let of : (k n : ℕ) (t : Transition) → transition s k n ≡ Some t → PlainTransition t = λ k n t e. numbered_one_plain (transitions s k) n t (transitions_plain s (body s k) (standing k)) e in
     record {
       routines = names_plain s.names (declared_in s) at;
       start = start_plain (meant s) (body s 0) (standing 0);
-      routines_of = λ k n t e. names_plain s.names _ (declared_plain s.names (declared_in s) t.chosen at (of k n t e).0);
-      block_of = λ k n t e. (of k n t e).1;
+      routines_of = λ k n t e. names_plain s.names _ (chosen_plain (declared_in s) t.chosen at);
+      block_of = λ k n t e. of k n t e;
     }

@@ -1,6 +1,6 @@
 -- Of all that is declared, a routine without statements of Estelle is the only one that a name can mean to call, where the declared routines have none.
 use Rattle.std.proofs.Common.{◌≡◌, ℕ, zero, suc, Bool, true, false, List, [], ◌∷◌, ◌++◌, map, length, Result, Ok, Err, Option, Some, None, sym, subst, cond}
-use Rattle.std.specs.Prelude.{IsTrue, nat_eq, slice_get, flat_map, ◌+◌}
+use Rattle.std.specs.Prelude.{IsTrue, nat_eq, slice_get, flat_map, fold, ◌+◌}
 use Rattle.std.specs.Str.{bytes_eq}
 use Rattle.std.specs.Map.{lookup}
 use Rattle.pascal_values.specs.declared.fault.Fault.{Fault}
@@ -25,11 +25,14 @@ use Rattle.estelle_tree.specs.declared.tree.clause.Block.{Block}
 use Rattle.estelle_tree.specs.declared.tree.clause.Clause.{Clause}
 use Rattle.estelle_model.specs.declared.denoter.Host.{Host}
 use Rattle.estelle_model.specs.declared.denoter.Denoter.{Denoter}
-use Rattle.estelle_model.specs.Meant.{Meaning, Meanings, Constant, TypeName, Field, Called, Local, Var}
+use Rattle.estelle_model.specs.declared.meaning.Meaning.{Meaning}
+use Rattle.estelle_model.specs.declared.meaning.Meaning.TheVariants.{Constant, TypeName, Field, Called, Local, Var}
+use Rattle.estelle_model.specs.Meant.{Meanings}
 use Rattle.estelle_model.specs.Constants.{defined, constant_of, host_of_const}
-use Rattle.estelle_model.specs.Denoted.{Declaration, Declarations, declare, numbered, enumeration, ordinal_declares, Typing, Section, section_names, types_declare, sections_declare, type_layer, fields_layer, typed_layer, typing, section}
-use Rattle.estelle_model.specs.Definitions.{const_def, type_def, definitions, local_variables, local, routine_meaning, value_formals, var_formals, routine_declares, received, domains_of, block_declares}
-use Rattle.estelle_model.specs.Names.{required, or_other, required_meaning, Declared, declaration_of, meaning_at, meant_by, with_one, with_all}
+use Rattle.estelle_model.specs.Denoted.{Declaration, Declarations, declare, rising, numbered, enumeration, ordinal_declares, Typing, Section, types_declare, sections_declare, type_layer, fields_layer, typed_layer, typing, section}
+use Rattle.estelle_model.specs.Definitions.{const_def, type_def, definitions, local_variables, local, routine_meaning, value_formals, var_formals, routine_declares, received, domains_of, clause_declares, block_declares}
+use Rattle.estelle_model.specs.Names.{required, or_other, required_meaning, Declared, at_place, declaration_of, meaning_at, meant_by, with_one, with_all}
+use Rattle.estelle_model.specs.Transitions.{Choice, with_choices}
 use Rattle.plain_jobs.specs.Plain.{is_plain, IsPlainRoutine, HasPlainRoutines}
 
 -- ---- lists
@@ -67,20 +70,26 @@ abbrev pub PlainMeaning : Meaning → Type 0
 PlainMeaning (Called r) = IsPlainRoutine r
 PlainMeaning _ = Unit {0}
 
+abbrev pub AllMeanPlain : {K : Type 0} → List (K × Meaning) → Type 0
+AllMeanPlain = Each (λ e. PlainMeaning e.1)
+
 abbrev pub SaysPlain : Declaration → Type 0
-SaysPlain d = (known : Meanings) → PlainMeaning (d.says known)
+SaysPlain d = (known : Meanings) → AllMeanPlain (d.says known)
 
 abbrev pub AllPlain : Declarations → Type 0
 AllPlain = Each SaysPlain
 
 pub numbered_plain : (says : ℕ → Meanings → Meaning) → ((n : ℕ) (known : Meanings) → PlainMeaning (says n known)) → (n : ℕ) (xs : List Name) → AllPlain (numbered says n xs)
 numbered_plain says h n [] = tt
-numbered_plain says h n (x ∷ xs) = (h n, numbered_plain says h (suc n) xs)
+numbered_plain says h n (x ∷ xs) = ((λ known. (h n known, tt)), numbered_plain says h (suc n) xs)
+
+rising_plain : (mean : ℕ → Meaning) → ((n : ℕ) → PlainMeaning (mean n)) → (n : ℕ) (xs : List Name) → AllMeanPlain (rising mean n xs)
+rising_plain mean h n [] = tt
+rising_plain mean h n (x ∷ xs) = (h n, rising_plain mean h (suc n) xs)
 
 pub sections_plain : (mean : Meanings → ℕ → Denoter → Meaning) → ((known : Meanings) (n : ℕ) (t : Denoter) → PlainMeaning (mean known n t)) → (n : ℕ) (ss : List Section) → AllPlain (sections_declare mean n ss)
 sections_plain mean h n [] = tt
-sections_plain mean h n (s ∷ ss) = each_append SaysPlain (section_names mean n s) (sections_declare mean (n + length s.0) ss)
-    (numbered_plain (λ k known. mean known k (s.1.denotes known)) (λ k known. h known k (s.1.denotes known)) n s.0) (sections_plain mean h (n + length s.0) ss)
+sections_plain mean h n (s ∷ ss) = ((λ known. rising_plain (λ k. mean known k (s.1.denotes known)) (λ k. h known k (s.1.denotes known)) n s.0), sections_plain mean h (n + length s.0) ss)
 
 pub ordinal_plain : (o : Ordinal) → AllPlain (ordinal_declares o)
 ordinal_plain (ordinal.Enumeration names span) = numbered_plain (λ n known. Constant (pascal.Enum n) (enumeration names.names)) (λ n known. tt) 0 names.names
@@ -173,10 +182,10 @@ defined_plain h (Ok v) = tt
 defined_plain h (Err e) = tt
 
 pub const_plain : (d : ConstDef) → AllPlain (const_def d)
-const_plain d = ((λ known. defined_plain (host_of_const known d.value) (constant_of known d.value)), tt)
+const_plain d = ((λ known. (defined_plain (host_of_const known d.value) (constant_of known d.value), tt)), tt)
 
 pub type_def_plain : (d : TypeDef) → AllPlain (type_def d)
-type_def_plain d = each_append SaysPlain (typing d.type_expr).declares (declare d.name (λ known. TypeName ((typing d.type_expr).denotes known)) ∷ []) (type_plain d.type_expr) ((λ known. tt), tt)
+type_def_plain d = each_append SaysPlain (typing d.type_expr).declares (declare d.name (λ known. TypeName ((typing d.type_expr).denotes known)) ∷ []) (type_plain d.type_expr) ((λ known. (tt, tt)), tt)
 
 pub definition_plain : (d : BlockDecl) → AllPlain (definitions d)
 definition_plain (block_decl.Const defs span) = flat_all SaysPlain const_def const_plain defs
@@ -192,20 +201,21 @@ routine_plain r is =
     (each_append SaysPlain (flat_map definitions r.decls ++ sections_declare local 0 own) places
     (each_append SaysPlain (flat_map definitions r.decls) (sections_declare local 0 own) (flat_all SaysPlain definitions definition_plain r.decls) (sections_plain local (λ known n t. tt) 0 own))
     (sections_plain (λ known n t. Var n t) (λ known n t. tt) 0 (var_formals r)))
-    ((λ known. is), tt)
+    ((λ known. (is, tt)), tt)
+
+pub clause_plain : (c : Clause) → AllPlain (clause_declares c)
+clause_plain c = flat_all SaysPlain (λ d. ordinal_declares d.domain) (λ d. ordinal_plain d.domain) (domains_of c)
 
 pub block_plain : (cs : List Clause) (b : Block) → AllPlain (block_declares cs b)
 block_plain cs b =
-    let domains : Declarations = flat_map (λ d. ordinal_declares d.domain) (flat_map domains_of cs) in
-    let own : Declarations = sections_declare (λ known n t. Local (length (received known cs) + n) t) 0 (local_variables b.decls) in
-    each_append SaysPlain (domains ++ flat_map definitions b.decls) own
-    (each_append SaysPlain domains (flat_map definitions b.decls) (flat_all SaysPlain (λ d. ordinal_declares d.domain) (λ d. ordinal_plain d.domain) (flat_map domains_of cs)) (flat_all SaysPlain definitions definition_plain b.decls))
+    each_append SaysPlain (flat_map definitions b.decls) (sections_declare (λ known n t. Local (length (received known cs) + n) t) 0 (local_variables b.decls))
+    (flat_all SaysPlain definitions definition_plain b.decls)
     (sections_plain (λ known n t. Local (length (received known cs) + n) t) (λ known n t. tt) 0 (local_variables b.decls))
 
 -- ---- names
 
 abbrev pub PlainAt : Declared → Type 0
-PlainAt at = (place : ℕ) → PlainMeaning (at place)
+PlainAt = AllMeanPlain
 
 either_plain : (b : Bool) (x y : Meaning) → PlainMeaning x → PlainMeaning y → PlainMeaning (cond b x y)
 either_plain true x y h k = h
@@ -215,7 +225,7 @@ looked_at : (b : Bool) (m : Meaning) (o : Option Meaning) → PlainMeaning m →
 looked_at true m o h k = h
 looked_at false m o h k = k
 
-looked_up : (p : List ℕ → Bool) (es : List (List ℕ × Meaning)) → Each (λ e. PlainMeaning e.1) es → PlainMeaning (or_other (lookup p es))
+looked_up : {K : Type 0} (p : K → Bool) (es : List (K × Meaning)) → AllMeanPlain es → PlainMeaning (or_other (lookup p es))
 looked_up p [] h = tt
 looked_up p (e ∷ es) h = looked_at (p e.0) e.1 (lookup p es) h.0 (looked_up p es h.1)
 
@@ -224,11 +234,19 @@ required_plain w = looked_up (bytes_eq w) required (tt, (tt, (tt, (tt, (tt, (tt,
 
 meaning_plain : (at : Declared) → PlainAt at → (x : Name) (o : Option Span) → PlainMeaning (meaning_at at x o)
 meaning_plain at h x None = tt
-meaning_plain at h x (Some decl) = either_plain (nat_eq decl.end 0) (required_meaning x.word) (at decl.start) (required_plain x.word) (h decl.start)
+meaning_plain at h x (Some decl) = either_plain (nat_eq decl.end 0) (required_meaning x.word) (at_place at decl.start) (required_plain x.word) (looked_up (nat_eq decl.start) at h)
 
 pub names_plain : (names : List Use) (at : Declared) → PlainAt at → HasPlainRoutines (meant_by names at)
 names_plain names at h x r e = subst PlainMeaning e (meaning_plain at h x (declaration_of names x))
 
+together_plain : (at es : Declared) → PlainAt at → AllMeanPlain es → PlainAt (fold (λ k e. e ∷ k) at es)
+together_plain at [] h k = h
+together_plain at (e ∷ es) h k = together_plain (e ∷ at) es (k.0, h) k.1
+
 pub declared_plain : (names : List Use) (at : Declared) (ds : Declarations) → PlainAt at → AllPlain ds → PlainAt (with_all names at ds)
 declared_plain names at [] h k = h
-declared_plain names at (d ∷ ds) h k = declared_plain names (with_one names at d) ds (λ place. either_plain (nat_eq place d.at) (d.says (meant_by names at)) (at place) (k.0 (meant_by names at)) (h place)) k.1
+declared_plain names at (d ∷ ds) h k = declared_plain names (with_one names at d) ds (together_plain at (d.says (meant_by names at)) h (k.0 (meant_by names at))) k.1
+
+pub chosen_plain : (at : Declared) (cs : List Choice) → PlainAt at → PlainAt (with_choices at cs)
+chosen_plain at [] h = h
+chosen_plain at (c ∷ cs) h = chosen_plain ((c.at, Constant c.value c.host) ∷ at) cs (tt, h)

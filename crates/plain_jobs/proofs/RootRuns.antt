@@ -50,7 +50,7 @@ module _ (g : Situation) (links : List Link) (o : Option Instance) where
     outline = outline_kept p change r.instance ∙ r.outline;
   }
 
-  shown : ShowAlike Acting Logged on_situation on_log [] RootAlike
+  pub shown : ShowAlike Acting Logged on_situation on_log [] RootAlike
   shown = record {
     instances = λ a l r p inside. ap (λ (b : Acting). map.get b.situation.core.instances p) r.acting ∙ sym (ap (λ (k : Logged). map.get k.image.instances p) r.logged);
     held = λ a l r p c k inside is. inside_root c;
@@ -61,7 +61,7 @@ module _ (g : Situation) (links : List Link) (o : Option Instance) where
   root_begins budget = record { state = record { instance = o; acting = refl; logged = refl; outline = refl }; frames = refl; left = refl }
 
   module _ (s : Subject) where
-    enter_state_alike : (known : Meanings) (to : Option ℕ) → DoAlike Acting Logged RootAlike (enter_state Acting on_situation s known [] to) (enter_state Logged on_log s known [] to)
+    pub enter_state_alike : (known : Meanings) (to : Option ℕ) → DoAlike Acting Logged RootAlike (enter_state Acting on_situation s known [] to) (enter_state Logged on_log s known [] to)
     enter_state_alike known None = pure_alike Acting Logged RootAlike (Same {A = Unit {0}}) tt tt refl
     enter_state_alike known (Some k) = λ x y r. (refl, record { state = kept x.state y.state r.state [] (Enter k); frames = r.frames; left = r.left })
 

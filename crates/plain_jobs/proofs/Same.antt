@@ -17,8 +17,11 @@ use Rattle.estelle_tree.specs.declared.tree.statement.Stmt.TheFolds.{map-Case, m
 use Rattle.estelle_model.specs.Paths.{Path}
 use Rattle.estelle_model.specs.States.{Offers}
 use Rattle.estelle_model.specs.Steps.{Step, Do, ◌>>=◌, ◌>>◌, pure, all, spend}
-use Rattle.estelle_model.specs.Meant.{Routine, Meanings}
-use Rattle.estelle_model.specs.Expressions.{Here, Given, Call, bool_step, ordinal_step}
+use Rattle.estelle_model.specs.declared.meaning.Routine.{Routine}
+use Rattle.estelle_model.specs.Meant.{Meanings}
+use Rattle.estelle_model.specs.declared.place.Here.{Here}
+use Rattle.estelle_model.specs.declared.place.Given.{Given}
+use Rattle.estelle_model.specs.Expressions.{Call, bool_step, ordinal_step}
 use Rattle.estelle_model.specs.Loops.{while_loop, repeat_loop}
 use Rattle.estelle_model.specs.Statements.{Action, chosen, or_nothing, value_of_expr, assign, invoke, choose, count, select, stmt, branch, stmts}
 use Rattle.estelle_model.specs.Calls.{Enters, call_by, enter, leave, within, nested, max_depth}

@@ -8,7 +8,8 @@ use Rattle.estelle_model.specs.declared.job.Done.{Done}
 use Rattle.estelle_model.specs.Paths.{Path}
 use Rattle.estelle_model.specs.States.{Logged, on_log}
 use Rattle.estelle_model.specs.Steps.{Running}
-use Rattle.estelle_model.specs.Meant.{Routine, Meanings}
+use Rattle.estelle_model.specs.declared.meaning.Routine.{Routine}
+use Rattle.estelle_model.specs.Meant.{Meanings}
 use Rattle.estelle_model.specs.Actions.{act}
 use Rattle.estelle_model.specs.Blocks.{block_step}
 use Rattle.estelle_model.specs.Transitions.{Transition}

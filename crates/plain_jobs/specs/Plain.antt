@@ -8,7 +8,9 @@ use Rattle.estelle_tree.specs.declared.tree.statement.Stmts.{Stmts}
 use Rattle.estelle_tree.specs.declared.tree.statement.Stmt.TheOpen.{Stmt-F, Case-F, Stmts-F}
 use Rattle.estelle_tree.specs.declared.tree.statement.Stmt.TheFolds.{fold-Stmt, fold-Case, fold-Stmts}
 use Rattle.estelle_model.specs.Steps.{Outcome}
-use Rattle.estelle_model.specs.Meant.{Routine, Meanings, Called}
+use Rattle.estelle_model.specs.declared.meaning.Routine.{Routine}
+use Rattle.estelle_model.specs.declared.meaning.Meaning.TheVariants.{Called}
+use Rattle.estelle_model.specs.Meant.{Meanings}
 
 abbrev pub true_or_none : Option Bool → Bool
 true_or_none None = true

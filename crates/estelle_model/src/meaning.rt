@@ -1,0 +1,89 @@
+use crate::denoter::Host;
+use crate::shared::{Statements, Type};
+use estelle_tree::Items;
+use pascal_values::Value;
+
+/// How a parameter is passed (ISO 7185, 6.6.3).
+#[derive(Drop)]
+pub enum Passing {
+    ByValue(Type),
+    ByPlace,
+}
+
+/// A procedure or a function, or a block that is entered as one (ISO 7185, 6.6).
+#[derive(Drop)]
+pub struct Routine<'a> {
+    pub parameters: Items<Passing>,
+    /// The types of its own variables.
+    pub locals: Items<Type>,
+    /// The type of a function's result.
+    pub result: Option<Type>,
+    pub body: Statements<'a>,
+}
+
+/// The attribute of a module (ISO/IEC 9074).
+#[derive(Clone, Copy, Debug, PartialEq, Eq)]
+pub enum Attribute {
+    Systemprocess,
+    Systemactivity,
+    Process,
+    Activity,
+}
+
+/// A module header (ISO/IEC 9074).
+#[derive(Drop)]
+pub struct Heading {
+    pub attribute: Option<Attribute>,
+    pub parameters: Items<Type>,
+    pub exports: Items<Type>,
+    /// Of each interaction point, whether it shares the common queue.
+    pub ips: Items<bool>,
+}
+
+/// A required function (ISO 7185, 6.6.6).
+#[derive(Clone, Copy, Debug, PartialEq, Eq)]
+pub enum Required {
+    Abs,
+    Sqr,
+    Odd,
+    Succ,
+    Pred,
+    Ord,
+    Chr,
+}
+
+/// What a name can mean.
+#[derive(Drop)]
+pub enum Meaning<'a> {
+    /// A constant, a value of an enumerated type, or a name of an `any` clause.
+    Constant { value: Value, host: Host },
+    TypeName(Type),
+    /// A variable of the instance, by its number.
+    Own { number: u32, denoter: Type },
+    /// An exported variable, by its number among the instance's variables: the instance's own where the
+    /// name stands alone, and a child's behind a module variable.
+    Exported { number: u32, denoter: Type },
+    /// A variable of the block or routine itself, a value parameter, or a parameter of the interaction,
+    /// by its number in the frame.
+    Local { number: u32, denoter: Type },
+    /// A var parameter, by its number among these.
+    Var { number: u32, denoter: Type },
+    /// A field of a record, by its number.
+    Field(u32),
+    Called(Routine<'a>),
+    RequiredFunction(Required),
+    /// A module variable of the instance, by its number.
+    Module(u32),
+    /// An interaction point of the instance, by its number.
+    Ip(u32),
+    /// A state of the instance, by its number.
+    State(u32),
+    StateSet(Items<u32>),
+    /// An interaction, with the types of its parameters.
+    Interaction(Items<Type>),
+    Header(Heading),
+    /// A body, by its number in the specification.
+    Body(u32),
+    /// A name of another kind.
+    Other,
+}
