@@ -1,0 +1,4 @@
+pub mod Numbering
+pub mod WayEquations
+pub mod BodyEquations
+pub mod HeaderEquations

@@ -1,0 +1,13 @@
+use Rattle.std.proofs.Common.{◌≡◌, drop}
+use Rattle.std.specs.List.{flat_map}
+use Rattle.estelle_model.specs.Denoted.{numbered}
+use Rattle.meaning_table.specs.Known.{declare_all}
+use Rattle.meaning_table.specs.Kinds.{plainly}
+use Rattle.meaning_table.specs.declared.kinds.PlainKind.TheVariants.{Module}
+use Rattle.body_table.specs.Brought.{modules_of}
+use Rattle.body_table.proofs.numbered.declare_modules.Given as goal
+
+abbrev pub invariant-loop-decl : goal.invariant-loop-decl
+invariant-loop-decl l =
+    (declare_all l.table (numbered (plainly Module) l.number (flat_map modules_of (drop l.decl-index l.decls)))
+    ≡ declare_all l.initial.table (numbered (plainly Module) 0 (flat_map modules_of l.decls)))

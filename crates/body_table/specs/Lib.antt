@@ -1,0 +1,4 @@
+pub mod Headers
+pub mod Brought
+pub mod Standings
+pub mod Ways

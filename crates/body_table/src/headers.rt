@@ -1,0 +1,187 @@
+//! Module headers (ISO/IEC 9074).
+
+ghost use Rattle.std.specs.Prelude.{◌≡◌, ◌++◌, length, map, replicate, option_map, IfOk, OnOk};
+ghost use Rattle.std.specs.Option.{option_copied};
+ghost use Rattle.estelle_model.specs.Bodies as spec;
+ghost use Rattle.estelle_model.specs.Denoted.{section, section_types};
+ghost use Rattle.meaning_table.specs.Known.{meanings_of, declare_all};
+ghost use Rattle.body_table.specs.Standings.{header_variables};
+ghost use Rattle.body_table.specs.Headers.{header_means, instance_declares};
+
+use crate::numbered::declare_header_ips;
+use block_table::{declare_params, param_types};
+use estelle_model::{Attribute, Heading, Meaning, Type};
+use estelle_tree::{Attr, Disc, Head, Header, IpDecl, Items, Name, Sequence, SysAttr, TypedNames};
+use meaning_table::{
+    Alone, Base, Table, VariableKind, behind, declare_sections, declare_types, push_types,
+};
+use std::alloc::{AllocError, Global};
+
+fn is_common(by_default: bool, disc: Option<Disc>) -> bool
+    ensures { result ≡ spec.is_common by_default disc }
+{
+    match disc {
+        None => by_default,
+        Some(Disc::Individual { .. }) => false,
+        Some(Disc::Common { .. }) => true,
+    }
+}
+
+/// Whether interaction points share the common queue where they name none.
+pub fn default_of(mut heads: &[Head]) -> bool
+    ensures { result ≡ spec.default_of heads.entry.now }
+{
+    while let [head, rest @ ..] = heads {
+        if let Head::Default { disc, .. } = head {
+            return is_common(false, Some(*disc));
+        }
+        heads = rest;
+    }
+    false
+}
+
+fn system_attribute(attr: SysAttr) -> Attribute
+    ensures { result ≡ spec.system_attribute attr }
+{
+    match attr {
+        SysAttr::Systemprocess { .. } => Attribute::Systemprocess,
+        SysAttr::Systemactivity { .. } => Attribute::Systemactivity,
+    }
+}
+
+fn attribute_of(attr: Attr) -> Attribute
+    ensures { result ≡ spec.attribute_of attr }
+{
+    match attr {
+        Attr::SysAttr(attr) => system_attribute(attr),
+        Attr::Process { .. } => Attribute::Process,
+        Attr::Activity { .. } => Attribute::Activity,
+    }
+}
+
+fn attribute(attr: Option<Attr>) -> Option<Attribute>
+    ensures { result ≡ option_map spec.attribute_of attr }
+{
+    match attr {
+        None => None,
+        Some(attr) => Some(attribute_of(attr)),
+    }
+}
+
+fn push_common(out: &mut Items<bool>, common: bool, count: usize) -> Result<(), AllocError>
+    ensures { OnOk result (out.new ≡ out.old ++ replicate count common) }
+{
+    for _ in 0..count {
+        out.push(common)?;
+    }
+    Ok(())
+}
+
+/// Of each interaction point, whether it shares the common queue.
+fn ips_common(alloc: Global, by_default: bool, ips: &[IpDecl]) -> Result<Items<bool>, AllocError>
+    ensures { IfOk result (λ common. common ≡ spec.ips_common by_default ips.now) }
+{
+    let mut common = Items::new(alloc);
+    for ip in ips {
+        push_common(
+            &mut common,
+            is_common(by_default, ip.disc),
+            ip.names.names.items().len(),
+        )?;
+    }
+    Ok(common)
+}
+
+fn export_types(table: &Table, exports: &[TypedNames]) -> Result<Items<Type>, AllocError>
+    ensures { IfOk result (λ types. types ≡ section_types (meanings_of table.now) (map section exports.now)) }
+{
+    let mut types = Items::new(table.alloc);
+    push_types(table, exports, &mut types)?;
+    Ok(types)
+}
+
+fn header_meaning<'a>(
+    table: &Table<'a>,
+    by_default: bool,
+    header: &Header,
+) -> Result<Meaning<'a>, AllocError>
+    ensures { IfOk result (λ m. m ≡ header_means by_default header.now (meanings_of table.now)) }
+{
+    Ok(Meaning::Header(Heading {
+        attribute: attribute(header.attr),
+        parameters: param_types(table, &header.params)?,
+        exports: export_types(table, header.exports.items())?,
+        ips: ips_common(table.alloc, by_default, header.ips.items())?,
+    }))
+}
+
+/// The parameters, the exported variables and the interaction points of a header.
+fn declare_instance(table: &mut Table, header: &Header) -> Result<(), AllocError>
+    ensures { OnOk result (table.new ≡ declare_all table.old (instance_declares header.now)) }
+{
+    declare_types(table, header.exports.items())?;
+    let number = declare_params(table, VariableKind::Own, &header.params)?;
+    let exports = header.exports.items();
+    declare_sections(table, &Alone, VariableKind::Exported, number, exports)?;
+    declare_header_ips(table, header.ips.items())
+}
+
+/// A header.
+pub fn declare_header(
+    table: &mut Table,
+    by_default: bool,
+    header: &Header,
+) -> Result<(), AllocError>
+    ensures { OnOk result (table.new ≡ declare_all table.old (spec.header_declares by_default header.now)) }
+{
+    declare_instance(table, header)?;
+    let meaning = header_meaning(table, by_default, header)?;
+    table.declare(header.name.span.start, meaning)
+}
+
+fn ips_of(meaning: &Meaning) -> usize
+    ensures { result ≡ length (spec.heading_of meaning.now).ips }
+{
+    match meaning {
+        Meaning::Header(heading) => heading.ips.len(),
+        _ => 0,
+    }
+}
+
+/// How many interaction points the header of a body has.
+pub fn header_ips(table: &Table, header: Option<&Name>) -> usize
+    ensures { result ≡ length (spec.heading (meanings_of table.now) (option_copied header.entry)).ips }
+{
+    match header {
+        None => 0,
+        Some(name) => ips_of(table.meaning(name)),
+    }
+}
+
+fn variables_of(meaning: &Meaning) -> Result<u32, AllocError>
+    ensures { IfOk result (λ count. count ≡ length ((spec.heading_of meaning.now).parameters ++ (spec.heading_of meaning.now).exports)) }
+{
+    match meaning {
+        Meaning::Header(heading) => {
+            behind(behind(0, heading.parameters.len())?, heading.exports.len())
+        }
+        _ => Ok(0),
+    }
+}
+
+/// Behind the variables of the header of a body.
+#[derive(Drop)]
+pub struct BehindHeader<'t> {
+    pub header: Option<&'t Name>,
+}
+
+impl<'t> Base for BehindHeader<'t> {
+    ghost base = { λ b. header_variables (option_copied b.header) };
+
+    fn count(&self, table: &Table) -> Result<u32, AllocError> {
+        match self.header {
+            None => Ok(0),
+            Some(name) => variables_of(table.meaning(name)),
+        }
+    }
+}

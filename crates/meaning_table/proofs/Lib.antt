@@ -1,0 +1,5 @@
+pub mod Latest
+pub mod Uses
+pub mod TypeEquations
+pub mod Chains
+pub mod Declarations
