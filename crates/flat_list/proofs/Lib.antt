@@ -1,0 +1,4 @@
+pub mod BodyEquations
+pub mod Numbers
+pub mod Standings
+pub mod Cases

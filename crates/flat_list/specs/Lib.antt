@@ -1,0 +1,2 @@
+pub mod FlatList
+pub mod Walks

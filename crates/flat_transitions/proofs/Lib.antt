@@ -1,0 +1,3 @@
+pub mod Walks
+pub mod Flattened
+pub mod OfSpecification
