@@ -1,0 +1,226 @@
+//! Guards: `provided` and the delay (ISO/IEC 9074).
+
+ghost use Rattle.std.specs.Prelude.{◌≡◌, ◌-◌, ◌^◌, ◌&&◌, true, nat_abs, pos, Some};
+ghost use Rattle.std.specs.Int.RustNames.{int_le};
+ghost use Rattle.pascal_values.specs.Integers.{is_between};
+ghost use Rattle.std.specs.Option.{option_copied};
+ghost use Rattle.estelle_model.specs.States.{Logged, on_log};
+ghost use Rattle.estelle_model.specs.Steps.{Running, Step};
+ghost use Rattle.estelle_model.specs.Transitions.{Transition};
+ghost use Rattle.estelle_model.specs.Subject.{Subject, meant_with};
+ghost use Rattle.estelle_model.specs.Clauses as clauses;
+ghost use Rattle.estelle_model.specs.Expressions.{bool_step};
+ghost use Rattle.plain_jobs.specs.Plain.{HasPlainRoutines};
+ghost use Rattle.meaning_table.specs.Known.{meanings_of};
+ghost use Rattle.walker_operators.specs.Gives.{Gives};
+ghost use Rattle.walker_state.specs.Follows.{Follows};
+
+use block_walker::clause;
+use estelle_model::Guard;
+use estelle_tree::{DelayHigh, Expr, Path};
+use flat_transitions::{Delay, Transition};
+use meaning_table::Table;
+use pascal_values::{Fault, Values};
+use std::alloc::Global;
+use walker_operators::{Stop, bool_of, int_of};
+use walker_state::{Walk, copy_values};
+
+/// The truth value of an expression in a clause.
+fn truth(
+    table: &Table,
+    alloc: Global,
+    walk: &mut Walk,
+    path: &Path,
+    values: &Values,
+    node: &Expr,
+) -> Result<bool, Stop>
+    requires { HasPlainRoutines (meanings_of table.now) }
+    ensures { (s : Subject) (t : Transition) → meant_with s t.chosen ≡ meanings_of table.now → Follows (bool_step (clauses.value_of_expr Logged on_log s path.now t values.now node.now)) walk.old result walk.new }
+{
+    let values = copy_values(alloc, values)?;
+    match clause(table, alloc, walk, path, values, node) {
+        Ok(value) => bool_of(&value),
+        Err(stop) => Err(stop),
+    }
+}
+
+/// The integer that an expression in a clause is.
+fn number(
+    table: &Table,
+    alloc: Global,
+    walk: &mut Walk,
+    path: &Path,
+    values: &Values,
+    node: &Expr,
+) -> Result<i64, Stop>
+    requires { HasPlainRoutines (meanings_of table.now) }
+    ensures { (s : Subject) (t : Transition) → meant_with s t.chosen ≡ meanings_of table.now → Follows (clauses.int_step Logged on_log s path.now t values.now node.now) walk.old result walk.new }
+{
+    let values = copy_values(alloc, values)?;
+    match clause(table, alloc, walk, path, values, node) {
+        Ok(value) => int_of(&value),
+        Err(stop) => Err(stop),
+    }
+}
+
+fn provided(
+    table: &Table,
+    alloc: Global,
+    walk: &mut Walk,
+    path: &Path,
+    values: &Values,
+    condition: Option<&Expr>,
+) -> Result<bool, Stop>
+    requires { HasPlainRoutines (meanings_of table.now) }
+    ensures { (s : Subject) (t : Transition) → meant_with s t.chosen ≡ meanings_of table.now → Follows (clauses.provided_step Logged on_log s path.now t values.now (option_copied condition.entry)) walk.old result walk.new }
+{
+    match condition {
+        None => Ok(true),
+        Some(node) => truth(table, alloc, walk, path, values, node),
+    }
+}
+
+/// Whether a number is a moment of a delay.
+fn is_moment(n: i64) -> bool
+    ensures { result ≡ is_between (pos 0) (pos (2 ^ 31 - 1)) n }
+{
+    0 <= n && n <= 0x7fff_ffff
+}
+
+fn moment(n: i64) -> u32
+    requires { is_between (pos 0) (pos (2 ^ 31 - 1)) n ≡ true }
+    ensures { result ≡ nat_abs n }
+{
+    n.unsigned_abs() as u32
+}
+
+/// Whether two numbers are moments of a delay, the first no later than the second.
+fn are_moments(low: i64, high: i64) -> bool
+    ensures { result ≡ (is_between (pos 0) (pos (2 ^ 31 - 1)) low && (is_between (pos 0) (pos (2 ^ 31 - 1)) high && int_le low high)) }
+{
+    is_moment(low) && is_moment(high) && low <= high
+}
+
+fn between(low: i64, high: i64) -> Result<Guard, Stop>
+    ensures { (s : Subject) → Gives (clauses.between Logged on_log s low high) result }
+{
+    if !are_moments(low, high) {
+        return Err(Stop::Fault(Fault::DelayRange));
+    }
+    Ok(Guard::On {
+        low: moment(low),
+        high: Some(moment(high)),
+    })
+}
+
+fn from_on(low: i64) -> Result<Guard, Stop>
+    ensures { (s : Subject) → Gives (clauses.from_on Logged on_log s low) result }
+{
+    if !is_moment(low) {
+        return Err(Stop::Fault(Fault::DelayRange));
+    }
+    Ok(Guard::On {
+        low: moment(low),
+        high: None,
+    })
+}
+
+/// The second value of a delay, and then both as a guard.
+fn high(
+    table: &Table,
+    alloc: Global,
+    walk: &mut Walk,
+    path: &Path,
+    values: &Values,
+    low: i64,
+    high: &Option<DelayHigh>,
+) -> Result<Guard, Stop>
+    requires { HasPlainRoutines (meanings_of table.now) }
+    ensures { (s : Subject) (t : Transition) → meant_with s t.chosen ≡ meanings_of table.now → Follows (clauses.high_step Logged on_log s path.now t values.now low high.now) walk.old result walk.new }
+{
+    match high {
+        None => between(low, low),
+        Some(later) => written(table, alloc, walk, path, values, low, later),
+    }
+}
+
+fn written(
+    table: &Table,
+    alloc: Global,
+    walk: &mut Walk,
+    path: &Path,
+    values: &Values,
+    low: i64,
+    high: &DelayHigh,
+) -> Result<Guard, Stop>
+    requires { HasPlainRoutines (meanings_of table.now) }
+    ensures { (s : Subject) (t : Transition) → meant_with s t.chosen ≡ meanings_of table.now → Follows (clauses.high_step Logged on_log s path.now t values.now low (Some high.now)) walk.old result walk.new }
+{
+    match high {
+        DelayHigh::Star => from_on(low),
+        DelayHigh::Expr(node) => match number(table, alloc, walk, path, values, node) {
+            Ok(n) => between(low, n),
+            Err(stop) => Err(stop),
+        },
+    }
+}
+
+/// A delay as a guard. Where a timer runs, nothing of it is evaluated.
+fn delay(
+    table: &Table,
+    alloc: Global,
+    walk: &mut Walk,
+    path: &Path,
+    values: &Values,
+    timed: bool,
+    delay: Option<&Delay>,
+) -> Result<Guard, Stop>
+    requires { HasPlainRoutines (meanings_of table.now) }
+    ensures { (s : Subject) (t : Transition) → meant_with s t.chosen ≡ meanings_of table.now → Follows (clauses.delay_step Logged on_log s path.now t values.now timed (option_copied delay.entry)) walk.old result walk.new }
+{
+    match delay {
+        None => Ok(at_once()),
+        Some(delay) => {
+            if timed {
+                return Ok(at_once());
+            }
+            match number(table, alloc, walk, path, values, delay.low()) {
+                Ok(low) => high(table, alloc, walk, path, values, low, delay.high()),
+                Err(stop) => Err(stop),
+            }
+        }
+    }
+}
+
+fn at_once() -> Guard
+    ensures { (s : Subject) → result ≡ clauses.at_once Logged on_log s }
+{
+    Guard::On {
+        low: 0,
+        high: Some(0),
+    }
+}
+
+/// `provided`, and where it is true the delay.
+pub(crate) fn guard(
+    table: &Table,
+    alloc: Global,
+    walk: &mut Walk,
+    path: &Path,
+    transition: &Transition,
+    values: &Values,
+    timed: bool,
+) -> Result<Guard, Stop>
+    requires { HasPlainRoutines (meanings_of table.now) }
+    ensures { (s : Subject) → meant_with s transition.now.chosen ≡ meanings_of table.now → Follows (clauses.guard_step Logged on_log s path.now transition.now values.now timed) walk.old result walk.new }
+{
+    match provided(table, alloc, walk, path, values, transition.provided()) {
+        Ok(holds) => {
+            if !holds {
+                return Ok(Guard::Off);
+            }
+            delay(table, alloc, walk, path, values, timed, transition.delay())
+        }
+        Err(stop) => Err(stop),
+    }
+}
