@@ -1,0 +1,4 @@
+pub mod Processes
+pub mod Worlds
+pub mod Surveys
+pub mod Open
