@@ -1,9 +1,12 @@
-//! Texts that are small specifications, and texts that are not.
+//! Texts that run, and texts that do not.
 
 use crate::calls::{ALL_STEADY, run};
-use crate::texts::{DEADLOCK, FIRING_OVERFLOWS, GUARD_OVERFLOWS, TURNS, trace};
+use crate::texts::{
+    DEADLOCK, FIRING_OVERFLOWS, GUARD_OVERFLOWS, GUARD_UNSET, SECOND_FIRES, TURNS, trace,
+};
 use crate::worked::WORKED;
 use estelle_cli::Status;
+use std::alloc::{AllocError, Global};
 use std::test::Fail;
 
 /// Each of its words stands in so few places that a row can name the place by a few words.
@@ -17,7 +20,7 @@ end.
 ";
 
 /// Texts that run: what is replaced and by what, how often the transition then fires, and the last lines.
-const RUN: [(&str, &str, u32, &str); 42] = [
+const RUN: [(&str, &str, u32, &str); 86] = [
     ("go", "go", 3, DEADLOCK),
     ("go", "went", 3, DEADLOCK),
     // no guard, no label, both forms of a label
@@ -26,22 +29,65 @@ const RUN: [(&str, &str, u32, &str); 42] = [
     ("to go begin", "to go name first: begin", 3, DEADLOCK),
     ("tick", "go", 3, DEADLOCK),
     ("tick", "maxint", 3, DEADLOCK),
-    // sums of one and of two operands, numbers and names, on both sides
+    // more of each declaration, and what else may stand in it
+    ("var total", "var other, total", 3, DEADLOCK),
+    ("state go", "state go, went", 3, DEADLOCK),
+    ("var", "timescale second;\nvar", 3, DEADLOCK),
+    (
+        "initialize",
+        "stateset always = [go];\ninitialize",
+        3,
+        DEADLOCK,
+    ),
+    // no statement, and more than one
+    ("begin total := 0 end", "begin end", 0, GUARD_UNSET),
+    ("0 end", "0; total := 1 end", 2, DEADLOCK),
+    // other clauses, and in another order
+    ("from go ", "", 3, DEADLOCK),
+    ("to go provided", "provided", 3, DEADLOCK),
+    ("to go provided", "to same provided", 3, DEADLOCK),
+    ("from go to go", "to go from go", 3, DEADLOCK),
+    (
+        "end;\nend.",
+        "end;\ntrans\nfrom go to go provided total = 3 begin total := 5 end;\nend.",
+        3,
+        SECOND_FIRES,
+    ),
+    (
+        "end;\nend.",
+        "end;\nprovided total = 3 begin total := 5 end;\nend.",
+        3,
+        SECOND_FIRES,
+    ),
+    // sums of one, two and more operands, numbers and names, on both sides
     ("total < 3", "total + 1 < 2 + 2", 3, DEADLOCK),
     ("total < 3", "total < total", 0, DEADLOCK),
     ("total < 3", "3 < total", 0, DEADLOCK),
+    ("total < 3", "total < 3 + 4 + 5", 12, DEADLOCK),
     ("total < 3", "total + total < maxint", 10_000, TURNS),
     ("total + 1", "5", 1, DEADLOCK),
     ("total + 1", "1 + total", 3, DEADLOCK),
     ("total + 1", "total + total", 10_000, TURNS),
     ("total + 1", "maxint", 1, DEADLOCK),
     ("total + 1", "maxint + 0", 1, DEADLOCK),
+    ("total + 1", "+ 1", 10_000, TURNS),
+    ("total + 1", "total + 1 + 1", 2, DEADLOCK),
+    ("total + 1", "(total + 1)", 3, DEADLOCK),
+    // other operators
+    ("<", "<=", 4, DEADLOCK),
+    ("<", "<>", 3, DEADLOCK),
+    ("<", ">", 0, DEADLOCK),
+    ("<", "=", 0, DEADLOCK),
+    ("+", "-", 10_000, TURNS),
+    ("+", "*", 10_000, TURNS),
     // results beyond maxint
     ("total + 1", "maxint + 1", 0, FIRING_OVERFLOWS),
     ("total < 3", "total + maxint < 3", 0, DEADLOCK),
     ("total < 3", "1 + maxint < 3", 0, GUARD_OVERFLOWS),
     ("total < 3", "3 < maxint + 1", 0, GUARD_OVERFLOWS),
     // numbers
+    (":= 0", ":= -1", 4, DEADLOCK),
+    (":= 0", ":= +1", 2, DEADLOCK),
     (":= 0", ":= 9223372036854775807", 0, DEADLOCK),
     ("< 3", "< 9223372036854775807", 10_000, TURNS),
     (":= 0", ":= 00000000000000000000000000002", 1, DEADLOCK),
@@ -67,13 +113,34 @@ const RUN: [(&str, &str, u32, &str); 42] = [
     ("total", "t_1_", 3, DEADLOCK),
     ("total", "begin_1", 3, DEADLOCK),
     ("total", "ending", 3, DEADLOCK),
-    // a specification may have the name of a required identifier
+    // names that are the specification's, and specifications with the name of a required identifier
     ("adder", "integer", 3, DEADLOCK),
+    ("go", "adder", 3, DEADLOCK),
+    ("total", "adder", 3, DEADLOCK),
+    ("total", "Adder", 3, DEADLOCK),
+    // names that hide required identifiers
+    ("go", "integer", 3, DEADLOCK),
+    ("go", "boolean", 3, DEADLOCK),
+    ("go", "char", 3, DEADLOCK),
+    ("go", "true", 3, DEADLOCK),
+    ("go", "false", 3, DEADLOCK),
+    ("go", "maxint", 3, DEADLOCK),
+    ("go", "abs", 3, DEADLOCK),
+    ("go", "sqr", 3, DEADLOCK),
+    ("go", "odd", 3, DEADLOCK),
+    ("go", "succ", 3, DEADLOCK),
+    ("go", "pred", 3, DEADLOCK),
+    ("go", "ord", 3, DEADLOCK),
+    ("go", "chr", 3, DEADLOCK),
+    ("total", "boolean", 3, DEADLOCK),
+    ("total", "Maxint", 3, DEADLOCK),
+    ("total", "abs", 3, DEADLOCK),
+    ("total", "chr", 3, DEADLOCK),
 ];
 
-/// Texts that are refused: what is replaced, by what, and the line on err behind `estelle: `. The places are
-/// those of a recognizer of the grammar that was written for this table alone.
-const REFUSED: [(&str, &str, &str); 123] = [
+/// Texts that are refused: what is replaced, by what, and the line on err behind `estelle: `. The places of errors of
+/// syntax are those of a recognizer of the grammar that was written for this table alone.
+const REFUSED: [(&str, &str, &str); 102] = [
     // the heading
     ("specification ", "", "syntax 1:1"),
     ("adder ", "", "syntax 1:15"),
@@ -82,53 +149,41 @@ const REFUSED: [(&str, &str, &str); 123] = [
     ("systemprocess", "systemactivity", "form not built"),
     ("systemprocess;", "systemprocess", "syntax 2:1"),
     // the declarations
-    ("var total: integer;\n", "", "form not built"),
+    ("var total: integer;\n", "", "rule 2 3:24"),
     ("var ", "", "syntax 2:1"),
     ("var total", "var", "syntax 2:4"),
     ("total: integer", "total integer", "syntax 2:11"),
     ("integer", "", "syntax 2:12"),
-    ("integer", "boolean", "form not built"),
+    ("integer", "boolean", "rule 40 4:33"),
     ("integer;", "integer", "syntax 3:1"),
-    ("var total", "var other, total", "form not built"),
-    ("state go;\n", "", "form not built"),
+    ("state go;\n", "", "rule 2 3:15"),
     ("state ", "", "syntax 3:3"),
     ("state go", "state", "syntax 3:6"),
     ("state go;", "state go", "syntax 4:1"),
-    ("state go", "state go, went", "form not built"),
     // the initialization
-    (
-        "initialize to go begin total := 0 end;\n",
-        "",
-        "form not built",
-    ),
+    ("initialize to go begin total := 0 end;\n", "", "rule 4 1:1"),
     ("initialize ", "", "syntax 4:1"),
     ("initialize to go", "initialize go", "syntax 4:12"),
     ("initialize to go", "initialize to", "syntax 4:15"),
-    ("initialize to go", "initialize", "form not built"),
+    ("initialize to go", "initialize", "rule 4 1:1"),
     ("begin total := 0", "total := 0", "syntax 4:18"),
     ("begin total := 0", "begin := 0", "syntax 4:24"),
-    ("begin total := 0 end", "begin end", "form not built"),
     (":= 0", "0", "syntax 4:30"),
     (":= 0", ":=", "syntax 4:33"),
     (":= 0", "= 0", "syntax 4:30"),
     (":= 0", ": = 0", "syntax 4:30"),
     ("0 end;", "0;", "syntax 5:1"),
     ("0 end;", "0 end", "syntax 5:1"),
-    ("0 end", "0; total := 1 end", "form not built"),
     // the transition
     ("trans\n", "", "syntax 5:1"),
-    ("from go ", "", "form not built"),
     ("from go", "from", "syntax 6:6"),
-    ("to go provided", "provided", "form not built"),
     ("to go provided", "to provided", "syntax 6:12"),
-    ("from go to go", "to go from go", "form not built"),
     ("provided total < 3", "provided", "syntax 6:24"),
     ("provided total < 3", "total < 3", "syntax 6:15"),
-    ("total < 3", "total", "form not built"),
+    ("total < 3", "total", "rule 40 6:24"),
     ("total < 3", "< 3", "syntax 6:24"),
     ("total < 3", "total <", "syntax 6:32"),
     ("total < 3", "total < 3 < 4", "syntax 6:34"),
-    ("total < 3", "total < 3 + 4 + 5", "form not built"),
     ("tick:", ":", "syntax 6:39"),
     ("tick:", "tick", "syntax 6:44"),
     ("name tick:", "tick:", "syntax 6:34"),
@@ -136,15 +191,7 @@ const REFUSED: [(&str, &str, &str); 123] = [
     ("name tick:", "name tick: name tock:", "syntax 6:45"),
     ("total + 1", "", "syntax 6:61"),
     ("total + 1", "total +", "syntax 6:68"),
-    ("total + 1", "+ 1", "form not built"),
-    ("total + 1", "total + 1 + 1", "form not built"),
-    ("total + 1", "(total + 1)", "form not built"),
     ("total + 1 end;", "total + 1 end", "syntax 7:1"),
-    (
-        "end;\nend.",
-        "end;\ntrans\nfrom go to go begin total := 1 end;\nend.",
-        "form not built",
-    ),
     // the end, and what stands behind it
     ("end;\nend.", "end;\n.", "syntax 7:1"),
     ("end.", "end", "syntax 8:1"),
@@ -155,19 +202,11 @@ const REFUSED: [(&str, &str, &str); 123] = [
     ("end.", "end.\nend.", "text after end 8:1"),
     ("end.", "end.\n\n1", "text after end 9:1"),
     // symbols, numbers and bytes
-    ("<", "<=", "form not built"),
-    ("<", "<>", "form not built"),
     ("<", "< >", "syntax 6:32"),
-    ("<", ">", "form not built"),
-    ("<", "=", "form not built"),
-    ("+", "-", "form not built"),
-    ("+", "*", "form not built"),
-    ("+", "or", "form not built"),
-    (":= 0", ":= -1", "form not built"),
-    (":= 0", ":= +1", "form not built"),
+    ("+", "or", "rule 40 6:60"),
     (":= 0", ":= 0.5", "syntax 4:34"),
     (":= 0", ":= 0..5", "syntax 4:34"),
-    (":= 0", ":= 'a'", "form not built"),
+    (":= 0", ":= 'a'", "rule 40 4:33"),
     (":= 0", ":= 9223372036854775808", "bytes 4:33"),
     (
         ":= 0",
@@ -180,44 +219,68 @@ const REFUSED: [(&str, &str, &str); 123] = [
     ("total", "totäl", "bytes 2:8"),
     ("specification", "\u{0}specification", "bytes 1:1"),
     // names that are not declared
-    ("total + 1", "other + 1", "form not built"),
-    ("total + 1", "total + other", "form not built"),
-    ("total < 3", "other < 3", "form not built"),
-    ("total < 3", "total < go", "form not built"),
-    ("total := 0", "other := 0", "form not built"),
-    ("total := 0", "maxint := 0", "form not built"),
-    ("total := total", "adder := total", "form not built"),
-    (":= 0", ":= go", "form not built"),
-    ("initialize to go", "initialize to went", "form not built"),
-    ("from go", "from went", "form not built"),
-    ("to go provided", "to went provided", "form not built"),
+    ("total + 1", "other + 1", "rule 2 6:60"),
+    ("total + 1", "total + other", "rule 2 6:68"),
+    ("total < 3", "other < 3", "rule 2 6:24"),
+    ("total < 3", "total < go", "rule 3 6:32"),
+    ("total := 0", "other := 0", "rule 2 4:24"),
+    ("total := 0", "maxint := 0", "rule 3 4:24"),
+    ("total := total", "adder := total", "rule 2 6:51"),
+    (":= 0", ":= go", "rule 3 4:33"),
+    ("initialize to go", "initialize to went", "rule 2 4:15"),
+    ("from go", "from went", "rule 2 6:6"),
+    ("to go provided", "to went provided", "rule 2 6:12"),
     // names that clash
-    ("go", "total", "form not built"),
-    ("go", "TOTAL", "form not built"),
-    ("go", "adder", "form not built"),
-    ("total", "adder", "form not built"),
-    ("total", "Adder", "form not built"),
-    // reserved words and required identifiers
+    ("go", "total", "rule 1 3:7"),
+    ("go", "TOTAL", "rule 1 3:7"),
+    // reserved words
     ("total", "queue", "syntax 2:5"),
     ("go", "nil", "syntax 3:7"),
     ("tick", "queue", "syntax 6:39"),
-    ("go", "integer", "form not built"),
-    ("go", "boolean", "form not built"),
-    ("go", "char", "form not built"),
-    ("go", "true", "form not built"),
-    ("go", "false", "form not built"),
-    ("go", "maxint", "form not built"),
-    ("go", "abs", "form not built"),
-    ("go", "sqr", "form not built"),
-    ("go", "odd", "form not built"),
-    ("go", "succ", "form not built"),
-    ("go", "pred", "form not built"),
-    ("go", "ord", "form not built"),
-    ("go", "chr", "form not built"),
-    ("total", "boolean", "form not built"),
-    ("total", "Maxint", "form not built"),
-    ("total", "abs", "form not built"),
-    ("total", "chr", "form not built"),
+    // forms that are not run yet: each declaration, clause and statement, whatever its names mean
+    ("var", "default individual queue;\nvar", "form not built"),
+    ("var", "channel c(a, b); by a: m;\nvar", "form not built"),
+    ("var", "module m; end;\nvar", "form not built"),
+    ("var", "body b for m; end;\nvar", "form not built"),
+    ("var", "ip p: c(a);\nvar", "form not built"),
+    ("var", "modvar x: m;\nvar", "form not built"),
+    ("from go", "when p.m from go", "form not built"),
+    ("from go", "any i: 1..2 do from go", "form not built"),
+    ("from go", "priority 1 from go", "form not built"),
+    ("from go", "delay(1) from go", "form not built"),
+    ("total + 1", "total; init x with b", "form not built"),
+    ("total + 1", "total; begin release x end", "form not built"),
+    (
+        "total + 1",
+        "total; if true then else connect p to q",
+        "form not built",
+    ),
+    (
+        "total + 1",
+        "total; while true do disconnect p",
+        "form not built",
+    ),
+    (
+        "total + 1",
+        "total; repeat attach p to x.q until true",
+        "form not built",
+    ),
+    (
+        "total + 1",
+        "total; for total := 1 to 2 do detach p",
+        "form not built",
+    ),
+    (
+        "total + 1",
+        "total; case 1 of 1: output p.m end",
+        "form not built",
+    ),
+    ("total := 0", "release x", "form not built"),
+    (
+        "state",
+        "procedure p; begin release x end;\nstate",
+        "form not built",
+    ),
 ];
 
 // What the grammar allows: each part that may be left out, present and absent, and how tokens may be written.
@@ -240,9 +303,9 @@ fn forms_that_run(rt: HostRuntime) -> Result<(), Fail> {
     Ok(())
 }
 
-// What the grammar does not allow, and what it allows but the program does not run: each part that may not be
-// left out, left out; what later texts may have; symbols and numbers that are no tokens; and names that are not
-// declared, clash or are required. Each with the reason that comes first, and its place.
+// What the grammar does not allow, what it allows but the program does not run, and what breaks a rule: each part
+// that may not be left out, left out; what later texts may have; symbols and numbers that are no tokens; and names
+// that are not declared, clash or are of another kind. Each with the reason that comes first, and its place.
 #[test]
 fn texts_that_are_refused(rt: HostRuntime) -> Result<(), Fail> {
     for (old, new, reason) in &REFUSED {
@@ -253,6 +316,32 @@ fn texts_that_are_refused(rt: HostRuntime) -> Result<(), Fail> {
         let line = format!(in rt.alloc(); "estelle: {reason}\n")?;
         assert_eq!(rt; answer.err.as_slice(), line.as_bytes(), "{text}");
     }
+    Ok(())
+}
+
+/// A specification with so many transitions, of which none is ever enabled.
+fn with_transitions(alloc: Global, count: u32) -> Result<Vec<u8>, AllocError> {
+    let mut text = Vec::new(alloc);
+    text.extend_from_slice(b"specification many systemprocess;\ntrans\n")?;
+    for _ in 0..count {
+        text.extend_from_slice(b"provided false begin end;\n")?;
+    }
+    text.extend_from_slice(b"end.\n")?;
+    Ok(text)
+}
+
+// The most transitions that are run, and one more.
+#[test]
+fn most_transitions(rt: HostRuntime) -> Result<(), Fail> {
+    let text = with_transitions(rt.alloc(), 4096)?;
+    let answer = run(rt.alloc(), ALL_STEADY, &text)?;
+    assert!(rt; answer.out == trace(rt.alloc(), 0, DEADLOCK)?);
+    let text = with_transitions(rt.alloc(), 4097)?;
+    let answer = run(rt.alloc(), ALL_STEADY, &text)?;
+    assert_eq!(rt;
+        answer.err.as_slice(),
+        b"estelle: form not built\n".as_slice()
+    );
     Ok(())
 }
 

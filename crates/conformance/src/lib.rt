@@ -18,9 +18,13 @@ mod memory;
 #[cfg(test)]
 mod names;
 #[cfg(test)]
+mod pascal;
+#[cfg(test)]
 mod rows;
 #[cfg(test)]
 mod texts;
+#[cfg(test)]
+mod transitions;
 #[cfg(test)]
 mod types;
 #[cfg(test)]

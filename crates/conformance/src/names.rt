@@ -87,7 +87,7 @@ const TEXTS: [&str; 68] = [
     "specification s; initialize begin k := 1 end; trans any i, {1}i: 1..2 do begin end; end.",
 ];
 
-pub fn tree(alloc: Global, text: &[u8]) -> Option<Spec> {
+pub(crate) fn tree(alloc: Global, text: &[u8]) -> Option<Spec> {
     if text.len() > 1000 {
         return None;
     }

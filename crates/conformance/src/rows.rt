@@ -1,8 +1,11 @@
 //! Worked calls with all that they write.
 
 use crate::calls::{ALL_STEADY, Device, Devices, STEADY, call, run};
-use crate::texts::{COUNTER, COUNTER_TRACE, OVERFLOW_TRACE, OVERFLOWING, TURNS, filled, trace};
+use crate::texts::{
+    COUNTER, COUNTER_TRACE, DEADLOCK, OVERFLOW_TRACE, OVERFLOWING, TURNS, filled, trace,
+};
 use estelle_cli::{Command, Settings, Status, settings};
+use std::alloc::{AllocError, Global};
 use std::test::Fail;
 
 /// It reads its variable before there is a value.
@@ -30,13 +33,47 @@ from go to go provided n < 20000 name tick: begin n := n + 1 end;
 end.
 ";
 
+/// It has nothing to do.
+const IDLE: &str = "specification idle systemprocess; end.";
+
+const IDLE_TRACE: &str = "estelle trace 1
+start
+select / now 0 takes -
+end deadlock
+";
+
+/// Its index goes beyond the array.
+const INDEXING: &str = "specification count systemprocess;
+var n: integer; a: array [0..1] of integer;
+state go;
+initialize to go begin n := 0 end;
+trans
+from go to go provided n < 3 name tick: begin a[n] := n; n := a[n] + 1 end;
+end.
+";
+
+const INDEXING_TRACE: &str = "estelle trace 1
+start
+select / now 0 takes /:1
+fire / 1
+select / now 0 takes /:1
+fire / 1
+select / now 0 takes /:1
+fault / 1 Index
+end fault Index
+";
+
 const NO_SYNTAX: &str = "estelle: syntax 1:1\n";
+
+const NOT_BUILT: &str = "estelle: form not built\n";
 
 const TOO_LONG: &str = "estelle: too long\n";
 
 const UNSET_LINE: &str = "estelle: fault Unset\n";
 
 const OVERFLOW_LINE: &str = "estelle: fault Overflow\n";
+
+const INDEX_LINE: &str = "estelle: fault Index\n";
 
 /// The name of a row; the words and the input; what out and err then hold, and the status.
 type Row = (
@@ -48,7 +85,7 @@ type Row = (
     Status,
 );
 
-const ROWS: [Row; 4] = [
+const ROWS: [Row; 7] = [
     (
         "counter",
         &["run"],
@@ -72,6 +109,23 @@ const ROWS: [Row; 4] = [
         UNSET_TRACE,
         UNSET_LINE,
         Status::PascalFault,
+    ),
+    (
+        "indexing",
+        &["run"],
+        INDEXING,
+        INDEXING_TRACE,
+        INDEX_LINE,
+        Status::PascalFault,
+    ),
+    ("idle", &["run"], IDLE, IDLE_TRACE, "", Status::Done),
+    (
+        "idle, without a system",
+        &["run"],
+        "specification idle; end.",
+        "",
+        NOT_BUILT,
+        Status::Refused,
     ),
     ("empty", &["run"], "", "", NO_SYNTAX, Status::Refused),
 ];
@@ -159,10 +213,12 @@ fn worked_runs(rt: HostRuntime) -> Result<(), Fail> {
 }
 
 /// Counters that are spoiled: what is replaced, by what, and the line on err behind `estelle: `.
-const SPOILED: [(&str, &str, &str); 3] = [
+const SPOILED: [(&str, &str, &str); 5] = [
     ("end.\n", "", "syntax 7:1"),
     (":= 0", ":= 1.5", "syntax 4:30"),
     ("end.\n", "end.\nx\n", "text after end 8:1"),
+    ("n < 3", "k < 3", "rule 2 6:24"),
+    ("n < 3", "3", "rule 40 6:24"),
 ];
 
 // The places of refusals, by hand.
@@ -177,6 +233,60 @@ fn spoiled_counters(rt: HostRuntime) -> Result<(), Fail> {
     }
     let answer = run(rt.alloc(), ALL_STEADY, b"specification $;".as_slice())?;
     assert_eq!(rt; answer.err.as_slice(), b"estelle: bytes 1:15\n".as_slice());
+    Ok(())
+}
+
+/// Counters in Pascal of more forms: what is declared besides, the block of the transition, and how often it fires.
+const COUNTING: [(&str, &str, u32); 8] = [
+    ("var i: integer;", "for i := 1 to 5 do n := 3", 1),
+    ("var i: integer;", "for i := 1 to 2 do n := n + 1", 2),
+    (
+        "var s: set of 0..9;",
+        "s := [1, 3..4] * [1..4] + [9] - [3]; n := n + 1",
+        3,
+    ),
+    (
+        "function next(n: integer): integer; begin next := n + 1 end;",
+        "n := next(n)",
+        3,
+    ),
+    (
+        "procedure step(var n: integer; width: integer); begin n := n + width end;",
+        "step(n, 2)",
+        2,
+    ),
+    (
+        "type color = (red, green); var c: color;",
+        "c := green; case c of red: n := 9; green: n := n + ord(c) end",
+        3,
+    ),
+    (
+        "var r: record a: integer; b: boolean end;",
+        "r.a := n; r.b := true; if r.b then n := r.a + 1 else n := 9",
+        3,
+    ),
+    ("const step = 2;", "repeat n := n + step until n > 3", 1),
+];
+
+/// The counter with more declarations and another block.
+fn counter_with(alloc: Global, declared: &str, block: &str) -> Result<String, AllocError> {
+    let text = COUNTER.replace(alloc, "n := n + 1", block)?;
+    let heading = format!(in alloc; "state go;\n{declared}")?;
+    text.replace(alloc, "state go;", &heading)
+}
+
+// Pascal of more forms in whole runs: a mistake that the definitions and the code have both.
+#[test]
+fn counters_of_more_forms(rt: HostRuntime) -> Result<(), Fail> {
+    for (declared, block, firings) in &COUNTING {
+        let text = counter_with(rt.alloc(), declared, block)?;
+        let answer = run(rt.alloc(), ALL_STEADY, text.as_bytes())?;
+        assert_eq!(rt; answer.status, Status::Done, "{block}");
+        assert!(rt;
+            answer.out == trace(rt.alloc(), *firings, DEADLOCK)?,
+            "{block}"
+        );
+    }
     Ok(())
 }
 

@@ -55,6 +55,13 @@ pub const FIRING_OVERFLOWS: &str =
 /// The last lines of a run whose guard overflows.
 pub const GUARD_OVERFLOWS: &str = "fault / 1 Overflow\nend fault Overflow\n";
 
+/// The last lines of a run whose guard reads a variable that has no value.
+pub const GUARD_UNSET: &str = "fault / 1 Unset\nend fault Unset\n";
+
+/// The last lines of a run whose second transition fires once more.
+pub const SECOND_FIRES: &str =
+    "select / now 0 takes /:2\nfire / 2\nselect / now 0 takes -\nend deadlock\n";
+
 /// The trace of a run that starts, fires so often, and ends with these lines.
 pub(crate) fn trace(alloc: Global, firings: u32, last: &str) -> Result<Vec<u8>, AllocError> {
     let mut text = Vec::new(alloc);

@@ -1,6 +1,7 @@
 -- An input that was run is none to refuse, and one that is refused has one reason.
-use Rattle.std.proofs.Common.{◌≡◌, ◌≤◌, ◌<◌, ℕ, List, [], length, drop, Option, Some, None, sym, ap, ◌∙◌, subst, refl, arith}
-use Rattle.std.specs.Prelude.{IfSome, IsNone}
+use Rattle.std.proofs.Common.{◌≡◌, ◌≤◌, ◌<◌, ℕ, Bool, true, false, List, [], length, drop, Option, Some, None, sym, ap, ◌∙◌, subst, refl, arith}
+use Rattle.std.specs.Prelude.{IfSome, IsNone, IsTrue}
+use Rattle.std.proofs.lemmas.Bool.Decides.{nat_tests}
 use Rattle.estelle_tree.specs.declared.token.Placed.{Placed}
 use Rattle.estelle_tree.specs.declared.tree.specification.Spec.{Spec}
 use Rattle.estelle_tree.specs.Lexed.{IsLexed, IsBlankFrom, IsFirstOther}
@@ -8,14 +9,16 @@ use Rattle.estelle_tree.specs.Spells.{Spells}
 use Rattle.estelle_lexer.specs.Blank.{other_from}
 use Rattle.estelle_lexer.proofs.Answers.{one_list, one_error, not_both}
 use Rattle.estelle_lexer.proofs.Blanks.{answer_blank, answer_other}
-use Rattle.built_forms.specs.declared.small.Small.{Small}
-use Rattle.built_forms.specs.Forms.{small_of}
-use Rattle.estelle_cli.specs.declared.model.End.{End}
-use Rattle.estelle_cli.specs.declared.world.Limits.{Limits}
+use Rattle.scope_rules.specs.declared.refusal.Breach.{Breach}
+use Rattle.scope_rules.specs.Least.{is_before, IsLeast}
+use Rattle.spec_accept.specs.Rules.{RuleBroken}
+use Rattle.run_forms.specs.Forms.{is_built}
+use Rattle.estelle_model.specs.declared.event.End.{End}
+use Rattle.plain_world.specs.declared.world.Limits.{Limits}
 use Rattle.estelle_cli.specs.declared.outcome.Place.{Place}
 use Rattle.estelle_cli.specs.declared.outcome.Refusal.{Refusal}
-use Rattle.estelle_cli.specs.declared.outcome.Refusal.TheVariants.{TooLong, Bytes, TextAfterEnd, Syntax, NotBuilt}
-use Rattle.estelle_cli.specs.Input.{HasTokens, IsTextOf, Reads, HasNoTokens, HasTextAfterEnd, HasNoTree, HasOtherForm, Refuses, Same, place_of}
+use Rattle.estelle_cli.specs.declared.outcome.Refusal.TheVariants.{TooLong, Bytes, TextAfterEnd, Syntax, NotBuilt, Rule}
+use Rattle.estelle_cli.specs.Input.{HasTokens, IsTextOf, Reads, HasNoTokens, HasTextAfterEnd, HasNoTree, HasOtherForm, BreaksRule, Refuses, Same, place_of}
 use Rattle.estelle_cli.specs.Answers.{IsTrace}
 
 none_some : (r : Option ℕ) (at : ℕ) → IsNone r → r ≡ Some at → ⊥
@@ -64,52 +67,91 @@ module _ (input : List ℕ) where
       let rest = (one_list input a.tokens b.tokens a.rest b.rest a.lexed b.lexed).1 in
       a.place ∙ ap (place_of input) (one_other b.rest a.at b.at (subst (λ r. IsFirstOther input r a.at) rest a.other) b.other) ∙ sym b.place
 
+-- a list of tokens is spelled by one specification at most
+abbrev pub OneTree : Type 0
+OneTree = (s t : Spec) (tokens : List Placed) → Spells s tokens → Spells t tokens → s ≡ t
+
+same_tree : OneTree → (input : List ℕ) (s t : Spec) → IsTextOf input s → IsTextOf input t → s ≡ t
+same_tree one input s t a b =
+    let tokens = same_tokens input a.tokens b.tokens a.read b.read in
+    one s t b.tokens (subst (Spells s) tokens a.spells) b.spells
+
+form_or_none : (one : OneTree) (input : List ℕ) (s t : Spec) → IsTextOf input s → IsTextOf input t → IsTrue (is_built s) → is_built t ≡ false → ⊥
+form_or_none one input s t a b form none =
+    let tree = same_tree one input s t a b in
+    let true_false : ◌≡◌ {A = Bool} true false = sym (subst (λ u. IsTrue (is_built u)) tree form) ∙ none in
+    cc
+
+-- ---- the least broken rule
+
+-- no breach is reported rather than one that is reported, so of two such the rules are the same, and the places
+same_breach : (a b : Breach) → is_before a b ≡ false → is_before b a ≡ false → (a.number ≡ b.number) × (a.span.start ≡ b.span.start)
+same_breach a b h g = (grind (arith, nat_tests), grind (arith, nat_tests))
+
+one_breach : (P : Breach → Type 0) (a b : Breach) → IsLeast P a → IsLeast P b → (a.number ≡ b.number) × (a.span.start ≡ b.span.start)
+one_breach P a b h g = same_breach a b (g.first a h.broken) (h.first b g.broken)
+
+one_rule : (one : OneTree) (input : List ℕ) (n m : ℕ) (p q : Place) → BreaksRule input n p → BreaksRule input m q → ◌≡◌ {A = Refusal} (Rule n p) (Rule m q)
+one_rule one input n m p q a b =
+    let tree = same_tree one input a.spec b.spec a.text b.text in
+    let same = one_breach (RuleBroken b.spec) a.breach b.breach (subst (λ u. IsLeast (RuleBroken u) a.breach) tree a.least) b.least in
+    let number : n ≡ m = sym a.rule ∙ same.0 ∙ b.rule in
+    let place : p ≡ q = a.place ∙ ap (place_of input) same.1 ∙ sym b.place in
+    ap (λ k. Rule k p) number ∙ ap (λ r. Rule m r) place
+
+-- ---- one reason
+
+module _ (one : OneTree) (input : List ℕ) where
   pub one_refusal : (r s : Refusal) → Refuses r input → Refuses s input → Same r s
   one_refusal TooLong TooLong a b = refl
   one_refusal TooLong (Bytes q) a b = absurd (let w = b.within in omega arith)
   one_refusal TooLong (TextAfterEnd q) a b = absurd (let w = b.within in omega arith)
   one_refusal TooLong (Syntax q) a b = absurd (let w = b.read.within in omega arith)
   one_refusal TooLong NotBuilt a b = absurd (let w = b.text.read.within in omega arith)
+  one_refusal TooLong (Rule m q) a b = absurd (let w = b.text.read.within in omega arith)
   one_refusal (Bytes p) TooLong a b = absurd (let w = a.within in omega arith)
-  one_refusal (Bytes p) (Bytes q) a b = ap (λ p. Bytes p) (one_place p q a b)
-  one_refusal (Bytes p) (TextAfterEnd q) a b = absurd (text_or_none q p b a)
-  one_refusal (Bytes p) (Syntax q) a b = absurd (tokens_or_none b.tokens p b.read a)
-  one_refusal (Bytes p) NotBuilt a b = absurd (tokens_or_none b.text.tokens p b.text.read a)
+  one_refusal (Bytes p) (Bytes q) a b = ap (λ p. Bytes p) (one_place input p q a b)
+  one_refusal (Bytes p) (TextAfterEnd q) a b = absurd (text_or_none input q p b a)
+  one_refusal (Bytes p) (Syntax q) a b = absurd (tokens_or_none input b.tokens p b.read a)
+  one_refusal (Bytes p) NotBuilt a b = absurd (tokens_or_none input b.text.tokens p b.text.read a)
+  one_refusal (Bytes p) (Rule m q) a b = absurd (tokens_or_none input b.text.tokens p b.text.read a)
   one_refusal (TextAfterEnd p) TooLong a b = absurd (let w = a.within in omega arith)
-  one_refusal (TextAfterEnd p) (Bytes q) a b = absurd (text_or_none p q a b)
-  one_refusal (TextAfterEnd p) (TextAfterEnd q) a b = ap (λ p. TextAfterEnd p) (one_text p q a b)
-  one_refusal (TextAfterEnd p) (Syntax q) a b = absurd (tokens_or_text b.tokens p b.read a)
-  one_refusal (TextAfterEnd p) NotBuilt a b = absurd (tokens_or_text b.text.tokens p b.text.read a)
+  one_refusal (TextAfterEnd p) (Bytes q) a b = absurd (text_or_none input p q a b)
+  one_refusal (TextAfterEnd p) (TextAfterEnd q) a b = ap (λ p. TextAfterEnd p) (one_text input p q a b)
+  one_refusal (TextAfterEnd p) (Syntax q) a b = absurd (tokens_or_text input b.tokens p b.read a)
+  one_refusal (TextAfterEnd p) NotBuilt a b = absurd (tokens_or_text input b.text.tokens p b.text.read a)
+  one_refusal (TextAfterEnd p) (Rule m q) a b = absurd (tokens_or_text input b.text.tokens p b.text.read a)
   one_refusal (Syntax p) TooLong a b = absurd (let w = a.read.within in omega arith)
-  one_refusal (Syntax p) (Bytes q) a b = absurd (tokens_or_none a.tokens q a.read b)
-  one_refusal (Syntax p) (TextAfterEnd q) a b = absurd (tokens_or_text a.tokens q a.read b)
+  one_refusal (Syntax p) (Bytes q) a b = absurd (tokens_or_none input a.tokens q a.read b)
+  one_refusal (Syntax p) (TextAfterEnd q) a b = absurd (tokens_or_text input a.tokens q a.read b)
   one_refusal (Syntax p) (Syntax q) a b = tt
-  one_refusal (Syntax p) NotBuilt a b = absurd (tree_or_none b.spec p b.text a)
+  one_refusal (Syntax p) NotBuilt a b = absurd (tree_or_none input b.spec p b.text a)
+  one_refusal (Syntax p) (Rule m q) a b = absurd (tree_or_none input b.spec p b.text a)
   one_refusal NotBuilt TooLong a b = absurd (let w = a.text.read.within in omega arith)
-  one_refusal NotBuilt (Bytes q) a b = absurd (tokens_or_none a.text.tokens q a.text.read b)
-  one_refusal NotBuilt (TextAfterEnd q) a b = absurd (tokens_or_text a.text.tokens q a.text.read b)
-  one_refusal NotBuilt (Syntax q) a b = absurd (tree_or_none a.spec q a.text b)
+  one_refusal NotBuilt (Bytes q) a b = absurd (tokens_or_none input a.text.tokens q a.text.read b)
+  one_refusal NotBuilt (TextAfterEnd q) a b = absurd (tokens_or_text input a.text.tokens q a.text.read b)
+  one_refusal NotBuilt (Syntax q) a b = absurd (tree_or_none input a.spec q a.text b)
   one_refusal NotBuilt NotBuilt a b = refl
+  one_refusal NotBuilt (Rule m q) a b = absurd (form_or_none one input b.spec a.spec b.text a.text b.form a.form)
+  one_refusal (Rule n p) TooLong a b = absurd (let w = a.text.read.within in omega arith)
+  one_refusal (Rule n p) (Bytes q) a b = absurd (tokens_or_none input a.text.tokens q a.text.read b)
+  one_refusal (Rule n p) (TextAfterEnd q) a b = absurd (tokens_or_text input a.text.tokens q a.text.read b)
+  one_refusal (Rule n p) (Syntax q) a b = absurd (tree_or_none input a.spec q a.text b)
+  one_refusal (Rule n p) NotBuilt a b = absurd (form_or_none one input a.spec b.spec a.text b.text a.form b.form)
+  one_refusal (Rule n p) (Rule m q) a b = one_rule one input n m p q a b
 
 -- ---- an input that was run
 
--- a list of tokens is spelled by one specification at most
-abbrev pub OneTree : Type 0
-OneTree = (s t : Spec) (tokens : List Placed) → Spells s tokens → Spells t tokens → s ≡ t
-
-form_or_none : (o : Option Small) (t : Small) → o ≡ Some t → o ≡ None → ⊥
-form_or_none o t e f = let some : Some t ≡ None = sym e ∙ f in cc
-
 module _ (one : OneTree) where
-  read_or_refused : (r : Refusal) (input : List ℕ) (t : Small) → Reads input t → Refuses r input → ⊥
+  read_or_refused : (r : Refusal) (input : List ℕ) (t : Spec) → Reads input t → Refuses r input → ⊥
   read_or_refused TooLong input t a b = let w = a.text.read.within in omega arith
   read_or_refused (Bytes q) input t a b = tokens_or_none input a.text.tokens q a.text.read b
   read_or_refused (TextAfterEnd q) input t a b = tokens_or_text input a.text.tokens q a.text.read b
-  read_or_refused (Syntax q) input t a b = tree_or_none input a.spec q a.text b
-  read_or_refused NotBuilt input t a b =
-      let tokens = same_tokens input a.text.tokens b.text.tokens a.text.read b.text.read in
-      let tree = one a.spec b.spec b.text.tokens (subst (Spells a.spec) tokens a.text.spells) b.text.spells in
-      form_or_none (small_of b.spec) t (subst (λ s. small_of s ≡ Some t) tree a.form) b.form
+  read_or_refused (Syntax q) input t a b = tree_or_none input t q a.text b
+  read_or_refused NotBuilt input t a b = form_or_none one input t b.spec a.text b.text a.form b.form
+  read_or_refused (Rule n p) input t a b =
+      let tree = same_tree one input b.spec t b.text a.text in
+      a.kept b.breach (subst (λ u. RuleBroken u b.breach) tree b.least.broken)
 
   at_some : (P : List ℕ → Type 0) (left : Option (List ℕ)) (input : List ℕ) → left ≡ Some input → IfSome left P → P input
   at_some P left input e h = let Q : Option (List ℕ) → Type 0 = λ o. IfSome o P in subst Q e h
@@ -117,5 +159,5 @@ module _ (one : OneTree) where
   pub traced_refused : (limits : Limits) (left : Option (List ℕ)) (e : End) (text : List ℕ) → IsTrace limits left e text → (r : Refusal) (input : List ℕ) → left ≡ Some input → Refuses r input → ⊥
   traced_refused limits left e text h r input is refuses = read_or_refused r input h.specification (at_some (λ i. Reads i h.specification) left input is h.input) refuses
 
-  pub refused_read : (left : Option (List ℕ)) (r : Refusal) (input : List ℕ) (t : Small) → IfSome left (Refuses r) → left ≡ Some input → Reads input t → ⊥
+  pub refused_read : (left : Option (List ℕ)) (r : Refusal) (input : List ℕ) (t : Spec) → IfSome left (Refuses r) → left ≡ Some input → Reads input t → ⊥
   refused_read left r input t h is reads = read_or_refused r input t reads (at_some (Refuses r) left input is h)

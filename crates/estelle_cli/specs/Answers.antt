@@ -4,37 +4,42 @@ use Rattle.std.specs.Fmt.{decimal}
 use Rattle.std.specs.Io.KnownBytes.{Appends, IsAtEnd}
 use Rattle.outside.specs.Counts.{Rose}
 use Rattle.outside.specs.Bytes.{AppendsFront}
-use Rattle.built_forms.specs.declared.small.Small.{Small}
-use Rattle.estelle_cli.specs.declared.model.Event.{Event}
-use Rattle.estelle_cli.specs.declared.model.End.{End}
-use Rattle.estelle_cli.specs.declared.model.End.TheVariants as end
-use Rattle.estelle_cli.specs.declared.model.Fault.{Fault}
-use Rattle.estelle_cli.specs.declared.world.Limits.{Limits}
+use Rattle.pascal_values.specs.declared.fault.Fault.{Fault}
+use Rattle.estelle_tree.specs.declared.tree.specification.Spec.{Spec}
+use Rattle.scope_rules.specs.NameRules.{names_of}
+use Rattle.estelle_model.specs.declared.event.Event.{Event}
+use Rattle.estelle_model.specs.declared.event.End.{End}
+use Rattle.estelle_model.specs.declared.event.End.TheVariants as end
+use Rattle.estelle_model.specs.Subject.{Subject}
+use Rattle.estelle_model.specs.Runs.{IsRun}
+use Rattle.estelle_model.specs.Ends.{Stops}
+use Rattle.estelle_model.specs.Schedule.{IsScheduled}
+use Rattle.estelle_model.specs.Trace.{text, kind_text, line_end}
+use Rattle.plain_world.specs.declared.world.Limits.{Limits}
 use Rattle.estelle_cli.specs.declared.outcome.Place.{Place}
 use Rattle.estelle_cli.specs.declared.outcome.Refusal.{Refusal}
-use Rattle.estelle_cli.specs.declared.outcome.Refusal.TheVariants.{TooLong, Bytes, TextAfterEnd, Syntax, NotBuilt}
+use Rattle.estelle_cli.specs.declared.outcome.Refusal.TheVariants.{TooLong, Bytes, TextAfterEnd, Syntax, NotBuilt, Rule}
 use Rattle.estelle_cli.specs.declared.outcome.Outcome.{Outcome}
 use Rattle.estelle_cli.specs.declared.outcome.Outcome.TheVariants as outcome
 use Rattle.estelle_cli.specs.declared.outcome.Status.{Status}
 use Rattle.estelle_cli.specs.declared.outcome.Status.TheVariants as status
-use Rattle.estelle_cli.specs.Model.Subject.{subject}
-use Rattle.estelle_cli.specs.Model.Runs.{IsRun}
-use Rattle.estelle_cli.specs.Model.Ends.{Stops}
-use Rattle.estelle_cli.specs.Model.Schedule.{IsScheduled}
-use Rattle.estelle_cli.specs.Model.Trace.{text, kind_text, line_end}
 use Rattle.estelle_cli.specs.Input.{Reads, Refuses}
 
 -- ---- what is written to out
 
+-- the specification, with what its names mean
+abbrev pub subject : Spec → Subject
+subject spec = record { specification = spec; names = names_of spec }
+
 -- A text is the trace of a run of the input's specification that stops with this end: the run's first event is its
--- start, each later one applies to the situation before it, and all are those that the schedule chooses.
+-- start, each later one applies to the situation before it, and all are those that the schedule chooses, whatever a clock tells.
 pub record IsTrace (limits : Limits) (left : Option (List ℕ)) (e : End) (written : List ℕ) : Type 0 where
-  pub specification : Small
+  pub specification : Spec
   pub events : List Event
   pub input : IfSome left (λ bytes. Reads bytes specification)
-  pub run : IsRun (subject specification limits.budget) events
-  pub stops : Stops (subject specification limits.budget) events limits.turns e
-  pub scheduled : IsScheduled (subject specification limits.budget) limits.turns events e
+  pub run : IsRun (subject specification) limits.budget events
+  pub stops : Stops (subject specification) limits.budget limits.turns events e
+  pub scheduled : (clock : Option ℕ) → IsScheduled (subject specification) limits.budget limits.turns clock events e
   pub lines : written ≡ text events e
 
 -- out has grown by just such a trace
@@ -80,6 +85,7 @@ refusal_line (Bytes p) = line (codes "bytes " ++ place_text p)
 refusal_line (TextAfterEnd p) = line (codes "text after end " ++ place_text p)
 refusal_line (Syntax p) = line (codes "syntax " ++ place_text p)
 refusal_line NotBuilt = line (codes "form not built")
+refusal_line (Rule number p) = line (codes "rule " ++ (decimal number ++ (codes " " ++ place_text p)))
 
 abbrev pub read_fault_line : List ℕ
 read_fault_line = line (codes "read fault")

@@ -2,7 +2,7 @@
 use Rattle.std.specs.Prelude.{ℕ, List, [], ◌∷◌, map, Option, Some, None, codes, if◌then◌else◌}
 use Rattle.std.specs.Str.{bytes_eq}
 use denote.Ref.{Bor}
-use Rattle.estelle_cli.specs.declared.world.Limits.{Limits}
+use Rattle.plain_world.specs.declared.world.Limits.{Limits}
 use Rattle.estelle_cli.specs.declared.command.Settings.{Settings}
 use Rattle.estelle_cli.specs.declared.command.Command.TheVariants.{Run}
 

@@ -2,7 +2,7 @@
 
 ghost use Rattle.std.specs.Prelude.{◌≡◌};
 
-use crate::world::Limits;
+use plain_world::Limits;
 
 #[derive(Clone, Copy, Debug, PartialEq, Eq)]
 pub enum Command {

@@ -1,19 +1,22 @@
 //! Reads the input as a specification.
 
-ghost use Rattle.std.specs.Prelude.{◌≡◌, ◌<◌, ◌≤◌, ◌+◌, ◌^◌, length, All, IfOk, OnOk, IfErr, IfSome};
+ghost use Rattle.std.specs.Prelude.{◌≡◌, ◌<◌, ◌≤◌, ◌+◌, ◌^◌, length, All, IsTrue, IfOk, OnOk, IfErr, IfSome};
 ghost use Rattle.std.specs.Io.KnownBytes.{Consumes, IsAtEnd};
 ghost use Rattle.outside.specs.Counts.{Rose};
 ghost use Rattle.estelle_tree.specs.Lexed.{FollowOneAnother};
 ghost use Rattle.estelle_lexer.specs.Tokens.{IsPlacedToken};
+ghost use Rattle.run_forms.specs.Forms.{is_built};
 ghost use Rattle.estelle_cli.specs.Input.{Reads, HasTokens, IsTextOf, Misses, HasStopped, TakesAtMost, place_of, input_limit};
 
 use crate::outcome::{Place, Refusal, Stop};
-use built_forms::{Missing, Small, small_of};
 use estelle_lexer::place::line_and_column;
 use estelle_lexer::{LexError, Tokens, blank_to_end, tokens};
 use estelle_parser::{SyntaxError, parse};
 use estelle_tree::Spec;
 use outside::Source;
+use run_forms::is_built;
+use scope_rules::Refusal as RuleRefusal;
+use spec_accept::{Checked, accept};
 use std::alloc::Global;
 
 /// The longest input, in bytes.
@@ -50,11 +53,10 @@ fn read_input<S: Source>(alloc: Global, source: &mut S) -> Result<Vec<u8>, Stop>
 }
 
 fn place(bytes: &[u8], at: u32) -> Place
-    requires short { length bytes.now < 2 ^ 31 }
-    requires within { at ≤ length bytes.now }
+    requires { length bytes.now < 2 ^ 31 }
     ensures { result ≡ place_of bytes.now at }
 {
-    let (line, column) = line_and_column(bytes, at);
+    let (line, column) = line_and_column(bytes, at.min(bytes.len() as u32));
     Place { line, column }
 }
 
@@ -92,25 +94,41 @@ fn tree(alloc: Global, bytes: &[u8]) -> Result<Spec, Stop>
     }
 }
 
+/// Judges the specification that a text spells: by its form, and by the rules.
+fn judged(alloc: Global, bytes: &[u8], spec: Spec) -> Result<Checked, Stop>
+    requires { IsTextOf bytes.now spec }
+    ensures found { IfOk result (λ checked. Reads bytes.now checked.spec) }
+    ensures cause { IfErr result (Misses bytes.now) }
+{
+    if !is_built(&spec) {
+        return Err(Stop::Refused(Refusal::NotBuilt));
+    }
+    match accept(alloc, spec) {
+        Ok(checked) => Ok(checked),
+        Err(RuleRefusal::Rule { number, span }) => {
+            let place = place(bytes, span.start);
+            Err(Stop::Refused(Refusal::Rule { number, place }))
+        }
+        Err(RuleRefusal::Memory) => Err(Stop::Memory),
+    }
+}
+
 /// Reads a text as a specification.
-fn parsed(alloc: Global, bytes: &[u8]) -> Result<Small, Stop>
-    ensures found { IfOk result (λ t. Reads bytes.now t) }
+fn parsed(alloc: Global, bytes: &[u8]) -> Result<Checked, Stop>
+    ensures found { IfOk result (λ checked. Reads bytes.now checked.spec) }
     ensures cause { IfErr result (Misses bytes.now) }
 {
     if bytes.len() > LIMIT {
         return Err(Stop::Refused(Refusal::TooLong));
     }
     let spec = tree(alloc, bytes)?;
-    match small_of(alloc, &spec) {
-        Ok(small) => Ok(small),
-        Err(Missing::Form) => Err(Stop::Refused(Refusal::NotBuilt)),
-        Err(Missing::Memory) => Err(Stop::Memory),
-    }
+    judged(alloc, bytes, spec)
 }
 
 /// Reads the input as a specification.
-pub fn load<S: Source>(alloc: Global, source: &mut S) -> Result<Small, Stop>
-    ensures found { IfOk result (λ t. IfSome (S.left source.old) (λ input. Reads input t)) }
+pub fn load<S: Source>(alloc: Global, source: &mut S) -> Result<Checked, Stop>
+    ensures found { IfOk result (λ checked. IfSome (S.left source.old) (λ input. Reads input checked.spec)) }
+    ensures form { IfOk result (λ checked. IsTrue (is_built checked.spec)) }
     ensures end { OnOk result (IsAtEnd (S.left source.new)) }
     ensures stops { TakesAtMost (input_limit + 1) (S.left source.old) (S.left source.new) }
     ensures later { S.faults source.old ≤ S.faults source.new }

@@ -2,20 +2,16 @@
 #![tactic(auto)]
 
 mod command;
-mod evaluate;
 mod input;
 mod laws;
 mod lines;
-pub mod model;
 mod outcome;
 mod program;
 mod trace;
 mod words;
-mod world;
 
 pub use command::{Command, Settings};
 pub use laws::one_refusal;
 pub use outcome::Status;
 pub use program::estelle_plain;
 pub use words::settings;
-pub use world::Limits;

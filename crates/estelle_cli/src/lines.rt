@@ -1,12 +1,13 @@
-//! The lines for err of refused inputs.
+//! The lines for err of refused inputs, and of faults.
 
 ghost use Rattle.std.specs.Prelude.{◌≡◌, ◌++◌, OnOk, IfOk};
 ghost use Rattle.estelle_cli.specs.Answers as answers;
-ghost use Rattle.estelle_cli.specs.Model.Trace.{line_end};
+ghost use Rattle.estelle_model.specs.Trace.{line_end};
 
 use crate::outcome::{Place, Refusal};
 use crate::trace::{put, put_number};
 use estelle_tree::Text;
+use pascal_values::Fault;
 use std::alloc::{AllocError, Global};
 
 /// The line and the column, and the end of the line.
@@ -39,6 +40,34 @@ pub fn refusal_line(alloc: Global, refusal: Refusal) -> Result<Text, AllocError>
             put(&mut out, b"estelle: syntax ")?;
             put_place(alloc, &mut out, place)?;
         }
+        Refusal::Rule { number, place } => {
+            put(&mut out, b"estelle: rule ")?;
+            put_number(alloc, &mut out, u64::from(number))?;
+            put(&mut out, b" ")?;
+            put_place(alloc, &mut out, place)?;
+        }
     }
     Ok(Text::of(out))
+}
+
+/// The line of a fault of the specification's own code.
+pub fn fault_line(kind: Fault) -> &'static [u8]
+    ensures { result.now ≡ answers.fault_line kind }
+{
+    match kind {
+        Fault::DivideByZero => b"estelle: fault DivideByZero\n",
+        Fault::ModNotPositive => b"estelle: fault ModNotPositive\n",
+        Fault::Overflow => b"estelle: fault Overflow\n",
+        Fault::Range => b"estelle: fault Range\n",
+        Fault::Index => b"estelle: fault Index\n",
+        Fault::Unset => b"estelle: fault Unset\n",
+        Fault::NoCase => b"estelle: fault NoCase\n",
+        Fault::StepLimit => b"estelle: fault StepLimit\n",
+        Fault::CallDepth => b"estelle: fault CallDepth\n",
+        Fault::NoModule => b"estelle: fault NoModule\n",
+        Fault::ModuleTaken => b"estelle: fault ModuleTaken\n",
+        Fault::LinkTaken => b"estelle: fault LinkTaken\n",
+        Fault::LinkAbsent => b"estelle: fault LinkAbsent\n",
+        Fault::DelayRange => b"estelle: fault DelayRange\n",
+    }
 }

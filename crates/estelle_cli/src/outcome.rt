@@ -4,8 +4,8 @@ ghost use Rattle.std.specs.Prelude.{◌≡◌};
 ghost use Rattle.estelle_cli.specs.declared.outcome.Stop.TheVariants.{Memory};
 ghost use Rattle.estelle_cli.specs.Statuses.{code_of};
 
-use crate::model::Fault;
 use estelle_tree::Text;
+use pascal_values::Fault;
 use std::alloc::AllocError;
 
 /// A byte of the input: its line, and its number in that line, both counted from 1.
@@ -27,6 +27,8 @@ pub enum Refusal {
     Syntax(Place),
     /// It has a form that is not run yet.
     NotBuilt,
+    /// This is the least rule that is broken, and the first node that breaks it begins there.
+    Rule { number: u8, place: Place },
 }
 
 /// Why an input was not read as a specification, or a specification not run.

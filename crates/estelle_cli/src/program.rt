@@ -3,24 +3,24 @@
 ghost use Rattle.std.specs.Prelude.{◌≡◌, ◌≢◌, ◌≤◌, ◌+◌, ◌↔◌, List, ℕ, Some, IfSome, IsSome, IsNone, IfOk, OnOk, IfErr};
 ghost use Rattle.std.specs.Io.KnownBytes.{IsAtEnd};
 ghost use Rattle.outside.specs.Counts.{Rose};
-ghost use Rattle.built_forms.specs.declared.small.Small.{Small};
-ghost use Rattle.estelle_cli.specs.declared.model.End.{End};
-ghost use Rattle.estelle_cli.specs.declared.model.Fault.{Fault};
+ghost use Rattle.pascal_values.specs.declared.fault.Fault.{Fault};
+ghost use Rattle.estelle_tree.specs.declared.tree.specification.Spec.{Spec};
+ghost use Rattle.estelle_model.specs.declared.event.End.{End};
+ghost use Rattle.plain_world.specs.Worlds.{IsClockless};
 ghost use Rattle.estelle_cli.specs.declared.outcome.Refusal.{Refusal};
-ghost use Rattle.estelle_cli.specs.World.{IsClockless};
 ghost use Rattle.estelle_cli.specs.Words.{meaning, texts, limits_meant};
 ghost use Rattle.estelle_cli.specs.Input.{Reads, Refuses, TakesAtMost, HasStopped, input_limit};
 ghost use Rattle.estelle_cli.specs.Answers.{IsTrace, WritesTrace, WritesPrefix, IsGood, IsQuiet, Reports, usage_line, refusal_line, read_fault_line, write_fault_line, memory_line, fault_line, IsFinished, HasNoTrace, MayRefuse, MayFinish, Emits, IsRefusedOr, Explains};
 
 use crate::input::load;
-use crate::lines::refusal_line;
-use crate::model::{End, Fault};
+use crate::lines::{fault_line, refusal_line};
 use crate::outcome::{Outcome, Refusal, Status, Stop};
-use crate::trace::{kind_text, write};
+use crate::trace::write;
 use crate::words::settings;
-use crate::world::{Limits, execute};
+use estelle_model::End;
 use estelle_tree::Text;
 use outside::{Clock, Sink, Source, write_all};
+use plain_world::{Limits, execute};
 use std::alloc::Global;
 
 /// Hands err the line. A fault of err changes nothing else.
@@ -38,8 +38,8 @@ fn traced<S: Source>(alloc: Global, limits: Limits, source: &mut S) -> Result<(T
     ensures stops { TakesAtMost (input_limit + 1) (S.left source.old) (S.left source.new) }
     ensures cause { IfErr result (HasStopped (S.left source.old) (S.faults source.old) (S.faults source.new)) }
 {
-    let spec = load(alloc, source)?;
-    let (run, end) = execute(alloc, &spec, limits)?;
+    let checked = load(alloc, source)?;
+    let (run, end) = execute(alloc, &checked.spec, &checked.names, limits)?;
     let text = write(alloc, &run, end)?;
     Ok((text, end))
 }
@@ -87,15 +87,6 @@ fn perform<S: Source, K: Sink>(
     }
 }
 
-fn fault_line(kind: Fault) -> &'static [u8]
-    ensures { result.now ≡ fault_line kind }
-{
-    match kind {
-        Fault::Overflow => b"estelle: fault Overflow\n",
-        Fault::Unset => b"estelle: fault Unset\n",
-    }
-}
-
 /// The program on one thread: it reads a specification from the source, runs it, and writes the trace
 /// of its run to out, and at most one line to err. It returns on every input.
 pub fn estelle_plain<S: Source, K: Sink, E: Sink, C: Clock>(
@@ -125,7 +116,8 @@ pub fn estelle_plain<S: Source, K: Sink, E: Sink, C: Clock>(
     ensures usage_reads_nothing { result.0 ≡ Status.Usage → source.new ≡ source.old }
 
     // Status 1: the input is too long, or has a byte with which no token begins, or text behind `end.`, or no
-    // specification spells its tokens, or that has a form that is not run yet; and such an input is refused.
+    // specification spells its tokens, or that has a form that is not run yet, or breaks a static rule; and such an
+    // input is refused.
     ensures refused { result.0 ≡ Status.Refused → (refusal : Refusal) × IfSome (S.left source.old) (Refuses refusal)
         × Reports (E.held err.old) (E.held err.new) (E.faults err.old) (E.faults err.new) (refusal_line refusal) }
     ensures refuses { (refusal : Refusal) (input : List ℕ) → IsSome (meaning (texts words.now)) → S.left source.old ≡ Some input
@@ -150,8 +142,9 @@ pub fn estelle_plain<S: Source, K: Sink, E: Sink, C: Clock>(
     // Without a trace nothing is written to out.
     ensures quiet { HasNoTrace result.0 → IsQuiet (K.held out.old) (K.held out.new) (K.faults out.old) (K.faults out.new) }
 
-    // Where neither the source nor out fails, a small specification is run to its end, unless memory runs out.
-    ensures complete { (input : List ℕ) (t : Small) → IsSome (meaning (texts words.now)) → S.left source.old ≡ Some input
+    // Where neither the source nor out fails, a specification of the forms that are run is run to its end, unless
+    // memory runs out.
+    ensures complete { (input : List ℕ) (t : Spec) → IsSome (meaning (texts words.now)) → S.left source.old ≡ Some input
         → Reads input t → (Rose (S.faults source.old) (S.faults source.new) → ⊥) → (Rose (K.faults out.old) (K.faults out.new) → ⊥)
         → MayFinish result.0 }
 

@@ -2,10 +2,11 @@
 
 ghost use Rattle.std.specs.Prelude.{◌≡◌, ◌++◌, OnOk, IfOk};
 ghost use Rattle.std.specs.Fmt.{decimal};
-ghost use Rattle.estelle_cli.specs.Model.Trace as trace;
+ghost use Rattle.estelle_model.specs.Trace as trace;
 
-use crate::model::{End, Event, Fault, Out, Pair, Run, Value};
+use estelle_model::{End, Event, Out, Pair, Run};
 use estelle_tree::{Path, Sequence, Text};
+use pascal_values::{Fault, Value, write_value};
 use std::alloc::{AllocError, Global};
 
 pub fn put(out: &mut Vec<u8>, text: &[u8]) -> Result<(), AllocError>
@@ -31,7 +32,7 @@ fn put_numbers(alloc: Global, out: &mut Vec<u8>, numbers: &[u64]) -> Result<(), 
     Ok(())
 }
 
-#[tactic(auto, unfolding(crate::specs::Model::Trace::path_text))]
+#[tactic(auto, unfolding(estelle_model::specs::Trace::path_text))]
 fn put_path(alloc: Global, out: &mut Vec<u8>, path: &Path) -> Result<(), AllocError>
     ensures { OnOk result (out.new.items ≡ out.old.items ++ trace.path_text path.now) }
 {
@@ -49,7 +50,7 @@ fn put_pair(alloc: Global, out: &mut Vec<u8>, pair: &Pair) -> Result<(), AllocEr
     put_number(alloc, out, u64::from(pair.trans))
 }
 
-#[tactic(auto, unfolding(crate::specs::Model::Trace::takes_text))]
+#[tactic(auto, unfolding(estelle_model::specs::Trace::takes_text))]
 fn put_takes(alloc: Global, out: &mut Vec<u8>, takes: &[Pair]) -> Result<(), AllocError>
     ensures { OnOk result (out.new.items ≡ out.old.items ++ trace.takes_text takes.now) }
 {
@@ -66,30 +67,18 @@ fn put_takes(alloc: Global, out: &mut Vec<u8>, takes: &[Pair]) -> Result<(), All
     }
 }
 
-fn put_value(alloc: Global, out: &mut Vec<u8>, value: Value) -> Result<(), AllocError>
-    ensures { OnOk result (out.new.items ≡ out.old.items ++ trace.value_text value) }
-{
-    match value {
-        Value::Unset => put(out, b"?"),
-        Value::Int(number) => {
-            let text = number.to_string(alloc)?;
-            put(out, text.as_bytes())
-        }
-    }
-}
-
-#[tactic(auto, unfolding(crate::specs::Model::Trace::values_text))]
-fn put_values(alloc: Global, out: &mut Vec<u8>, values: &[Value]) -> Result<(), AllocError>
+#[tactic(auto, unfolding(estelle_model::specs::Trace::values_text))]
+fn put_values(out: &mut Vec<u8>, values: &[Value]) -> Result<(), AllocError>
     ensures { OnOk result (out.new.items ≡ out.old.items ++ trace.values_text values.now) }
 {
     match values {
         [] => Ok(()),
         [first, others @ ..] => {
             put(out, b"(")?;
-            put_value(alloc, out, *first)?;
+            write_value(first, out)?;
             for value in others {
                 out.push(b',')?;
-                put_value(alloc, out, *value)?;
+                write_value(value, out)?;
             }
             put(out, b")")
         }
@@ -106,28 +95,16 @@ fn put_fate(out: &mut Vec<u8>, lost: bool) -> Result<(), AllocError>
     }
 }
 
-fn put_point(alloc: Global, into: &mut Vec<u8>, out: &Out) -> Result<(), AllocError>
-    ensures { OnOk result (into.new.items ≡ into.old.items ++ trace.point_text out.now) }
-{
-    put_path(alloc, into, &out.path)?;
-    put(into, b".")?;
-    put(into, out.ip.items())
-}
-
-fn put_interaction(alloc: Global, into: &mut Vec<u8>, out: &Out) -> Result<(), AllocError>
-    ensures { OnOk result (into.new.items ≡ into.old.items ++ trace.interaction_text out.now) }
-{
-    put(into, out.name.items())?;
-    put_values(alloc, into, out.values.items())
-}
-
-#[tactic(auto, unfolding(crate::specs::Model::Trace::out_text))]
+#[tactic(auto, unfolding(estelle_model::specs::Trace::out_text))]
 fn put_out_text(alloc: Global, into: &mut Vec<u8>, out: &Out) -> Result<(), AllocError>
     ensures { OnOk result (into.new.items ≡ into.old.items ++ trace.out_text out.now) }
 {
-    put_point(alloc, into, out)?;
+    put_path(alloc, into, &out.path)?;
+    put(into, b".")?;
+    put(into, out.ip.items())?;
     put(into, b" ")?;
-    put_interaction(alloc, into, out)
+    put(into, out.name.items())?;
+    put_values(into, out.values.items())
 }
 
 fn put_out(alloc: Global, into: &mut Vec<u8>, out: &Out) -> Result<(), AllocError>
@@ -168,12 +145,24 @@ pub fn kind_text(kind: Fault) -> &'static [u8]
     ensures { result.now ≡ trace.kind_text kind }
 {
     match kind {
+        Fault::DivideByZero => b"DivideByZero",
+        Fault::ModNotPositive => b"ModNotPositive",
         Fault::Overflow => b"Overflow",
+        Fault::Range => b"Range",
+        Fault::Index => b"Index",
         Fault::Unset => b"Unset",
+        Fault::NoCase => b"NoCase",
+        Fault::StepLimit => b"StepLimit",
+        Fault::CallDepth => b"CallDepth",
+        Fault::NoModule => b"NoModule",
+        Fault::ModuleTaken => b"ModuleTaken",
+        Fault::LinkTaken => b"LinkTaken",
+        Fault::LinkAbsent => b"LinkAbsent",
+        Fault::DelayRange => b"DelayRange",
     }
 }
 
-#[tactic(auto, unfolding(crate::specs::Model::Trace::event_lines))]
+#[tactic(auto, unfolding(estelle_model::specs::Trace::event_lines))]
 fn put_event(alloc: Global, out: &mut Vec<u8>, event: &Event) -> Result<(), AllocError>
     ensures { OnOk result (out.new.items ≡ out.old.items ++ trace.event_lines event.now) }
 {
@@ -216,7 +205,7 @@ fn put_event(alloc: Global, out: &mut Vec<u8>, event: &Event) -> Result<(), Allo
     }
 }
 
-#[tactic(auto, unfolding(crate::specs::Model::Trace::end_line))]
+#[tactic(auto, unfolding(estelle_model::specs::Trace::end_line))]
 fn put_end(out: &mut Vec<u8>, end: End) -> Result<(), AllocError>
     ensures { OnOk result (out.new.items ≡ out.old.items ++ trace.end_line end) }
 {

@@ -1,5 +1,5 @@
 -- The transitions of a specification itself are those behind its own `trans`.
-use Rattle.std.proofs.Common.{◌≡◌, List, map, ap}
+use Rattle.std.proofs.Common.{◌≡◌, List, ap}
 use Rattle.std.specs.Prelude.{slice_get}
 use Rattle.estelle_tree.specs.declared.tree.specification.Decl.TheFolds.{fold_out-Parts}
 use Rattle.estelle_tree.specs.declared.tree.specification.Parts.{out-Parts}

@@ -1,6 +1,6 @@
 //! Whether a clause `any` stands behind a `trans`.
 
-ghost use Rattle.std.specs.Prelude.{◌≡◌, not};
+ghost use Rattle.std.specs.Prelude.{◌≡◌};
 ghost use Rattle.std.specs.List.{list_all};
 ghost use Rattle.estelle_model.specs.Bodies as bodies;
 ghost use Rattle.flat_transitions.specs.Flat as flat;

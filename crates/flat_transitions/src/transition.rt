@@ -4,7 +4,7 @@ ghost use Rattle.std.specs.Prelude.{◌≡◌, ◌++◌, ◌∷◌, [], OnOk, le
 ghost use Rattle.std.specs.Option.{option_copied};
 ghost use Rattle.flat_transitions.specs.Walks.{reached};
 
-use crate::clauses::{Condition, Delay, When};
+use crate::clauses::{Delay, When};
 use crate::said::Said;
 use crate::shared::Shared;
 use estelle_model::Type;

@@ -3,7 +3,7 @@
 ghost use Rattle.std.specs.Prelude.{◌≡◌, ◌++◌, Some, None, if◌then◌else◌, IfOk, OnOk};
 ghost use Rattle.std.specs.List.{flat_map};
 ghost use Rattle.flat_transitions.specs.Flat as flat;
-ghost use Rattle.flat_transitions.specs.Walks.{unsaid, with_clause, below, below_group};
+ghost use Rattle.flat_transitions.specs.Walks.{unsaid, below, below_group};
 ghost use Rattle.meaning_table.specs.Known.{meanings_of};
 
 use crate::any::is_without_any;

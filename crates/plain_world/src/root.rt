@@ -12,7 +12,9 @@ use estelle_tree::{Items, Path, Sequence};
 use std::alloc::{AllocError, Global};
 
 /// An image of nothing.
-pub fn no_image(alloc: Global) -> Image {
+pub fn no_image(alloc: Global) -> Image
+    ensures { result ≡ record { parts = []; links = [] } }
+{
     Image {
         parts: Items::none(alloc),
         links: Items::none(alloc),

@@ -1,11 +1,6 @@
 use Rattle.estelle_cli.proofs.Places.{place_inside}
 use Rattle.estelle_cli.proofs.input.tree.Goals as goal
 
-pub place-requires-clause-within : goal.place-requires-clause-within
-place-requires-clause-within c =
-    let cut = c.in_ok-tokens.ensures in
-    place_inside c.in_ok-tokens.tokens.items c.in_ok-tokens.tokens.rest _ c.in-Err-At.at (rw c.in-Err-At.field-0-is at c.in-Err-At.ensures.place) cut.spans cut.rest
-
 pub returns-in-Err-At-clause-cause : goal.returns-in-Err-At-clause-cause
 returns-in-Err-At-clause-cause c =
     let cut = c.in_ok-tokens.ensures in

@@ -1,5 +1,5 @@
 use Rattle.std.proofs.Common.{◌≡◌, ◌++◌, take}
-use Rattle.estelle_cli.specs.Model.Trace as trace
+use Rattle.estelle_model.specs.Trace as trace
 use Rattle.estelle_cli.proofs.trace.put_numbers.Given as goal
 
 abbrev pub invariant-loop-number : goal.invariant-loop-number

@@ -1,6 +1,6 @@
 use Rattle.std.proofs.Common.{◌≡◌, ◌++◌, take}
 use Rattle.std.specs.List.{flat_map}
-use Rattle.estelle_cli.specs.Model.Trace.{out_line, drop_line}
+use Rattle.estelle_model.specs.Trace.{out_line, drop_line}
 use Rattle.estelle_cli.proofs.trace.put_outcome.Given as goal
 
 abbrev pub invariant-loop-out : goal.invariant-loop-out

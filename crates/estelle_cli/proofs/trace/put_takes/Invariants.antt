@@ -1,6 +1,6 @@
 use Rattle.std.proofs.Common.{◌≡◌, ◌∷◌, ◌++◌, take}
 use Rattle.std.specs.List.{flat_map}
-use Rattle.estelle_cli.specs.Model.Trace as trace
+use Rattle.estelle_model.specs.Trace as trace
 use Rattle.estelle_cli.proofs.trace.put_takes.Given as goal
 
 abbrev pub invariant-loop-pair : goal.invariant-loop-pair

@@ -1,6 +1,6 @@
 use Rattle.std.proofs.Common.{◌≡◌, ◌++◌, take}
 use Rattle.std.specs.List.{flat_map}
-use Rattle.estelle_cli.specs.Model.Trace.{event_lines}
+use Rattle.estelle_model.specs.Trace.{event_lines}
 use Rattle.estelle_cli.proofs.trace.write.Given as goal
 
 abbrev pub invariant-loop-event : goal.invariant-loop-event

@@ -7,7 +7,12 @@ use Rattle.spec_accept.proofs.least.accept.Goals as goal
 pub invariant_of-result : goal.invariant_of-result
 invariant_of-result c =
     let same : c.in-Ok.names ≡ names c.args.spec = ap (λ u. record { uses = u }) c.in-Ok.ensures.names in
-    record { named = c.in-Ok.ensures.names; kept = none_broken c.args.spec c.in-Ok.names same c.in-Ok.ensures.kept c.in-Ok-check.ensures.kept }
+    record {
+      named = c.in-Ok.ensures.names;
+      kept = none_broken c.args.spec c.in-Ok.names same c.in-Ok.ensures.kept c.in-Ok-check.ensures.kept;
+      listed = c.in-Ok-flat_list.ensures.listed;
+      unlisted = c.in-Ok-flat_list.ensures.others;
+    }
 
 pub returns-in-Err-check-clause-refused : goal.returns-in-Err-check-clause-refused
 returns-in-Err-check-clause-refused c =

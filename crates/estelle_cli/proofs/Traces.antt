@@ -1,0 +1,28 @@
+-- What was executed and written is the trace of a run of the input.
+use Rattle.std.proofs.Common.{◌≡◌, ℕ, List, Option, ap, subst}
+use Rattle.std.specs.Prelude.{IfSome}
+use Rattle.estelle_model.specs.declared.event.Event.{Event}
+use Rattle.estelle_model.specs.declared.event.End.{End}
+use Rattle.estelle_model.specs.Subject.{Subject}
+use Rattle.estelle_model.specs.Trace.{text}
+use Rattle.spec_accept.specs.declared.checked.Checked.{Checked}
+use Rattle.plain_world.specs.declared.world.Limits.{Limits}
+use Rattle.plain_world.specs.Processes.{subject as with_names}
+use Rattle.plain_world.specs.Worlds.{IsStopped}
+use Rattle.estelle_cli.specs.Input.{Reads}
+use Rattle.estelle_cli.specs.Answers.{subject, IsTrace}
+
+pub stopped_trace : (limits : Limits) (left : Option (List ℕ)) (checked : Checked) (events : List Event) (e : End) (written : List ℕ) → IfSome left (λ bytes. Reads bytes checked.spec)
+    → IsStopped (with_names checked.spec checked.names) limits.budget limits.turns events e → written ≡ text events e → IsTrace limits left e written
+stopped_trace limits left checked events e written reads stopped lines =
+    let same : with_names checked.spec checked.names ≡ subject checked.spec = ap (λ us. record { specification = checked.spec; names = us }) checked.named in
+    let stops : IsStopped (subject checked.spec) limits.budget limits.turns events e = subst (λ (s : Subject). IsStopped s limits.budget limits.turns events e) same stopped in
+    record {
+      specification = checked.spec;
+      events = events;
+      input = reads;
+      run = stops.run;
+      stops = stops.stops;
+      scheduled = stops.scheduled;
+      lines = lines;
+    }
