@@ -1,5 +1,5 @@
 #!/bin/sh
-# Runs the built program on generated specifications and prints how long each run takes, how much of that is a
+# Runs the built program on generated specifications and prints the processor time of each run, how much of that is a
 # firing's, and how much memory the run takes at its peak. It is no part of the merge gate.
 #
 # usage: bench/run.sh [PROGRAM]
@@ -24,13 +24,15 @@ failed=0
 # The program on the input, which is to fire so often and to end with this status.
 measure() {
     status=0
-    /usr/bin/time -f '%e %M' -o "$folder/time" "$program" run <"$folder/input" >"$folder/out" 2>"$folder/err" || status=$?
-    figures=$(tail -n 1 "$folder/time")
-    seconds=${figures% *}
+    /usr/bin/time -f '%U %S %M' -o "$folder/time" "$program" run <"$folder/input" >"$folder/out" 2>"$folder/err" || status=$?
+    read -r user system memory <<END
+$(tail -n 1 "$folder/time")
+END
+    seconds=$(awk "BEGIN { printf \"%.2f\", $user + $system }")
     each=-
     [ "$2" -eq 0 ] || each=$(awk "BEGIN { printf \"%.1f\", $seconds * 1000000 / $2 }")
     printf '%-44s %9d %9d %8s %12s %9d %7d\n' "$1" "$(wc -c <"$folder/input")" "$(wc -c <"$folder/out")" \
-        "$seconds" "$each" "${figures#* }" "$status"
+        "$seconds" "$each" "$memory" "$status"
     fires=$(grep -c '^fire' "$folder/out") || true
     if [ "$fires" -ne "$2" ] || [ "$status" -ne "$3" ]; then
         echo "bench: $1: $fires firings and status $status, where $2 and $3 are due: $(head -n 1 "$folder/err")" >&2
@@ -134,8 +136,8 @@ measure '50,000 variables' 1 0
 for states in 20000 40000; do
     {
         awk "BEGIN { printf \"specification bench systemprocess; state s0\"; for (i = 1; i < $states; i++) printf \",s%d\", i }"
-        awk "BEGIN { printf \"; stateset all = [s0\"; for (i = 1; i < $states; i++) printf \",s%d\", i; print \"];\" }"
-        echo 'initialize to s0 begin end; trans from all'
+        awk "BEGIN { printf \"; stateset each = [s0\"; for (i = 1; i < $states; i++) printf \",s%d\", i; print \"];\" }"
+        echo 'initialize to s0 begin end; trans from each'
         awk 'BEGIN { for (i = 0; i < 1000; i++) print "provided false begin end;" }'
         echo 'end.'
     } >"$folder/input"

@@ -1,5 +1,5 @@
 //! The program `estelle`: the words behind its name, the standard streams, and the status with which
-//! the process ends.
+//! the process ends. It runs in a thread of its own, with room for the deepest calls of a text.
 #![tactic(auto)]
 
 use estelle_cli::{Status, estelle_plain};
@@ -7,7 +7,11 @@ use outside::{MachineClock, StdSink, StdSource, write_all};
 use std::alloc::AllocError;
 use std::io::ErrorKind;
 use std::process::ExitCode;
+use std::thread::Builder;
 use std::{env, io};
+
+/// Bytes of stack. 200 calls, each behind 200 levels of a text, were seen to take 80 MB of it.
+const STACK: usize = 256 << 20;
 
 /// The words behind the program's name. Where one is no UTF-8 text there are none, which has no
 /// meaning either.
@@ -45,12 +49,22 @@ fn no_memory(rt: &HostRuntime) -> Status {
     Status::Memory
 }
 
-fn main(rt: HostRuntime) -> ExitCode {
-    let status = match words(&rt) {
-        Ok(words) => match run(&rt, &words) {
+fn answer(rt: &HostRuntime) -> Status {
+    match words(rt) {
+        Ok(words) => match run(rt, &words) {
             Ok(status) => status,
-            Err(_) => no_memory(&rt),
+            Err(_) => no_memory(rt),
         },
+        Err(_) => no_memory(rt),
+    }
+}
+
+fn main(rt: HostRuntime) -> ExitCode {
+    let status = match Builder::new()
+        .stack_size(STACK)
+        .spawn(&rt, move || answer(&rt))
+    {
+        Ok(thread) => thread.join(&rt),
         Err(_) => no_memory(&rt),
     };
     ExitCode::from(status.code())
