@@ -132,6 +132,15 @@ process '' 'n < 1' "$(awk 'BEGIN { for (i = 0; i < 80000; i++) print "n := n + 1
 measure 'a block of 80,000 assignments' 1 0
 process "$(awk 'BEGIN { printf "var v0: integer;"; for (i = 1; i < 50000; i++) printf "v%d: integer;\n", i }')" 'n < 1' 'n := 1; v49999 := n' >"$folder/input"
 measure '50,000 variables' 1 0
+process "$(awk 'BEGIN { for (i = 0; i < 21000; i++) printf "type r%d = record a: integer%s end;\n", i, i % 199 ? "; b: r" i - 1 : "" }')" 'n < 1' 'n := 1' >"$folder/input"
+measure 'records in records, each with a name' 1 0
+process "$(awk 'BEGIN { printf "type r = record f0: integer"; for (i = 1; i < 65000; i++) printf ";f%d:integer", i }') end; var v: r;" 'n < 1' 'v.f9 := 1; n := v.f9' >"$folder/input"
+measure 'a record of 65,000 fields' 1 0
+# A type is copied into each type expression that has it as a component.
+for types in 500 1000; do
+    process "$(awk "BEGIN { printf \"type r = record f0: integer\"; for (i = 1; i < 5000; i++) printf \";f%d:integer\", i; print \" end;\"; for (i = 0; i < $types; i++) printf \"type a%d = array [1..2] of r;\\n\", i }")" 'n < 1' 'n := 1' >"$folder/input"
+    measure "$types arrays of records of 5,000 fields" 1 0
+done
 # Each flat transition has a list of its states.
 for states in 20000 40000; do
     {
