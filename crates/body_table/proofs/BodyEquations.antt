@@ -16,7 +16,7 @@ use Rattle.estelle_tree.specs.declared.tree.specification.Decl.TheFolds.{fold_ou
 use Rattle.estelle_model.specs.Meant.{Meanings}
 use Rattle.estelle_model.specs.Denoted.{Declarations, numbered, sections_declare, section_types}
 use Rattle.estelle_model.specs.Definitions.{clause_declares, block_declares}
-use Rattle.estelle_model.specs.Bodies.{Brought, Standing, nothing, headed, decl_layer, body_layer, parts_layer, default_of, standings, bodies as bodies_in, clauses, ways, name_declares, body_declares, bodies_declare, variable_types}
+use Rattle.estelle_model.specs.Bodies.{Contribution, BodyAlone, nothing, headed, decl_layer, body_layer, parts_layer, default_of, standings, bodies as bodies_in, clauses, ways, name_declares, body_declares, bodies_declare, variable_types}
 use Rattle.estelle_model.specs.Names.{declared}
 use Rattle.estelle_model.specs.Subject.{Subject, body as subject_body, declared_in}
 use Rattle.meaning_table.specs.Known.{Known, unknown, declare_all}
@@ -24,21 +24,21 @@ use Rattle.meaning_table.specs.Kinds.{numbered_behind, plainly}
 use Rattle.meaning_table.specs.declared.kinds.VariableKind.TheVariants.{Own}
 use Rattle.meaning_table.specs.declared.kinds.PlainKind.TheVariants.{State, Module}
 use Rattle.meaning_table.proofs.Declarations.{declare-append, drop_next}
-use Rattle.body_table.specs.Brought.{states_of, names_of, variables_of, modules_of, ips_of, ip_names_in, ip_names_of, bodies_at, bodies_of, brought_at, brought_of}
+use Rattle.body_table.specs.Contributions.{states_of, names_of, variables_of, modules_of, ips_of, ip_names_in, ip_names_of, bodies_at, bodies_of, brought_at, brought_of}
 use Rattle.body_table.specs.Standings.{body, standing, inner, inner_of, header_variables, own_ip, decls_declare, blocks_declare, root}
 use Rattle.body_table.proofs.WayEquations.{nested}
 
 -- ---- bodies
 
 module _ (by_default : Bool) where
-  decl : Decl → Brought × List Standing
-  decl = fold-Decl (Brought × List Standing) (List Standing) (List Standing) (decl_layer by_default) (body_layer by_default) (parts_layer by_default)
+  decl : Decl → Contribution × List BodyAlone
+  decl = fold-Decl (Contribution × List BodyAlone) (List BodyAlone) (List BodyAlone) (decl_layer by_default) (body_layer by_default) (parts_layer by_default)
 
-  decl_out : (d : Decl) → decl d ≡ decl_layer by_default (map-Decl Decl Body Parts (Brought × List Standing) (List Standing) (List Standing) decl (body by_default) (standings by_default) (out-Decl d))
+  decl_out : (d : Decl) → decl d ≡ decl_layer by_default (map-Decl Decl Body Parts (Contribution × List BodyAlone) (List BodyAlone) (List BodyAlone) decl (body by_default) (standings by_default) (out-Decl d))
   unfolding decl body standings
-  decl_out d = fold_out-Decl (Brought × List Standing) (List Standing) (List Standing) (decl_layer by_default) (body_layer by_default) (parts_layer by_default) d
+  decl_out d = fold_out-Decl (Contribution × List BodyAlone) (List BodyAlone) (List BodyAlone) (decl_layer by_default) (body_layer by_default) (parts_layer by_default) d
 
-  by_kind : (l : Decl-F Decl Body Parts) → decl_layer by_default (map-Decl Decl Body Parts (Brought × List Standing) (List Standing) (List Standing) decl (body by_default) (standings by_default) l) ≡ (brought_at by_default l, flat_map (body by_default) (bodies_at l))
+  by_kind : (l : Decl-F Decl Body Parts) → decl_layer by_default (map-Decl Decl Body Parts (Contribution × List BodyAlone) (List BodyAlone) (List BodyAlone) decl (body by_default) (standings by_default) l) ≡ (brought_at by_default l, flat_map (body by_default) (bodies_at l))
   by_kind (Decl-F.Const defs span) = refl
   by_kind (Decl-F.Types defs span) = refl
   by_kind (Decl-F.Channel c) = refl
@@ -54,28 +54,28 @@ module _ (by_default : Bool) where
   decl_is : (d : Decl) → decl d ≡ (brought_of by_default d, flat_map (body by_default) (bodies_of d))
   decl_is d = decl_out d ∙ by_kind (out-Decl d)
 
-  brought_all : (ds : List Decl) → map (λ (x : Brought × List Standing). x.0) (map decl ds) ≡ map (brought_of by_default) ds
+  brought_all : (ds : List Decl) → map (λ (x : Contribution × List BodyAlone). x.0) (map decl ds) ≡ map (brought_of by_default) ds
   brought_all [] = refl
-  brought_all (d ∷ ds) = ap (λ (x : Brought × List Standing). x.0 ∷ map (λ (y : Brought × List Standing). y.0) (map decl ds)) (decl_is d) ∙ ap (λ bs. brought_of by_default d ∷ bs) (brought_all ds)
+  brought_all (d ∷ ds) = ap (λ (x : Contribution × List BodyAlone). x.0 ∷ map (λ (y : Contribution × List BodyAlone). y.0) (map decl ds)) (decl_is d) ∙ ap (λ bs. brought_of by_default d ∷ bs) (brought_all ds)
 
-  inner_all : (ds : List Decl) → flat_map (λ (x : Brought × List Standing). x.1) (map decl ds) ≡ inner by_default ds
+  inner_all : (ds : List Decl) → flat_map (λ (x : Contribution × List BodyAlone). x.1) (map decl ds) ≡ inner by_default ds
   inner_all [] = refl
-  inner_all (d ∷ ds) = ap (λ (x : Brought × List Standing). x.1 ++ flat_map (λ (y : Brought × List Standing). y.1) (map decl ds)) (decl_is d) ∙ ap (λ bs. flat_map (body by_default) (bodies_of d) ++ bs) (inner_all ds)
+  inner_all (d ∷ ds) = ap (λ (x : Contribution × List BodyAlone). x.1 ++ flat_map (λ (y : Contribution × List BodyAlone). y.1) (map decl ds)) (decl_is d) ∙ ap (λ bs. flat_map (body by_default) (bodies_of d) ++ bs) (inner_all ds)
 
-  parts_out : (p : Parts) → standings by_default p ≡ record { name = None; header = None; brought = map (λ (x : Brought × List Standing). x.0) (map decl (out-Parts p).decls); init = (out-Parts p).init; trans = (out-Parts p).trans } ∷ flat_map (λ (x : Brought × List Standing). x.1) (map decl (out-Parts p).decls)
+  parts_out : (p : Parts) → standings by_default p ≡ record { name = None; header = None; brought = map (λ (x : Contribution × List BodyAlone). x.0) (map decl (out-Parts p).decls); init = (out-Parts p).init; trans = (out-Parts p).trans } ∷ flat_map (λ (x : Contribution × List BodyAlone). x.1) (map decl (out-Parts p).decls)
   unfolding decl body standings
-  parts_out p = fold_out-Parts (Brought × List Standing) (List Standing) (List Standing) (decl_layer by_default) (body_layer by_default) (parts_layer by_default) p
+  parts_out p = fold_out-Parts (Contribution × List BodyAlone) (List BodyAlone) (List BodyAlone) (decl_layer by_default) (body_layer by_default) (parts_layer by_default) p
 
   -- what stands between `specification` and its end
   pub parts_is : (p : Parts) → standings by_default p ≡ standing by_default None None p ∷ inner_of by_default p
   parts_is p =
       parts_out p
-      ∙ ap (λ bs. record { name = None; header = None; brought = bs; init = (out-Parts p).init; trans = (out-Parts p).trans } ∷ flat_map (λ (x : Brought × List Standing). x.1) (map decl (out-Parts p).decls)) (brought_all (out-Parts p).decls)
+      ∙ ap (λ bs. record { name = None; header = None; brought = bs; init = (out-Parts p).init; trans = (out-Parts p).trans } ∷ flat_map (λ (x : Contribution × List BodyAlone). x.1) (map decl (out-Parts p).decls)) (brought_all (out-Parts p).decls)
       ∙ ap (λ ss. standing by_default None None p ∷ ss) (inner_all (out-Parts p).decls)
 
   body_out : (b : Body) → body by_default b ≡ headed by_default (out-Body b).name (out-Body b).header (standings by_default (out-Body b).parts)
   unfolding decl body standings
-  body_out b = fold_out-Body (Brought × List Standing) (List Standing) (List Standing) (decl_layer by_default) (body_layer by_default) (parts_layer by_default) b
+  body_out b = fold_out-Body (Contribution × List BodyAlone) (List BodyAlone) (List BodyAlone) (decl_layer by_default) (body_layer by_default) (parts_layer by_default) b
 
   pub body_is : (b : Body) → body by_default b ≡ standing by_default (Some (out-Body b).name) (Some (out-Body b).header) (out-Body b).parts ∷ inner_of by_default (out-Body b).parts
   body_is b = body_out b ∙ ap (headed by_default (out-Body b).name (out-Body b).header) (parts_is (out-Body b).parts)
@@ -97,15 +97,15 @@ standing_declares by_default k name header p =
     let cs = flat_map clause_declares (flat_map (λ t. clauses t.body) (out-Parts p).trans) in
     let ws = flat_map (λ w. block_declares w.clauses w.block) (flat_map (λ t. ways t.body) (out-Parts p).trans) in
     let last = name_declares k name in
-    let nm = flat_map-map (λ (d : Brought). d.names) (brought_of by_default) ds in
-    let states = flat_map-map (λ (d : Brought). d.states) (brought_of by_default) ds in
-    let vars = flat_map-map (λ (d : Brought). d.variables) (brought_of by_default) ds in
-    let modules = flat_map-map (λ (d : Brought). d.module_variables) (brought_of by_default) ds in
-    let ips = ap (flat_map ip_names_in) (flat_map-map (λ (d : Brought). d.ips) (brought_of by_default) ds) ∙ nested ip_names_in ips_of ds in
-    ap (λ xs. numbered (plainly State) 0 xs ++ flat_map (λ (d : Brought). d.names) brought ++ sections_declare own 0 (flat_map (λ (d : Brought). d.variables) brought) ++ numbered (plainly Module) 0 (flat_map (λ (d : Brought). d.module_variables) brought) ++ numbered (own_ip header) 0 (flat_map ip_names_in (flat_map (λ (d : Brought). d.ips) brought)) ++ inits ++ cs ++ ws ++ last) states
-    ∙ ap (λ xs. numbered (plainly State) 0 (flat_map states_of ds) ++ xs ++ sections_declare own 0 (flat_map (λ (d : Brought). d.variables) brought) ++ numbered (plainly Module) 0 (flat_map (λ (d : Brought). d.module_variables) brought) ++ numbered (own_ip header) 0 (flat_map ip_names_in (flat_map (λ (d : Brought). d.ips) brought)) ++ inits ++ cs ++ ws ++ last) nm
-    ∙ ap (λ xs. numbered (plainly State) 0 (flat_map states_of ds) ++ flat_map (names_of by_default) ds ++ sections_declare own 0 xs ++ numbered (plainly Module) 0 (flat_map (λ (d : Brought). d.module_variables) brought) ++ numbered (own_ip header) 0 (flat_map ip_names_in (flat_map (λ (d : Brought). d.ips) brought)) ++ inits ++ cs ++ ws ++ last) vars
-    ∙ ap (λ xs. numbered (plainly State) 0 (flat_map states_of ds) ++ flat_map (names_of by_default) ds ++ sections_declare own 0 (flat_map variables_of ds) ++ numbered (plainly Module) 0 xs ++ numbered (own_ip header) 0 (flat_map ip_names_in (flat_map (λ (d : Brought). d.ips) brought)) ++ inits ++ cs ++ ws ++ last) modules
+    let nm = flat_map-map (λ (d : Contribution). d.names) (brought_of by_default) ds in
+    let states = flat_map-map (λ (d : Contribution). d.states) (brought_of by_default) ds in
+    let vars = flat_map-map (λ (d : Contribution). d.variables) (brought_of by_default) ds in
+    let modules = flat_map-map (λ (d : Contribution). d.module_variables) (brought_of by_default) ds in
+    let ips = ap (flat_map ip_names_in) (flat_map-map (λ (d : Contribution). d.ips) (brought_of by_default) ds) ∙ nested ip_names_in ips_of ds in
+    ap (λ xs. numbered (plainly State) 0 xs ++ flat_map (λ (d : Contribution). d.names) brought ++ sections_declare own 0 (flat_map (λ (d : Contribution). d.variables) brought) ++ numbered (plainly Module) 0 (flat_map (λ (d : Contribution). d.module_variables) brought) ++ numbered (own_ip header) 0 (flat_map ip_names_in (flat_map (λ (d : Contribution). d.ips) brought)) ++ inits ++ cs ++ ws ++ last) states
+    ∙ ap (λ xs. numbered (plainly State) 0 (flat_map states_of ds) ++ xs ++ sections_declare own 0 (flat_map (λ (d : Contribution). d.variables) brought) ++ numbered (plainly Module) 0 (flat_map (λ (d : Contribution). d.module_variables) brought) ++ numbered (own_ip header) 0 (flat_map ip_names_in (flat_map (λ (d : Contribution). d.ips) brought)) ++ inits ++ cs ++ ws ++ last) nm
+    ∙ ap (λ xs. numbered (plainly State) 0 (flat_map states_of ds) ++ flat_map (names_of by_default) ds ++ sections_declare own 0 xs ++ numbered (plainly Module) 0 (flat_map (λ (d : Contribution). d.module_variables) brought) ++ numbered (own_ip header) 0 (flat_map ip_names_in (flat_map (λ (d : Contribution). d.ips) brought)) ++ inits ++ cs ++ ws ++ last) vars
+    ∙ ap (λ xs. numbered (plainly State) 0 (flat_map states_of ds) ++ flat_map (names_of by_default) ds ++ sections_declare own 0 (flat_map variables_of ds) ++ numbered (plainly Module) 0 xs ++ numbered (own_ip header) 0 (flat_map ip_names_in (flat_map (λ (d : Contribution). d.ips) brought)) ++ inits ++ cs ++ ws ++ last) modules
     ∙ ap (λ xs. numbered (plainly State) 0 (flat_map states_of ds) ++ flat_map (names_of by_default) ds ++ sections_declare own 0 (flat_map variables_of ds) ++ numbered (plainly Module) 0 (flat_map modules_of ds) ++ numbered (own_ip header) 0 xs ++ inits ++ cs ++ ws ++ last) ips
     ∙ ap (λ xs. numbered (plainly State) 0 (flat_map states_of ds) ++ flat_map (names_of by_default) ds ++ sections_declare own 0 (flat_map variables_of ds) ++ numbered (plainly Module) 0 (flat_map modules_of ds) ++ numbered (own_ip header) 0 (flat_map ip_names_of ds) ++ inits ++ xs ++ ws ++ last) (nested clause_declares (λ t. clauses t.body) (out-Parts p).trans)
     ∙ ap (λ xs. numbered (plainly State) 0 (flat_map states_of ds) ++ flat_map (names_of by_default) ds ++ sections_declare own 0 (flat_map variables_of ds) ++ numbered (plainly Module) 0 (flat_map modules_of ds) ++ numbered (own_ip header) 0 (flat_map ip_names_of ds) ++ inits ++ flat_map (λ t. flat_map clause_declares (clauses t.body)) (out-Parts p).trans ++ xs ++ last) (nested (λ w. block_declares w.clauses w.block) (λ t. ways t.body) (out-Parts p).trans)
@@ -113,7 +113,7 @@ standing_declares by_default k name header p =
 
 -- ---- bodies one after another
 
-pub bodies-append : (k : ℕ) (xs ys : List Standing) → bodies_declare k (xs ++ ys) ≡ bodies_declare k xs ++ bodies_declare (k + length xs) ys
+pub bodies-append : (k : ℕ) (xs ys : List BodyAlone) → bodies_declare k (xs ++ ys) ≡ bodies_declare k xs ++ bodies_declare (k + length xs) ys
 bodies-append k [] ys = ap (λ n. bodies_declare n ys) (sym (add-zero k))
 bodies-append k (x ∷ xs) ys =
     let shift : suc k + length xs ≡ k + suc (length xs) = omega arith in
@@ -121,11 +121,11 @@ bodies-append k (x ∷ xs) ys =
     ∙ sym (append_assoc (body_declares k x) (bodies_declare (suc k) xs) (bodies_declare (k + suc (length xs)) ys))
 
 -- a body before those in it
-pub bodies_first : (k : ℕ) (s : Standing) (ss : List Standing) (known : Known) → declare_all (declare_all known (body_declares k s)) (bodies_declare (k + 1) ss) ≡ declare_all known (bodies_declare k (s ∷ ss))
+pub bodies_first : (k : ℕ) (s : BodyAlone) (ss : List BodyAlone) (known : Known) → declare_all (declare_all known (body_declares k s)) (bodies_declare (k + 1) ss) ≡ declare_all known (bodies_declare k (s ∷ ss))
 bodies_first k s ss known = ap (λ n. declare_all (declare_all known (body_declares k s)) (bodies_declare n ss)) (add-one k) ∙ sym (declare-append known (body_declares k s) (bodies_declare (suc k) ss))
 
 -- the bodies of one more item
-pub bodies_step : {A : Type 0} (f : A → List Standing) (xs : List A) (i k : ℕ) (x : A) (known : Known) → i < length xs → x ≡ get_or xs i x
+pub bodies_step : {A : Type 0} (f : A → List BodyAlone) (xs : List A) (i k : ℕ) (x : A) (known : Known) → i < length xs → x ≡ get_or xs i x
     → declare_all (declare_all known (bodies_declare k (f x))) (bodies_declare (k + length (f x)) (flat_map f (drop (i + 1) xs))) ≡ declare_all known (bodies_declare k (flat_map f (drop i xs)))
 bodies_step f xs i k x known h e =
     let rest = flat_map f (drop (i + 1) xs) in
@@ -168,4 +168,4 @@ root_is s = ap (λ bs. slice_get bs 0) (parts_is (default_of s.specification.hea
 
 -- the types of its variables
 pub root_types : (known : Meanings) (tree : Spec) → variable_types known (root tree) ≡ section_types known (flat_map variables_of (out-Parts tree.parts).decls)
-root_types known tree = ap (section_types known) (flat_map-map (λ (d : Brought). d.variables) (brought_of (default_of tree.heads)) (out-Parts tree.parts).decls)
+root_types known tree = ap (section_types known) (flat_map-map (λ (d : Contribution). d.variables) (brought_of (default_of tree.heads)) (out-Parts tree.parts).decls)

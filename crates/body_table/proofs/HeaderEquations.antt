@@ -12,7 +12,7 @@ use Rattle.meaning_table.specs.Kinds.{numbered_behind, variables, plainly}
 use Rattle.meaning_table.specs.declared.kinds.VariableKind.TheVariants.{Own, Exported}
 use Rattle.meaning_table.specs.declared.kinds.PlainKind.TheVariants.{Ip}
 use Rattle.meaning_table.proofs.Declarations.{declare-append, sections_alone}
-use Rattle.body_table.specs.Brought.{ip_names_in}
+use Rattle.body_table.specs.Contributions.{ip_names_in}
 use Rattle.body_table.specs.Headers.{instance_declares}
 
 pub instance_known : (h : Header) (known a b d e : Known) (n : ℕ) (xs ys : List TypedNames) (ips : List IpDecl)

@@ -12,7 +12,7 @@ use Rattle.estelle_tree.specs.declared.tree.clause.Group.{Group, out-Group}
 use Rattle.estelle_tree.specs.declared.span.Span.{Span}
 use Rattle.estelle_model.specs.Definitions.{interaction_of, clause_declares}
 use Rattle.estelle_model.specs.Bodies.{Way, behind, ways, clauses, trans_body_layer, group_layer, clauses_layer, clause_group_layer}
-use Rattle.block_table.specs.Received.{block_behind}
+use Rattle.body_table.specs.Received.{block_behind}
 use Rattle.body_table.specs.Ways.{group_ways, group_clauses, way_declares}
 
 -- ---- lists of lists

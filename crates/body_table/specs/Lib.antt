@@ -1,4 +1,6 @@
+pub mod Formals
+pub mod Received
 pub mod Headers
-pub mod Brought
+pub mod Contributions
 pub mod Standings
 pub mod Ways

@@ -13,18 +13,18 @@ use Rattle.estelle_model.specs.declared.meaning.Meaning.TheVariants.{Ip}
 use Rattle.estelle_model.specs.Meant.{Meanings}
 use Rattle.estelle_model.specs.Denoted.{Declarations, numbered, sections_declare}
 use Rattle.estelle_model.specs.Definitions.{clause_declares, block_declares}
-use Rattle.estelle_model.specs.Bodies.{Brought, Standing, default_of, heading, clauses, ways, decl_layer, body_layer, parts_layer}
+use Rattle.estelle_model.specs.Bodies.{Contribution, BodyAlone, default_of, heading, clauses, ways, decl_layer, body_layer, parts_layer}
 use Rattle.meaning_table.specs.Kinds.{numbered_behind, plainly}
 use Rattle.meaning_table.specs.declared.kinds.PlainKind.TheVariants.{State, Module}
 use Rattle.meaning_table.specs.declared.kinds.VariableKind.TheVariants.{Own}
-use Rattle.body_table.specs.Brought.{states_of, names_of, variables_of, modules_of, ip_names_of, bodies_of, brought_of}
+use Rattle.body_table.specs.Contributions.{states_of, names_of, variables_of, modules_of, ip_names_of, bodies_of, brought_of}
 
 -- a body and then the bodies in it
-unfoldable pub body : Bool → Body → List Standing
-body by_default = fold-Body (Brought × List Standing) (List Standing) (List Standing) (decl_layer by_default) (body_layer by_default) (parts_layer by_default)
+unfoldable pub body : Bool → Body → List BodyAlone
+body by_default = fold-Body (Contribution × List BodyAlone) (List BodyAlone) (List BodyAlone) (decl_layer by_default) (body_layer by_default) (parts_layer by_default)
 
 -- a body without those in it
-abbrev pub standing : Bool → Option Name → Option Name → Parts → Standing
+abbrev pub standing : Bool → Option Name → Option Name → Parts → BodyAlone
 standing by_default name header p = record {
   name = name;
   header = header;
@@ -34,10 +34,10 @@ standing by_default name header p = record {
 }
 
 -- the bodies that stand in these declarations
-abbrev pub inner : Bool → List Decl → List Standing
+abbrev pub inner : Bool → List Decl → List BodyAlone
 inner by_default ds = flat_map (λ d. flat_map (body by_default) (bodies_of d)) ds
 
-abbrev pub inner_of : Bool → Parts → List Standing
+abbrev pub inner_of : Bool → Parts → List BodyAlone
 inner_of by_default p = inner by_default (out-Parts p).decls
 
 -- how many variables the header of a body has
@@ -65,5 +65,5 @@ blocks_declare init trans =
     ++ flat_map (λ t. flat_map (λ w. block_declares w.clauses w.block) (ways t.body)) trans
 
 -- the specification without the bodies in it
-abbrev pub root : Spec → Standing
+abbrev pub root : Spec → BodyAlone
 root tree = standing (default_of tree.heads) None None tree.parts

@@ -7,7 +7,7 @@ use Rattle.estelle_tree.specs.declared.tree.clause.Clause.{Clause}
 use Rattle.estelle_model.specs.Denoted.{Declarations}
 use Rattle.estelle_model.specs.Definitions.{interaction_of}
 use Rattle.estelle_model.specs.Bodies.{Way, trans_body_layer, group_layer, clauses_layer, clause_group_layer}
-use Rattle.block_table.specs.Received.{block_behind}
+use Rattle.body_table.specs.Received.{block_behind}
 
 -- the ways and the clauses of a group
 unfoldable pub group_ways : Group → List Way

@@ -6,7 +6,7 @@ ghost use Rattle.std.specs.Option.{option_copied};
 ghost use Rattle.estelle_model.specs.Bodies as spec;
 ghost use Rattle.estelle_model.specs.Subject.{declared_in};
 ghost use Rattle.meaning_table.specs.Known.{declare_all};
-ghost use Rattle.body_table.specs.Brought.{bodies_of};
+ghost use Rattle.body_table.specs.Contributions.{bodies_of};
 ghost use Rattle.body_table.specs.Standings as standings;
 
 use crate::brought::declare_decls;

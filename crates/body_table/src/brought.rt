@@ -8,12 +8,13 @@ ghost use Rattle.estelle_model.specs.Denoted.{sections_declare, count_names};
 ghost use Rattle.meaning_table.specs.Known.{declare_all};
 ghost use Rattle.meaning_table.specs.Kinds.{numbered_behind};
 ghost use Rattle.meaning_table.specs.declared.kinds.VariableKind.TheVariants.{Own};
-ghost use Rattle.body_table.specs.Brought.{names_of, variables_of};
+ghost use Rattle.body_table.specs.Contributions.{names_of, variables_of};
 ghost use Rattle.body_table.specs.Standings.{header_variables, decls_declare};
 
 use crate::headers::{BehindHeader, declare_header};
+use crate::node::{Node, chain};
 use crate::numbered::{declare_ips, declare_modules, declare_states};
-use block_table::{Node, chain, declare_routine};
+use crate::routines::declare_routine;
 use estelle_model::Meaning;
 use estelle_tree::{Decl, Name, Sequence, StatesetDef};
 use meaning_table::{Table, VariableKind, declare_sections, declare_types, states_named};

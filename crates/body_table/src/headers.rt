@@ -3,19 +3,20 @@
 ghost use Rattle.std.specs.Prelude.{◌≡◌, ◌++◌, length, map, replicate, option_map, IfOk, OnOk};
 ghost use Rattle.std.specs.Option.{option_copied};
 ghost use Rattle.estelle_model.specs.Bodies as spec;
+ghost use Rattle.estelle_model.specs.Definitions as definitions;
 ghost use Rattle.estelle_model.specs.Denoted.{section, section_types};
 ghost use Rattle.meaning_table.specs.Known.{meanings_of, declare_all};
 ghost use Rattle.body_table.specs.Standings.{header_variables};
 ghost use Rattle.body_table.specs.Headers.{header_means, instance_declares};
 
+use crate::channels::{declare_params, param_types};
 use crate::numbered::declare_header_ips;
-use block_table::{declare_params, param_types};
-use estelle_model::{Attribute, Heading, Meaning, Type};
+use estelle_model::{Attribute, Heading, InteractionPoint, Meaning, Role, Type};
 use estelle_tree::{Attr, Disc, Head, Header, IpDecl, Items, Name, Sequence, SysAttr, TypedNames};
 use meaning_table::{
     Alone, Base, Table, VariableKind, behind, declare_sections, declare_types, push_types,
 };
-use std::alloc::{AllocError, Global};
+use std::alloc::AllocError;
 
 fn is_common(by_default: bool, disc: Option<Disc>) -> bool
     ensures { result ≡ spec.is_common by_default disc }
@@ -68,28 +69,72 @@ fn attribute(attr: Option<Attr>) -> Option<Attribute>
     }
 }
 
-fn push_common(out: &mut Items<bool>, common: bool, count: usize) -> Result<(), AllocError>
-    ensures { OnOk result (out.new ≡ out.old ++ replicate count common) }
+fn channel_at(meaning: &Meaning) -> u32
+    ensures { result ≡ definitions.channel_at meaning.now }
+{
+    match meaning {
+        Meaning::Channel(at) => *at,
+        _ => 0,
+    }
+}
+
+fn role_at(meaning: &Meaning) -> Role
+    ensures { result ≡ definitions.role_at meaning.now }
+{
+    match meaning {
+        Meaning::Role(role) => *role,
+        _ => Role::First,
+    }
+}
+
+/// Each of the interaction points that are declared together.
+fn interaction_point(
+    table: &Table,
+    by_default: bool,
+    external: bool,
+    ip: &IpDecl,
+) -> InteractionPoint
+    ensures { result ≡ spec.interaction_point (meanings_of table.now) by_default external ip.now }
+{
+    InteractionPoint {
+        channel: channel_at(table.meaning(&ip.channel)),
+        role: role_at(table.meaning(&ip.role)),
+        common: is_common(by_default, ip.disc),
+        external,
+    }
+}
+
+fn push_points(
+    out: &mut Items<InteractionPoint>,
+    point: InteractionPoint,
+    count: usize,
+) -> Result<(), AllocError>
+    ensures { OnOk result (out.new ≡ out.old ++ replicate count point) }
 {
     for _ in 0..count {
-        out.push(common)?;
+        out.push(point)?;
     }
     Ok(())
 }
 
-/// Of each interaction point, whether it shares the common queue.
-fn ips_common(alloc: Global, by_default: bool, ips: &[IpDecl]) -> Result<Items<bool>, AllocError>
-    ensures { IfOk result (λ common. common ≡ spec.ips_common by_default ips.now) }
+/// The interaction points that are declared in a header, or in a body.
+fn interaction_points(
+    table: &Table,
+    by_default: bool,
+    external: bool,
+    ips: &[IpDecl],
+) -> Result<Items<InteractionPoint>, AllocError>
+    ensures { IfOk result (λ points. points ≡ spec.interaction_points (meanings_of table.now) by_default external ips.now) }
 {
-    let mut common = Items::new(alloc);
+    let mut points = Items::new(table.alloc);
     for ip in ips {
-        push_common(
-            &mut common,
-            is_common(by_default, ip.disc),
+        push_points(
+            &mut points,
+            interaction_point(table, by_default, external, ip),
             ip.names.names.items().len(),
         )?;
     }
-    Ok(common)
+    Ok(points)
 }
 
 fn export_types(table: &Table, exports: &[TypedNames]) -> Result<Items<Type>, AllocError>
@@ -108,10 +153,11 @@ fn header_meaning<'a>(
     ensures { IfOk result (λ m. m ≡ header_means by_default header.now (meanings_of table.now)) }
 {
     Ok(Meaning::Header(Heading {
+        at: header.name.span.start,
         attribute: attribute(header.attr),
         parameters: param_types(table, &header.params)?,
         exports: export_types(table, header.exports.items())?,
-        ips: ips_common(table.alloc, by_default, header.ips.items())?,
+        ips: interaction_points(table, by_default, true, header.ips.items())?,
     }))
 }
 

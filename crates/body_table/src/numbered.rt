@@ -7,7 +7,7 @@ ghost use Rattle.estelle_model.specs.Denoted.{numbered};
 ghost use Rattle.meaning_table.specs.Known.{declare_all};
 ghost use Rattle.meaning_table.specs.Kinds.{plainly};
 ghost use Rattle.meaning_table.specs.declared.kinds.PlainKind.TheVariants.{State, Module, Ip};
-ghost use Rattle.body_table.specs.Brought.{states_of, modvar_names, modules_of, ip_names_in, ip_names_of};
+ghost use Rattle.body_table.specs.Contributions.{states_of, modvar_names, modules_of, ip_names_in, ip_names_of};
 ghost use Rattle.body_table.specs.Standings.{own_ip};
 
 use crate::headers::header_ips;

@@ -5,7 +5,7 @@ ghost use Rattle.std.specs.List.{flat_map};
 ghost use Rattle.estelle_model.specs.Denoted.{section_types};
 ghost use Rattle.estelle_model.specs.Bodies as spec;
 ghost use Rattle.meaning_table.specs.Known.{meanings_of};
-ghost use Rattle.body_table.specs.Brought.{variables_of};
+ghost use Rattle.body_table.specs.Contributions.{variables_of};
 ghost use Rattle.body_table.specs.Standings.{root};
 
 use estelle_model::Type;

@@ -8,7 +8,7 @@ ghost use Rattle.meaning_table.specs.Known.{declare_all};
 ghost use Rattle.body_table.specs.Standings.{blocks_declare};
 ghost use Rattle.body_table.specs.Ways.{group_ways, group_clauses, way_declares};
 
-use block_table::{declare_block, declare_clause};
+use crate::blocks::{declare_block, declare_clause};
 use estelle_tree::{Clause, Group, Init, Items, Name, Sequence, Trans, TransBody};
 use meaning_table::Table;
 use std::alloc::{AllocError, Global};

@@ -5,13 +5,13 @@ use Rattle.std.specs.declared.alloc.AllocError.{AllocError}
 use Rattle.pascal_values.specs.declared.value.Value.{Value}
 use Rattle.estelle_tree.specs.declared.tree.specification.Init.{Init}
 use Rattle.estelle_tree.specs.declared.tree.specification.Parts.{out-Parts}
-use Rattle.estelle_model.specs.declared.place.Here.{Here}
+use Rattle.estelle_model.specs.declared.place.Environment.{Environment}
 use Rattle.estelle_model.specs.declared.meaning.Routine.{Routine}
 use Rattle.estelle_model.specs.declared.image.Image.{Image}
 use Rattle.estelle_model.specs.declared.image.Interaction.{Interaction}
 use Rattle.estelle_model.specs.declared.job.Job.{Job}
 use Rattle.estelle_model.specs.declared.job.Outcome.{Outcome}
-use Rattle.estelle_model.specs.Paths.{Path}
+use Rattle.estelle_tree.specs.Paths.{Path}
 use Rattle.estelle_model.specs.Core.{Instance}
 use Rattle.estelle_model.specs.States.{Logged, on_log}
 use Rattle.estelle_model.specs.Steps.{Running, Do}
@@ -26,15 +26,15 @@ use Rattle.estelle_model.specs.Actions.{act, enter_state}
 use Rattle.estelle_model.specs.Firing.{bare, transition_at}
 use Rattle.plain_jobs.specs.Plain.{HasPlainRoutines, IsPlainRoutine}
 use Rattle.plain_jobs.specs.Computed.{core_of, log_from, values_of, IsMade, start_run, job_run, IsMadeOf, IsComputed}
-use Rattle.walker_operators.specs.declared.stop.Stop.{Stop}
+use Rattle.body_walker_state.specs.declared.stop.Stop.{Stop}
 use Rattle.meaning_table.specs.Known.{meanings_of}
 use Rattle.body_table.specs.Standings.{root}
 use Rattle.body_table.proofs.BodyEquations.{root_is}
-use Rattle.walker_state.specs.Follows.{Follows}
-use Rattle.walker_state.specs.InOrder.{InOrder, instance_in}
-use Rattle.walker_state.proofs.OrderLemmas.{holds_of}
-use Rattle.walker_state.proofs.PartLemmas.{shown}
-use Rattle.walker_state.proofs.FollowLemmas.{follows_next, follows_stops_next}
+use Rattle.body_walker_state.specs.Follows.{Follows}
+use Rattle.body_walker_state.specs.InOrder.{InOrder, instance_in}
+use Rattle.body_walker_state.proofs.OrderLemmas.{holds_of}
+use Rattle.body_walker_state.proofs.PartLemmas.{shown}
+use Rattle.body_walker_state.proofs.FollowLemmas.{follows_next, follows_stops_next}
 use Rattle.body_walker.specs.declared.program.Program.TheInside.{Inside}
 use Rattle.body_walker.specs.Programs.{subject_of, blocks_of, HoldsAll, job_of}
 use Rattle.body_walker.specs.Runs.{block_and_state}
@@ -43,7 +43,7 @@ use Rattle.body_walker.proofs.RootLemmas.{no_other_body, bare_is}
 
 -- ---- a block, and then the state
 
-module _ (known : Meanings) (how : Enters Logged → Here → Action Logged → Do Logged) (p : Path) (r : Routine) (vs : List Value) (s : Subject) (meant' : Meanings) (to : Option ℕ) where
+module _ (known : Meanings) (how : Enters Logged → Environment → Action Logged → Do Logged) (p : Path) (r : Routine) (vs : List Value) (s : Subject) (meant' : Meanings) (to : Option ℕ) where
   pub run_ok : (old u new : Running Logged) (x : Result (Unit {0}) Stop) → Follows (block_step Logged on_log known how p r vs) old (Ok tt) u → Follows (enter_state Logged on_log s meant' p to) u x new → Follows (block_and_state known how p r vs s meant' to) old x new
   run_ok old u new x h k = follows_next (block_step Logged on_log known how p r vs) (enter_state Logged on_log s meant' p to) old u new tt x h k
 
@@ -90,7 +90,7 @@ module _ (w : Inside) (holds : HoldsAll w) where
 
     -- what the block comes to is what the job comes to
     fires : (trans : ℕ) (p : Path) (image : Image) (head : Option Interaction) (budget : ℕ) (vs : List Value) (to : Option ℕ) (made : Outcome × ℕ) → vs ≡ values_of head → to ≡ t.to →
-        ((subject : Subject) (known : Meanings) (how : Enters Logged → Here → Action Logged → Do Logged) → IsMade (block_and_state (meanings_of w.table) how p r vs subject known to (fresh (log_from (core_of image)) budget)) made.0 made.1) →
+        ((subject : Subject) (known : Meanings) (how : Enters Logged → Environment → Action Logged → Do Logged) → IsMade (block_and_state (meanings_of w.table) how p r vs subject known to (fresh (log_from (core_of image)) budget)) made.0 made.1) →
         IsMade (job_run s (job_of p trans image head budget) t) made.0 made.1
     fires trans p image head budget vs to made are is h =
         subst (λ k. IsMade (block_and_state k (act Logged on_log s k) p (of_block k t.received t.block) (values_of head) s (meant s) t.to (fresh (log_from (core_of image)) budget)) made.0 made.1) (sym meant_chosen)
@@ -101,14 +101,14 @@ module _ (w : Inside) (holds : HoldsAll w) where
         (h s (meant s) (act Logged on_log s (meanings_of w.table))))))
 
     pub fires_result : (trans : ℕ) (p : Path) (image : Image) (head : Option Interaction) (budget : ℕ) (vs : List Value) (to : Option ℕ) (x : Result (Outcome × ℕ) AllocError) → vs ≡ values_of head → to ≡ t.to →
-        ((subject : Subject) (known : Meanings) (how : Enters Logged → Here → Action Logged → Do Logged) → IfOk x (λ made. IsMade (block_and_state (meanings_of w.table) how p r vs subject known to (fresh (log_from (core_of image)) budget)) made.0 made.1)) →
+        ((subject : Subject) (known : Meanings) (how : Enters Logged → Environment → Action Logged → Do Logged) → IfOk x (λ made. IsMade (block_and_state (meanings_of w.table) how p r vs subject known to (fresh (log_from (core_of image)) budget)) made.0 made.1)) →
         IfOk x (λ made. IsMade (job_run s (job_of p trans image head budget) t) made.0 made.1)
     fires_result trans p image head budget vs to (Ok made) are is h = fires trans p image head budget vs to made are is h
     fires_result trans p image head budget vs to (Err e) are is h = tt
 
   pub fires_own : (n : ℕ) (u : Transition) (r : Routine) → Some u ≡ slice_get w.transitions n → Some r ≡ slice_get w.blocks n → (t : Transition) → slice_get (transitions s 0) n ≡ Some t →
       (trans : ℕ) (p : Path) (image : Image) (head : Option Interaction) (budget : ℕ) (vs : List Value) (to : Option ℕ) (x : Result (Outcome × ℕ) AllocError) → vs ≡ values_of head → to ≡ u.to →
-      ((subject : Subject) (known : Meanings) (how : Enters Logged → Here → Action Logged → Do Logged) → IfOk x (λ made. IsMade (block_and_state (meanings_of w.table) how p r vs subject known to (fresh (log_from (core_of image)) budget)) made.0 made.1)) →
+      ((subject : Subject) (known : Meanings) (how : Enters Logged → Environment → Action Logged → Do Logged) → IfOk x (λ made. IsMade (block_and_state (meanings_of w.table) how p r vs subject known to (fresh (log_from (core_of image)) budget)) made.0 made.1)) →
       IfOk x (λ made. IsMade (job_run s (job_of p trans image head budget) t) made.0 made.1)
   fires_own n u r there its t e trans p image head budget vs to x are is h =
       let both : Some u ≡ Some t = there ∙ ap (λ ts. slice_get ts n) holds.flat ∙ e in
@@ -130,7 +130,7 @@ module _ (w : Inside) (holds : HoldsAll w) where
   -- ---- the start
 
   starts : (r : Routine) (to : Option ℕ) (image : Image) (budget : ℕ) (made : Outcome × ℕ) → image ≡ root_image (variable_types (meanings_of w.table) (root w.spec.now)) → begins s 0 ≡ record { to = to; block = r } →
-      ((subject : Subject) (known : Meanings) (how : Enters Logged → Here → Action Logged → Do Logged) → IsMade (block_and_state (meanings_of w.table) how [] r [] subject known to (fresh (log_from (core_of image)) budget)) made.0 made.1) →
+      ((subject : Subject) (known : Meanings) (how : Enters Logged → Environment → Action Logged → Do Logged) → IsMade (block_and_state (meanings_of w.table) how [] r [] subject known to (fresh (log_from (core_of image)) budget)) made.0 made.1) →
       IsMade (start_run s budget) made.0 made.1
   starts r to image budget made shows begins_so h =
       let core : core_of image ≡ (bare s).core = ap core_of shows ∙ ap (λ k. core_of (root_image (variable_types k (root w.spec.now)))) means ∙ bare_is s holds.alone.0 holds.alone.1 in
@@ -154,7 +154,7 @@ module _ (w : Inside) (holds : HoldsAll w) where
 
   -- as calls answer it
   pub starts_result : (r : Routine) (to : Option ℕ) (image : Image) (budget : ℕ) (x : Result (Outcome × ℕ) AllocError) → image ≡ root_image (variable_types (meanings_of w.table) (root w.spec.now)) → begins s 0 ≡ record { to = to; block = r } →
-      ((subject : Subject) (known : Meanings) (how : Enters Logged → Here → Action Logged → Do Logged) → IfOk x (λ made. IsMade (block_and_state (meanings_of w.table) how [] r [] subject known to (fresh (log_from (core_of image)) budget)) made.0 made.1)) →
+      ((subject : Subject) (known : Meanings) (how : Enters Logged → Environment → Action Logged → Do Logged) → IfOk x (λ made. IsMade (block_and_state (meanings_of w.table) how [] r [] subject known to (fresh (log_from (core_of image)) budget)) made.0 made.1)) →
       IfOk x (λ made. IsMade (start_run s budget) made.0 made.1)
   starts_result r to image budget (Ok made) shows begins_so h = starts r to image budget made shows begins_so h
   starts_result r to image budget (Err e) shows begins_so h = tt

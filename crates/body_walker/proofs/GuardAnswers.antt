@@ -6,7 +6,7 @@ use Rattle.estelle_model.specs.declared.image.Image.{Image}
 use Rattle.estelle_model.specs.declared.image.Interaction.{Interaction}
 use Rattle.estelle_model.specs.declared.job.Guard.{Guard}
 use Rattle.estelle_model.specs.declared.job.Guard.TheVariants.{Off}
-use Rattle.estelle_model.specs.Paths.{Path}
+use Rattle.estelle_tree.specs.Paths.{Path}
 use Rattle.estelle_model.specs.Core.{Instance}
 use Rattle.estelle_model.specs.Transitions.{Transition}
 use Rattle.estelle_model.specs.Subject.{Subject, meant_with, numbered_one, transitions_of, transition, transitions}
@@ -15,9 +15,9 @@ use Rattle.plain_jobs.specs.Computed.{IsPlain}
 use Rattle.plain_jobs.specs.Guards.{IsGuard, is_received, guard_run, guard_by, guard_for, guard_of_image}
 use Rattle.plain_jobs.proofs.AnsweringGuards.{guard_answers}
 use Rattle.meaning_table.specs.Known.{meanings_of}
-use Rattle.walker_state.specs.InOrder.{InOrder, instance_in}
-use Rattle.walker_state.proofs.OrderLemmas.{holds_of}
-use Rattle.walker_state.proofs.PartLemmas.{shown}
+use Rattle.body_walker_state.specs.InOrder.{InOrder, instance_in}
+use Rattle.body_walker_state.proofs.OrderLemmas.{holds_of}
+use Rattle.body_walker_state.proofs.PartLemmas.{shown}
 use Rattle.body_walker.specs.declared.program.Program.TheInside.{Inside}
 use Rattle.body_walker.specs.Programs.{subject_of, HoldsAll}
 use Rattle.body_walker.proofs.RootLemmas.{no_other_body}

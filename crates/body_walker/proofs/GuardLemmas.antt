@@ -4,10 +4,10 @@ use Rattle.pascal_values.specs.declared.value.Value.{Value}
 use Rattle.estelle_tree.specs.declared.tree.expression.Expr.{Expr}
 use Rattle.estelle_tree.specs.declared.tree.clause.DelayHigh.{DelayHigh}
 use Rattle.estelle_tree.specs.declared.tree.clause.DelayHigh.TheVariants as high
-use Rattle.estelle_model.specs.declared.place.Here.{Here}
+use Rattle.estelle_model.specs.declared.place.Environment.{Environment}
 use Rattle.estelle_model.specs.declared.job.Guard.{Guard}
 use Rattle.estelle_model.specs.declared.job.Guard.TheVariants.{Off}
-use Rattle.estelle_model.specs.Paths.{Path}
+use Rattle.estelle_tree.specs.Paths.{Path}
 use Rattle.estelle_model.specs.States.{Logged, on_log}
 use Rattle.estelle_model.specs.Steps.{Running, Step, Do, pure, checked}
 use Rattle.estelle_model.specs.Operators.{int_of, bool_of}
@@ -20,14 +20,14 @@ use Rattle.estelle_model.specs.Transitions.{Transition, Delay}
 use Rattle.estelle_model.specs.Subject.{Subject, meant_with}
 use Rattle.estelle_model.specs.Actions.{act}
 use Rattle.estelle_model.specs.Clauses.{value_of_expr, provided_step, int_step, between, from_on, high_step, at_once, delay_step, guard_step}
-use Rattle.walker_operators.specs.declared.stop.Stop.{Stop}
-use Rattle.walker_operators.specs.Gives.{Gives}
-use Rattle.walker_state.specs.Follows.{Follows}
-use Rattle.walker_state.proofs.FollowLemmas.{follows_checked, follows_then, follows_stops}
+use Rattle.body_walker_state.specs.declared.stop.Stop.{Stop}
+use Rattle.body_walker_state.specs.Gives.{Gives}
+use Rattle.body_walker_state.specs.Follows.{Follows}
+use Rattle.body_walker_state.proofs.FollowLemmas.{follows_checked, follows_then, follows_stops}
 
 -- whatever statements of Estelle would do
 abbrev pub ClauseFollows : Meanings → Path → List Value → Expr → Running Logged → Result Value Stop → Running Logged → Type 0
-ClauseFollows known p vs node old r new = (how : Enters Logged → Here → Action Logged → Do Logged) → Follows (clause_value Logged on_log known how p vs node) old r new
+ClauseFollows known p vs node old r new = (how : Enters Logged → Environment → Action Logged → Do Logged) → Follows (clause_value Logged on_log known how p vs node) old r new
 
 module _ (s : Subject) (t : Transition) (known : Meanings) (is : meant_with s t.chosen ≡ known) (p : Path) (vs : List Value) where
   value_as : (ws : List Value) → ws ≡ vs → (node : Expr) (old new : Running Logged) (r : Result Value Stop) → ClauseFollows known p ws node old r new → Follows (value_of_expr Logged on_log s p t vs node) old r new

@@ -4,7 +4,7 @@ use Rattle.std.specs.Prelude.{slice_get, option_map, unwrap_or}
 use Rattle.pascal_values.specs.Shapes.{blank_of}
 use Rattle.estelle_model.specs.declared.denoter.Denoter.{Denoter}
 use Rattle.estelle_model.specs.Types.{shape_of}
-use Rattle.estelle_model.specs.Bodies.{Standing, module_variables_in, variable_types}
+use Rattle.estelle_model.specs.Bodies.{BodyAlone, module_variables_in, variable_types}
 use Rattle.estelle_model.specs.Subject.{Subject, meant, body, blanks, new_instance}
 use Rattle.estelle_model.specs.Firing.{alone, bare}
 use Rattle.plain_jobs.specs.Computed.{core_of}
@@ -21,7 +21,7 @@ drop_none : {A : Type 0} (xs : List A) → drop 0 xs ≡ xs
 drop_none [] = refl
 drop_none (x ∷ xs) = refl
 
-module _ (s : Subject) (b : Standing) (h : StandsAlone s.specification b) where
+module _ (s : Subject) (b : BodyAlone) (h : StandsAlone s.specification b) where
   root_alone : root s.specification ≡ b
   root_alone = ap (λ o. unwrap_or o (root s.specification)) (sym (root_is s) ∙ ap (λ bs. slice_get bs 0) h.only)
 

@@ -4,8 +4,8 @@ use Rattle.estelle_model.specs.declared.image.Image.{Image}
 use Rattle.estelle_model.specs.declared.image.Interaction.{Interaction}
 use Rattle.estelle_model.specs.declared.job.Job.{Job}
 use Rattle.estelle_model.specs.declared.meaning.Routine.{Routine}
-use Rattle.estelle_model.specs.Paths.{Path}
-use Rattle.estelle_model.specs.Bodies.{Standing}
+use Rattle.estelle_tree.specs.Paths.{Path}
+use Rattle.estelle_model.specs.Bodies.{BodyAlone}
 use Rattle.estelle_model.specs.Transitions.{Transition}
 use Rattle.estelle_model.specs.Subject.{Subject, declared_in, meant, of_block, transition, transitions}
 use Rattle.plain_jobs.specs.Computed.{IsPlain}
@@ -21,7 +21,7 @@ blocks_of s ts = each (λ t. of_block (meant s) t.received t.block) ts
 
 pub record HoldsAll (p : Inside) : Type 0 where
   pub plain : IsPlain (subject_of p)
-  pub alone : (b : Standing) × StandsAlone p.spec.now b
+  pub alone : (b : BodyAlone) × StandsAlone p.spec.now b
   pub simple : (k n : ℕ) (t : Transition) → transition (subject_of p) k n ≡ Some t → IsSimple t
   pub known : p.table ≡ record { names = p.names.now.uses; declared = declared_in (subject_of p) }
   pub flat : p.transitions ≡ transitions (subject_of p) 0

@@ -1,7 +1,7 @@
 //! Firings and the start.
 
 ghost use Rattle.std.specs.Prelude.{◌≡◌, [], ◌==◌, ◌<◌, ℕ, slice_get, Some, IfOk};
-ghost use Rattle.estelle_model.specs.declared.place.Here.{Here};
+ghost use Rattle.estelle_model.specs.declared.place.Environment.{Environment};
 ghost use Rattle.estelle_model.specs.States.{Logged, on_log};
 ghost use Rattle.estelle_model.specs.Steps.{Running, Do};
 ghost use Rattle.estelle_model.specs.Meant.{Meanings};
@@ -14,22 +14,21 @@ ghost use Rattle.estelle_model.specs.Subject.{Subject, no_statements, transition
 ghost use Rattle.plain_jobs.specs.Plain.{IsPlainRoutine, HasPlainRoutines};
 ghost use Rattle.plain_jobs.specs.Computed.{core_of, log_from, IsMade, start_run, job_run, values_of, IsComputed};
 ghost use Rattle.meaning_table.specs.Known.{meanings_of};
-ghost use Rattle.walker_state.specs.Follows.{Follows};
-ghost use Rattle.walker_state.specs.InOrder.{InOrder, instance_in};
+ghost use Rattle.body_walker_state.specs.Follows.{Follows};
+ghost use Rattle.body_walker_state.specs.InOrder.{InOrder, instance_in};
 ghost use Rattle.body_walker.specs.Programs.{job_of};
 ghost use Rattle.body_walker.specs.Runs.{block_and_state};
 
 use crate::program::Program;
 use crate::root::root_image;
 use crate::routines::{initial_state, routine_of};
-use block_walker::block;
+use body_walker_blocks::block;
+use body_walker_state::{Stop, Walk, part_at};
 use estelle_model::{Image, Interaction, Outcome, Part, Routine, Statements};
-use estelle_tree::{Items, Path, Sequence, Span, Stmts};
+use estelle_tree::{Items, Path, SequenceMut, Span, Stmts};
 use meaning_table::Table;
 use pascal_values::{Fault, Values};
 use std::alloc::{AllocError, Global};
-use walker_operators::Stop;
-use walker_state::{Walk, part_at};
 
 /// Runs a block of an instance, which then enters a state, if one is said.
 fn run(
@@ -43,7 +42,7 @@ fn run(
 ) -> Result<(), Stop>
     requires routines { HasPlainRoutines (meanings_of table.now) }
     requires plain { IsPlainRoutine routine.now }
-    ensures { (s : Subject) (known : Meanings) (act : Enters Logged → Here → Action Logged → Do Logged) → Follows (block_and_state (meanings_of table.now) act path.now routine.now values s known to) walk.old result walk.new }
+    ensures { (s : Subject) (known : Meanings) (act : Enters Logged → Environment → Action Logged → Do Logged) → Follows (block_and_state (meanings_of table.now) act path.now routine.now values s known to) walk.old result walk.new }
 {
     match block(table, alloc, walk, path, routine, values) {
         Ok(()) => walk.enter_state(alloc, path, to),
@@ -83,7 +82,7 @@ fn run_on(
     requires order { InOrder image.parts }
     requires routines { HasPlainRoutines (meanings_of table.now) }
     requires plain { IsPlainRoutine routine.now }
-    ensures { (s : Subject) (known : Meanings) (act : Enters Logged → Here → Action Logged → Do Logged) → IfOk result (λ made. IsMade ((block_and_state (meanings_of table.now) act path.now routine.now values s known to) (fresh (log_from (core_of image)) budget)) made.0 made.1) }
+    ensures { (s : Subject) (known : Meanings) (act : Enters Logged → Environment → Action Logged → Do Logged) → IfOk result (λ made. IsMade ((block_and_state (meanings_of table.now) act path.now routine.now values s known to) (fresh (log_from (core_of image)) budget)) made.0 made.1) }
 {
     let mut walk = Walk::owning(alloc, image, budget)?;
     let ran = run(table, alloc, &mut walk, path, routine, values, to);
@@ -129,7 +128,7 @@ fn begin(
     requires order { InOrder image.parts }
     requires routines { HasPlainRoutines (meanings_of table.now) }
     requires plain { IsPlainRoutine routine.now }
-    ensures { (s : Subject) (known : Meanings) (act : Enters Logged → Here → Action Logged → Do Logged) → IfOk result (λ made. IsMade ((block_and_state (meanings_of table.now) act [] routine.now [] s known to) (fresh (log_from (core_of image)) budget)) made.0 made.1) }
+    ensures { (s : Subject) (known : Meanings) (act : Enters Logged → Environment → Action Logged → Do Logged) → IfOk result (λ made. IsMade ((block_and_state (meanings_of table.now) act [] routine.now [] s known to) (fresh (log_from (core_of image)) budget)) made.0 made.1) }
 {
     let path = Path::root(alloc);
     run_on(

@@ -12,18 +12,17 @@ ghost use Rattle.estelle_model.specs.Clauses as clauses;
 ghost use Rattle.estelle_model.specs.Expressions.{bool_step};
 ghost use Rattle.plain_jobs.specs.Plain.{HasPlainRoutines};
 ghost use Rattle.meaning_table.specs.Known.{meanings_of};
-ghost use Rattle.walker_operators.specs.Gives.{Gives};
-ghost use Rattle.walker_state.specs.Follows.{Follows};
+ghost use Rattle.body_walker_state.specs.Gives.{Gives};
+ghost use Rattle.body_walker_state.specs.Follows.{Follows};
 
-use block_walker::clause;
+use body_walker_blocks::clause;
+use body_walker_state::{Stop, Walk, bool_of, copy_values, int_of};
 use estelle_model::Guard;
 use estelle_tree::{DelayHigh, Expr, Path};
 use flat_transitions::{Delay, Transition};
 use meaning_table::Table;
 use pascal_values::{Fault, Values};
 use std::alloc::Global;
-use walker_operators::{Stop, bool_of, int_of};
-use walker_state::{Walk, copy_values};
 
 /// The truth value of an expression in a clause.
 fn truth(

@@ -13,20 +13,19 @@ ghost use Rattle.plain_jobs.specs.Plain.{HasPlainRoutines};
 ghost use Rattle.plain_jobs.specs.Computed.{values_of, IsComputed};
 ghost use Rattle.plain_jobs.specs.Guards as guards;
 ghost use Rattle.meaning_table.specs.Known.{meanings_of};
-ghost use Rattle.walker_state.specs.Follows.{Follows};
-ghost use Rattle.walker_state.specs.InOrder.{InOrder};
+ghost use Rattle.body_walker_state.specs.Follows.{Follows};
+ghost use Rattle.body_walker_state.specs.InOrder.{InOrder};
 
 use crate::firing::compute;
 use crate::guards::guard;
 use crate::program::Program;
+use body_walker_state::{Stop, Walk, part_at};
 use estelle_model::{Done, Guard, Image, Interaction, Job, Part};
-use estelle_tree::{Path, Sequence};
-use flat_transitions::Transition;
+use estelle_tree::{Path, Sequence, SequenceMut};
+use flat_transitions::{Transition, When};
 use meaning_table::Table;
 use pascal_values::Values;
 use std::alloc::{AllocError, Global};
-use walker_operators::Stop;
-use walker_state::{Walk, part_at};
 
 /// Computes a job, in place of its image. A job of transition 0 needs no image.
 pub fn fire_plain(alloc: Global, program: &Program, job: Job) -> Result<Done, AllocError>
@@ -80,13 +79,23 @@ fn contains(states: &[u32], state: u32) -> bool
     false
 }
 
-/// Whether a transition needs no interaction, or its interaction is there.
+/// Whether this is the interaction that a `when` names.
+fn is_named(when: &When, head: Option<&Interaction>) -> bool
+    ensures { result ≡ guards.is_received (Some when.now) (option_copied head.entry) }
+{
+    match head {
+        None => false,
+        Some(head) => when.name().word.items() == head.name.items(),
+    }
+}
+
+/// Whether a transition needs no interaction, or the head is the one that it names.
 fn is_received(transition: &Transition, head: Option<&Interaction>) -> bool
     ensures { result ≡ guards.is_received transition.now.when (option_copied head.entry) }
 {
     match transition.when() {
         None => true,
-        Some(_) => head.is_some(),
+        Some(when) => is_named(when, head),
     }
 }
 

@@ -7,12 +7,12 @@ ghost use Rattle.body_table.specs.Standings.{root};
 ghost use Rattle.body_walker.specs.Roots.{root_image};
 
 use body_table::variable_types;
+use body_walker_state::add_blanks;
 use estelle_model::{Image, Part};
-use estelle_tree::{Items, Path, Sequence, Spec};
+use estelle_tree::{Items, Path, SequenceMut, Spec};
 use meaning_table::Table;
 use pascal_values::Values;
 use std::alloc::{AllocError, Global};
-use walker_state::add_blanks;
 
 /// An image of that instance alone.
 pub(crate) fn root_image(alloc: Global, table: &Table, tree: &Spec) -> Result<Image, AllocError>

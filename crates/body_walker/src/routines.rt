@@ -6,7 +6,7 @@ ghost use Rattle.estelle_model.specs.Subject.{of_block, initial_state};
 ghost use Rattle.estelle_model.specs.Transitions.{Transition};
 ghost use Rattle.meaning_table.specs.Known.{meanings_of};
 
-use block_table::local_types;
+use body_table::local_types;
 use estelle_model::{Meaning, Passing, Routine, Statements, Type};
 use estelle_tree::{Block, Items, Name, Sequence};
 use flat_transitions::Transitions;

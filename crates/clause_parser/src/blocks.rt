@@ -1,6 +1,6 @@
 //! Blocks.
 
-ghost use Rattle.std.specs.Prelude.{◌≡◌, ⊤};
+ghost use Rattle.std.specs.Prelude.{◌≡◌};
 ghost use Rattle.token_reader.specs.Reader.{Reads};
 ghost use Rattle.clause_parser.specs.Block as spec;
 
@@ -8,7 +8,7 @@ use crate::clauses::LabelForm;
 use estelle_tree::{Block, BlockDecl, Items, Kind, Label, Sequence, Stmts};
 use statement_parser::StatementPartAt;
 use std::alloc::Global;
-use token_reader::{Begins, Cursor, Optional, Read, ReadError, repeated};
+use token_reader::{Cursor, Optional, Read, ReadError, repeated};
 use type_parser::BlockDeclForm;
 
 /// `{BlockDecl}`
@@ -20,7 +20,7 @@ fn block_decls(
     ensures { Reads (spec.block_decls room tokens.old) result tokens.new }
 {
     let decl = BlockDeclForm { room };
-    repeated(alloc, tokens, Items::none(alloc), &Optional { item: &decl })
+    repeated(alloc, tokens, Items::new(alloc), &Optional { item: &decl })
 }
 
 /// A label after the declarations: none behind another label, and none where there are no declarations.
@@ -80,28 +80,4 @@ pub fn begins_block(kind: Kind) -> bool
         kind,
         Kind::NameWord | Kind::Const | Kind::Type | Kind::Var | Kind::Begin
     )
-}
-
-/// `Block`, in which at most so many levels of nesting open.
-#[derive(Clone, Copy, Debug, PartialEq, Eq)]
-pub struct BlockAt {
-    pub room: u8,
-}
-
-impl Read<Block> for BlockAt {
-    ghost parser = { λ s. spec.block s.room };
-
-    ghost can = { λ _. ⊤ };
-
-    fn read(&self, alloc: Global, tokens: &mut Cursor<'_>) -> Result<Block, ReadError> {
-        block(alloc, tokens, self.room)
-    }
-}
-
-impl Begins for BlockAt {
-    ghost begins = { λ _. spec.begins_block };
-
-    fn begins(&self, kind: Kind) -> bool {
-        begins_block(kind)
-    }
 }

@@ -279,27 +279,3 @@ pub fn begins_clause(kind: Kind) -> bool
             | Kind::Delay
     )
 }
-
-/// `Clause`, in which at most so many levels of nesting open.
-#[derive(Clone, Copy, Debug, PartialEq, Eq)]
-pub struct ClauseAt {
-    pub room: u8,
-}
-
-impl Read<Clause> for ClauseAt {
-    ghost parser = { λ s. spec.clause s.room };
-
-    ghost can = { λ _. ⊤ };
-
-    fn read(&self, alloc: Global, tokens: &mut Cursor<'_>) -> Result<Clause, ReadError> {
-        clause(alloc, tokens, self.room)
-    }
-}
-
-impl Begins for ClauseAt {
-    ghost begins = { λ _. spec.begins_clause };
-
-    fn begins(&self, kind: Kind) -> bool {
-        begins_clause(kind)
-    }
-}

@@ -1,13 +1,13 @@
 //! What stands behind `trans`: a block, or groups of clauses.
 
-ghost use Rattle.std.specs.Prelude.{◌≡◌, ⊤};
+ghost use Rattle.std.specs.Prelude.{◌≡◌};
 ghost use Rattle.estelle_tree.specs.Input as input;
 ghost use Rattle.token_reader.specs.Reader.{Reads};
 ghost use Rattle.clause_parser.specs.Block as blocks;
 ghost use Rattle.clause_parser.specs.Way.{stands_on};
 ghost use Rattle.clause_parser.specs.Place.{group_at, ReadsGroup};
 ghost use Rattle.clause_parser.specs.Group as spec;
-ghost use Rattle.clause_parser.specs.TransBody.{begins_trans_body, trans_body};
+ghost use Rattle.clause_parser.specs.TransBody.{trans_body};
 
 use crate::blocks::{begins_block, block};
 use crate::clauses::{begins_clause, clause};
@@ -166,35 +166,4 @@ pub fn trans_body(alloc: Global, tokens: &mut Cursor<'_>, room: u8) -> Result<Tr
         read: group,
     };
     trans_body_over(alloc, tokens, room, &groups)
-}
-
-/// Whether what stands behind `trans` begins with a token of this kind.
-fn begins_trans_body(kind: Kind) -> bool
-    ensures { result ≡ begins_trans_body kind }
-{
-    begins_block(kind) || begins_clause(kind)
-}
-
-/// `TransBody`, in which at most so many levels of nesting open.
-#[derive(Clone, Copy, Debug, PartialEq, Eq)]
-pub struct TransBodyAt {
-    pub room: u8,
-}
-
-impl Read<TransBody> for TransBodyAt {
-    ghost parser = { λ s. trans_body s.room };
-
-    ghost can = { λ _. ⊤ };
-
-    fn read(&self, alloc: Global, tokens: &mut Cursor<'_>) -> Result<TransBody, ReadError> {
-        trans_body(alloc, tokens, self.room)
-    }
-}
-
-impl Begins for TransBodyAt {
-    ghost begins = { λ _. begins_trans_body };
-
-    fn begins(&self, kind: Kind) -> bool {
-        begins_trans_body(kind)
-    }
 }

@@ -11,10 +11,7 @@ mod groups;
 mod laws;
 mod ways;
 
-pub use blocks::{BlockAt, block};
-pub use clauses::{ClauseAt, LabelForm, clause, label};
-pub use groups::{TransBodyAt, trans_body};
+pub use blocks::block;
+pub use clauses::{clause, label};
+pub use groups::trans_body;
 pub use laws::{block_laws, clause_laws, label_laws, trans_body_laws};
-
-#[cfg(test)]
-mod tests;

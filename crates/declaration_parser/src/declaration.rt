@@ -248,38 +248,3 @@ pub fn plain_decl(alloc: Global, tokens: &mut Cursor<'_>, room: u8) -> Result<De
         _ => definition_part(alloc, tokens, room),
     }
 }
-
-/// A declaration that is no body and no routine, in whose types at most so many levels of nesting open.
-#[derive(Clone, Copy)]
-pub struct PlainDeclForm {
-    pub room: u8,
-}
-
-impl Read<Decl> for PlainDeclForm {
-    ghost parser = { λ f. spec.plain_decl f.room };
-
-    ghost can = { λ _. ⊤ };
-
-    fn read(&self, alloc: Global, tokens: &mut Cursor<'_>) -> Result<Decl, ReadError> {
-        plain_decl(alloc, tokens, self.room)
-    }
-}
-
-impl Begins for PlainDeclForm {
-    ghost begins = { λ _. spec.begins_plain_decl };
-
-    fn begins(&self, kind: Kind) -> bool {
-        matches!(
-            kind,
-            Kind::Const
-                | Kind::Type
-                | Kind::Channel
-                | Kind::Module
-                | Kind::Ip
-                | Kind::Modvar
-                | Kind::Var
-                | Kind::State
-                | Kind::Stateset
-        )
-    }
-}

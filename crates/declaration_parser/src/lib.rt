@@ -10,8 +10,8 @@ mod form;
 mod interaction;
 mod laws;
 
-pub use attribute::{SysAttrForm, heads, sys_attr};
-pub use declaration::{PlainDeclForm, header, plain_decl};
+pub use attribute::{SysAttrForm, heads};
+pub use declaration::{header, plain_decl};
 pub use form::joined;
 pub use interaction::channel;
 pub use laws::{
@@ -19,6 +19,3 @@ pub use laws::{
     interaction_points_are_read, interactions_are_read, module_variables_are_read,
     parameters_are_read, plain_decls_are_read, state_sets_are_read,
 };
-
-#[cfg(test)]
-mod tests;

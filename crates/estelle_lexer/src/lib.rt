@@ -19,6 +19,3 @@ pub use error::LexError;
 pub use laws::{spans_follow_one_another, tokens_or_error, unique_tokens};
 pub use lex::tokens;
 pub use list::Tokens;
-
-#[cfg(test)]
-mod tests;

@@ -4,8 +4,5 @@
 
 mod sequence;
 
-pub use sequence::Sequence;
+pub use sequence::{Sequence, SequenceMut};
 pub use sqlite_items::{Boxed, Items};
-
-#[cfg(test)]
-mod tests;

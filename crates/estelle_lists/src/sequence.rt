@@ -4,7 +4,7 @@ ghost use Rattle.std.specs.declared.alloc.Global.{Global};
 use sqlite_items::Items;
 use std::alloc::Global;
 
-/// What every list type offers beside `push`.
+/// A list that is read.
 pub trait Sequence<T> {
     /// The list that it is seen as.
     ghost list: { Self → List T };
@@ -12,6 +12,12 @@ pub trait Sequence<T> {
     /// The items in order. It takes no memory.
     fn items(&self) -> &[T]
         ensures { result.now ≡ list self.now };
+}
+
+/// What every list type that owns its items offers beside `push`.
+pub trait SequenceMut<T> {
+    /// The list that it is seen as.
+    ghost list: { Self → List T };
 
     /// The empty list. It takes no memory.
     fn none(alloc: Global) -> Self
@@ -23,12 +29,16 @@ pub trait Sequence<T> {
         ensures { list self.new ≡ slice_set (list self.old) at item };
 }
 
-impl<T: Drop> Sequence<T> for Items<T> {
+impl<T> Sequence<T> for Items<T> {
     ghost list = { λ items. items };
 
     fn items(&self) -> &[T] {
         self.as_slice()
     }
+}
+
+impl<T: Drop> SequenceMut<T> for Items<T> {
+    ghost list = { λ items. items };
 
     fn none(alloc: Global) -> Self {
         Items::new(alloc)

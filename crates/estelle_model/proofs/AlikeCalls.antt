@@ -6,13 +6,13 @@ use Rattle.pascal_values.specs.declared.value.Value.{Value}
 use Rattle.pascal_values.specs.declared.value.Value.TheVariants as pascal
 use Rattle.pascal_values.specs.Values.{parts_of}
 use Rattle.estelle_tree.specs.declared.tree.expression.Expr.{Expr}
-use Rattle.estelle_model.specs.Paths.{Path, is_inside}
+use Rattle.estelle_tree.specs.Paths.{Path, is_inside}
 use Rattle.estelle_model.specs.States.{Offers}
 use Rattle.estelle_model.specs.Steps.{Do, ◌>>◌, pure, fail, spend}
 use Rattle.estelle_model.specs.declared.meaning.Routine.{Routine}
 use Rattle.estelle_model.specs.Meant.{Meanings, result_number}
-use Rattle.estelle_model.specs.declared.place.Here.{Here}
-use Rattle.estelle_model.specs.declared.place.Given.{Given}
+use Rattle.estelle_model.specs.declared.place.Environment.{Environment}
+use Rattle.estelle_model.specs.declared.place.ActualParameters.{ActualParameters}
 use Rattle.estelle_model.specs.Expressions.{Call, expr}
 use Rattle.estelle_model.specs.Statements.{Action, stmts}
 use Rattle.estelle_model.specs.Calls.{Enters, call_by, frame_of, last_or, enter, leave, within, nested, max_depth}
@@ -26,10 +26,10 @@ use Rattle.estelle_model.proofs.AlikeStatements.{ActAlike, seq_alike, stmts_alik
 module _ (S T : Type 0) (on : Offers S) (on' : Offers T) (m : Path) (R : S → T → Type 0) where
   -- what enters a routine of an instance at or below m does alike
   abbrev pub EntersAlike : Enters S → Enters T → Type 0
-  EntersAlike enters enters' = (before : Do S) (before' : Do T) → DoAlike S T R before before' → (p : Path) → is_inside m p ≡ true → (r : Routine) (g : Given) → AllWithin m g.references → ValueAlike S T R (enters before p r g) (enters' before' p r g)
+  EntersAlike enters enters' = (before : Do S) (before' : Do T) → DoAlike S T R before before' → (p : Path) → is_inside m p ≡ true → (r : Routine) (g : ActualParameters) → AllWithin m g.references → ValueAlike S T R (enters before p r g) (enters' before' p r g)
 
   -- the statements of Estelle do alike, where what they enter does
-  abbrev pub ActsAlike : (Enters S → Here → Action S → Do S) → (Enters T → Here → Action T → Do T) → Type 0
+  abbrev pub ActsAlike : (Enters S → Environment → Action S → Do S) → (Enters T → Environment → Action T → Do T) → Type 0
   ActsAlike act act' = (enters : Enters S) (enters' : Enters T) → EntersAlike enters enters' → ActAlike S T on on' m R (act enters) (act' enters')
 
   enter_alike : (r : Routine) (vs : List Value) → DoAlike S T R (enter r vs) (enter r vs)
@@ -45,13 +45,13 @@ module _ (S T : Type 0) (on : Offers S) (on' : Offers T) (m : Path) (R : S → T
   leave_values_alike : (v : Value) → ValueAlike S T R (leave_values v) (leave_values v)
   leave_values_alike v s t a = (refl, record { state = a.state; frames = refl; left = a.left })
 
-module _ (S T : Type 0) (on : Offers S) (on' : Offers T) (m : Path) (R : S → T → Type 0) (show : ShowAlike S T on on' m R) (meant : Meanings) (act : Enters S → Here → Action S → Do S) (act' : Enters T → Here → Action T → Do T) (acts : ActsAlike S T on on' m R act act') where
+module _ (S T : Type 0) (on : Offers S) (on' : Offers T) (m : Path) (R : S → T → Type 0) (show : ShowAlike S T on on' m R) (meant : Meanings) (act : Enters S → Environment → Action S → Do S) (act' : Enters T → Environment → Action T → Do T) (acts : ActsAlike S T on on' m R act act') where
   call_by_alike : (enters : Enters S) (enters' : Enters T) → EntersAlike S T on on' m R enters enters' → (p : Path) → is_inside m p ≡ true → CallAlike S T on on' m R (call_by enters p) (call_by enters' p)
   call_by_alike enters enters' h p inside r g w = h (pure tt) (pure tt) (pure_alike S T R (Same {A = Unit {0}}) tt tt refl) p inside r g w
 
-  within_alike : (enters : Enters S) (enters' : Enters T) → EntersAlike S T on on' m R enters enters' → (depth : ℕ) (p : Path) → is_inside m p ≡ true → (r : Routine) (g : Given) → AllWithin m g.references → ValueAlike S T R (within S on meant act enters depth p r g) (within T on' meant act' enters' depth p r g)
+  within_alike : (enters : Enters S) (enters' : Enters T) → EntersAlike S T on on' m R enters enters' → (depth : ℕ) (p : Path) → is_inside m p ≡ true → (r : Routine) (g : ActualParameters) → AllWithin m g.references → ValueAlike S T R (within S on meant act enters depth p r g) (within T on' meant act' enters' depth p r g)
   within_alike enters enters' h depth p inside r g w =
-      let here : Here = record { path = p; frame = depth; references = g.references } in
+      let here : Environment = record { path = p; frame = depth; references = g.references } in
       then_same S T R (Same {A = Value}) (enter r g.values >> stmts S on meant (act enters) (call_by enters p) here r.body) (enter r g.values >> stmts T on' meant (act' enters') (call_by enters' p) here r.body) (λ _. leave r) (λ _. leave r)
       (seq_alike S T R (enter r g.values) _ (enter r g.values) _ (enter_alike S T on on' m R r g.values) (stmts_alike S T on on' m R show meant (act enters) (act' enters') (acts enters enters' h) (call_by enters p) (call_by enters' p) (call_by_alike enters enters' h p inside) here (inside, w) r.body))
       (λ _. leave_alike S T on on' m R r)
@@ -71,7 +71,7 @@ module _ (S T : Type 0) (on : Offers S) (on' : Offers T) (m : Path) (R : S → T
   pub clause_alike : (p : Path) → is_inside m p ≡ true → (vs : List Value) (e : Expr) → ValueAlike S T R (clause_value S on meant act p vs e) (clause_value T on' meant act' p vs e)
   unfolding clause_value
   clause_alike p inside vs e =
-      let here : Here = record { path = p; frame = 0; references = [] } in
+      let here : Environment = record { path = p; frame = 0; references = [] } in
       let call : Call S = call_by (from_block S on meant act) p in
       let call' : Call T = call_by (from_block T on' meant act') p in
       then_same S T R (Same {A = Value}) (enter_values vs >> (expr S on meant call here e).value) (enter_values vs >> (expr T on' meant call' here e).value) (λ v. leave_values v) (λ v. leave_values v)

@@ -27,7 +27,7 @@ use Rattle.estelle_model.specs.declared.denoter.Denoter.{Denoter}
 use Rattle.estelle_model.specs.Types.{host_of, item_of, field_of, bounds_of}
 use Rattle.estelle_model.specs.declared.meaning.Required.{Required}
 use Rattle.estelle_model.specs.Operators.{negation, signed, related, required_value, required_host}
-use Rattle.estelle_model.specs.Paths.{Path}
+use Rattle.estelle_tree.specs.Paths.{Path}
 use Rattle.estelle_model.specs.States.{Offers}
 use Rattle.estelle_model.specs.Steps.{◌>>=◌, pure, fail, checked}
 use Rattle.estelle_model.specs.declared.meaning.Routine.{Routine}
@@ -37,15 +37,15 @@ use Rattle.estelle_model.specs.Meant.{Meanings}
 use Rattle.estelle_model.specs.declared.place.Place.{Place}
 use Rattle.estelle_model.specs.declared.place.Place.TheVariants.{Of, In}
 use Rattle.estelle_model.specs.Places.{deeper, set_value, child_step}
-use Rattle.estelle_model.specs.declared.place.Here.{Here}
-use Rattle.estelle_model.specs.declared.place.Given.{Given}
+use Rattle.estelle_model.specs.declared.place.Environment.{Environment}
+use Rattle.estelle_model.specs.declared.place.ActualParameters.{ActualParameters}
 use Rattle.estelle_model.specs.Expressions.{Call, Operand, Access, Selecting, ordinal_step, multiplied, multiplied_host, added, added_host, computed, give_all, no_arguments, result_host, reference_at, index_step, indexed, fielded, selected, exported, behind_dot, behind_module, accessed, of_access, called, valued, required_of, designated, term_of, with_sign, simple_of, related_to, factor, selector, args, elem, expr, simple, term, variable}
 use Rattle.estelle_model.proofs.Alike.{Same, EachAlike, MaybeAlike, StepAlike, ValueAlike, then_alike, then_same, pure_alike, fail_alike, checked_alike}
 use Rattle.estelle_model.proofs.AlikePlaces.{IsWithin, PlaceAlike, PathAlike, deeper_within, ShowAlike, load_alike, child_alike}
 use Rattle.estelle_model.proofs.AlikeOperands.{within_at, GivenAlike, IsHereWithin, OperandAlike, AccessAlike, SelectingAlike, WrittenAlike, CallAlike, ordinal_alike, of_value_alike, both_alike, multiplied_alike, added_alike, computed_alike, computed_with, give_all_alike, member_alike, set_alike}
 use Rattle.estelle_model.proofs.ExpressionEquations.{factor_at, factor_made, selector_at, selector_made, args_at, args_made, elem_at, elem_made, expr_at, expr_made, simple_at, simple_made, term_at, term_made, variable_at, variable_made}
 
-module _ (S T : Type 0) (on : Offers S) (on' : Offers T) (m : Path) (R : S → T → Type 0) (show : ShowAlike S T on on' m R) (meant : Meanings) (call : Call S) (call' : Call T) (calls : CallAlike S T on on' m R call call') (here : Here) (within : IsHereWithin m here) where
+module _ (S T : Type 0) (on : Offers S) (on' : Offers T) (m : Path) (R : S → T → Type 0) (show : ShowAlike S T on on' m R) (meant : Meanings) (call : Call S) (call' : Call T) (calls : CallAlike S T on on' m R call call') (here : Environment) (within : IsHereWithin m here) where
   -- ---- variable accesses
 
   place_deeper : (k : ℕ) (a b : Place) → PlaceAlike m a b → PlaceAlike m (deeper a k) (deeper b k)
@@ -126,7 +126,7 @@ module _ (S T : Type 0) (on : Offers S) (on' : Offers T) (m : Path) (R : S → T
   called_alike : (r : Routine) (es : List (Operand S)) (fs : List (Operand T)) → EachAlike (OperandAlike S T on on' m R) es fs → ValueAlike S T R (called S on meant call here r es) (called T on' meant call' here r fs)
   unfolding called
   called_alike r es fs h = then_alike S T R (GivenAlike m) (Same {A = Value}) (give_all r.parameters es no_arguments) (give_all r.parameters fs no_arguments) _ _ (give_all_alike S T on on' m R r.parameters es fs no_arguments h tt)
-      (λ g k gk. then_same S T R (Same {A = Value}) (call r g) (call' r k) _ _ (subst (λ (c : Given). ValueAlike S T R (call r g) (call' r c)) gk.0 (calls r g gk.1)) (λ v. checked_alike S T R (set_value (Some v))))
+      (λ g k gk. then_same S T R (Same {A = Value}) (call r g) (call' r k) _ _ (subst (λ (c : ActualParameters). ValueAlike S T R (call r g) (call' r c)) gk.0 (calls r g gk.1)) (λ v. checked_alike S T R (set_value (Some v))))
 
   pub valued_alike : (x : Meaning) (xs : List (Selecting S)) (ys : List (Selecting T)) → EachAlike (SelectingAlike S T on on' m R) xs ys → OperandAlike S T on on' m R (valued S on meant call here x xs) (valued T on' meant call' here x ys)
   valued_alike (Constant v h) xs ys k = computed_alike S T on on' m R h (pure v) (pure v) (pure_alike S T R (Same {A = Value}) v v refl)

@@ -6,7 +6,7 @@ use Rattle.estelle_tree.specs.declared.tree.clause.DelayHigh.{DelayHigh}
 use Rattle.estelle_tree.specs.declared.tree.clause.DelayHigh.TheVariants as high
 use Rattle.estelle_model.specs.declared.job.Guard.{Guard}
 use Rattle.estelle_model.specs.declared.job.Guard.TheVariants.{Off, Faulted}
-use Rattle.estelle_model.specs.Paths.{Path}
+use Rattle.estelle_tree.specs.Paths.{Path}
 use Rattle.estelle_model.specs.States.{Offers, IsFaithful, Logged, on_log}
 use Rattle.estelle_model.specs.Steps.{Outcome, pure, checked}
 use Rattle.estelle_model.specs.Operators.{int_of}

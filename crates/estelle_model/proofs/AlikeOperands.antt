@@ -14,15 +14,15 @@ use Rattle.estelle_tree.specs.declared.tree.expression.Multiplying.TheVariants a
 use Rattle.estelle_model.specs.declared.denoter.Host.{Host}
 use Rattle.estelle_model.specs.Types.{ordinal_of, shape_of}
 use Rattle.estelle_model.specs.Operators.{bool_of, plus, minus, times, divided, modulo, one_member, members_from}
-use Rattle.estelle_model.specs.Paths.{Path, is_inside}
+use Rattle.estelle_tree.specs.Paths.{Path, is_inside}
 use Rattle.estelle_model.specs.States.{Offers}
 use Rattle.estelle_model.specs.Steps.{Step, ◌>>=◌, pure, checked}
 use Rattle.estelle_model.specs.declared.meaning.Routine.{Routine}
 use Rattle.estelle_model.specs.declared.meaning.Passing.{Passing}
 use Rattle.estelle_model.specs.declared.meaning.Passing.TheVariants.{ByValue, ByPlace}
 use Rattle.estelle_model.specs.declared.place.Place.{Place}
-use Rattle.estelle_model.specs.declared.place.Here.{Here}
-use Rattle.estelle_model.specs.declared.place.Given.{Given}
+use Rattle.estelle_model.specs.declared.place.Environment.{Environment}
+use Rattle.estelle_model.specs.declared.place.ActualParameters.{ActualParameters}
 use Rattle.estelle_model.specs.Expressions.{Call, Operand, Access, Selecting, Written, bool_step, ordinal_step, both, conjunction, disjunction, multiplied, added, computed, place_of_operand, give, give_all, member_step, set_step}
 use Rattle.estelle_model.proofs.Alike.{Same, EachAlike, MaybeAlike, StepAlike, ValueAlike, then_alike, then_same, pure_alike, fail_alike, checked_alike, if_alike}
 use Rattle.estelle_model.proofs.AlikePlaces.{IsWithin, PlaceAlike}
@@ -42,11 +42,11 @@ within_at m (x ∷ xs) zero a h e = let same : x ≡ a = cc in subst (λ (b : Pl
 within_at m (x ∷ xs) (suc k) a h e = within_at m xs k a h.1 e
 
 -- the same arguments, with places that are within
-abbrev pub GivenAlike : Path → Given → Given → Type 0
+abbrev pub GivenAlike : Path → ActualParameters → ActualParameters → Type 0
 GivenAlike m g h = (g ≡ h) × AllWithin m g.references
 
 -- what runs is at or below m, and what its var parameters name is within
-abbrev pub IsHereWithin : Path → Here → Type 0
+abbrev pub IsHereWithin : Path → Environment → Type 0
 IsHereWithin m here = (is_inside m here.path ≡ true) × AllWithin m here.references
 
 module _ (S T : Type 0) (on : Offers S) (on' : Offers T) (m : Path) (R : S → T → Type 0) where
@@ -69,7 +69,7 @@ module _ (S T : Type 0) (on : Offers S) (on' : Offers T) (m : Path) (R : S → T
 
   -- a routine does alike, whatever it is given
   abbrev pub CallAlike : Call S → Call T → Type 0
-  CallAlike call call' = (r : Routine) (g : Given) → AllWithin m g.references → ValueAlike S T R (call r g) (call' r g)
+  CallAlike call call' = (r : Routine) (g : ActualParameters) → AllWithin m g.references → ValueAlike S T R (call r g) (call' r g)
 
   -- ---- operators
 
@@ -124,14 +124,14 @@ module _ (S T : Type 0) (on : Offers S) (on' : Offers T) (m : Path) (R : S → T
   place_of_alike None (Some q) h = absurd h
   place_of_alike (Some p) None h = absurd h
 
-  give_alike : (p : Passing) (e : Operand S) (f : Operand T) (g : Given) → OperandAlike e f → AllWithin m g.references → StepAlike S T R (GivenAlike m) (give p e g) (give p f g)
+  give_alike : (p : Passing) (e : Operand S) (f : Operand T) (g : ActualParameters) → OperandAlike e f → AllWithin m g.references → StepAlike S T R (GivenAlike m) (give p e g) (give p f g)
   give_alike (ByValue t) e f g h w = then_same S T R (GivenAlike m) e.value f.value _ _ h.value
       (λ v. then_same S T R (GivenAlike m) (checked (fit_of (shape_of t) v)) (checked (fit_of (shape_of t) v)) _ _ (checked_alike S T R (fit_of (shape_of t) v))
       (λ ok. pure_alike S T R (GivenAlike m) _ _ (refl, w)))
   give_alike ByPlace e f g h w = then_alike S T R (PlaceAlike m) (GivenAlike m) (place_of_operand e.place) (place_of_operand f.place) _ _ (place_of_alike e.place f.place h.place)
       (λ a b ab. pure_alike S T R (GivenAlike m) _ _ (ap (λ (c : Place). record g { references = g.references ++ c ∷ [] }) ab.0, all_within_more m g.references a w ab.1))
 
-  pub give_all_alike : (ps : List Passing) (es : List (Operand S)) (fs : List (Operand T)) (g : Given) → EachAlike OperandAlike es fs → AllWithin m g.references → StepAlike S T R (GivenAlike m) (give_all ps es g) (give_all ps fs g)
+  pub give_all_alike : (ps : List Passing) (es : List (Operand S)) (fs : List (Operand T)) (g : ActualParameters) → EachAlike OperandAlike es fs → AllWithin m g.references → StepAlike S T R (GivenAlike m) (give_all ps es g) (give_all ps fs g)
   give_all_alike [] [] [] g h w = pure_alike S T R (GivenAlike m) g g (refl, w)
   give_all_alike [] [] (f ∷ fs) g h w = absurd h
   give_all_alike [] (e ∷ es) [] g h w = absurd h
@@ -140,7 +140,7 @@ module _ (S T : Type 0) (on : Offers S) (on' : Offers T) (m : Path) (R : S → T
   give_all_alike (p ∷ ps) [] (f ∷ fs) g h w = absurd h
   give_all_alike (p ∷ ps) (e ∷ es) [] g h w = absurd h
   give_all_alike (p ∷ ps) (e ∷ es) (f ∷ fs) g h w = then_alike S T R (GivenAlike m) (GivenAlike m) (give p e g) (give p f g) (λ k. give_all ps es k) (λ k. give_all ps fs k) (give_alike p e f g h.0 w)
-      (λ a b ab. subst (λ (c : Given). StepAlike S T R (GivenAlike m) (give_all ps es a) (give_all ps fs c)) ab.0 (give_all_alike ps es fs a h.1 ab.1))
+      (λ a b ab. subst (λ (c : ActualParameters). StepAlike S T R (GivenAlike m) (give_all ps es a) (give_all ps fs c)) ab.0 (give_all_alike ps es fs a h.1 ab.1))
 
   -- ---- set constructors
 

@@ -9,7 +9,7 @@ use Rattle.pascal_values.specs.Values.{into, part_of, changed_at, with_part}
 use Rattle.pascal_values.specs.Shapes.{fit_of}
 use Rattle.estelle_model.specs.declared.denoter.Denoter.{Denoter}
 use Rattle.estelle_model.specs.Types.{shape_of, host_of, value_in}
-use Rattle.estelle_model.specs.Paths.{Path, is_inside}
+use Rattle.estelle_tree.specs.Paths.{Path, is_inside}
 use Rattle.estelle_model.specs.Core.{Instance}
 use Rattle.estelle_model.specs.Effects.{Store}
 use Rattle.estelle_model.specs.States.{Offers}

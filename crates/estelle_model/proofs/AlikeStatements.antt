@@ -15,7 +15,7 @@ use Rattle.estelle_tree.specs.declared.tree.statement.Stmts.{Stmts, roll-Stmts}
 use Rattle.estelle_tree.specs.declared.tree.statement.Stmt.TheOpen.{Stmt-F, Case-F, Stmts-F}
 use Rattle.estelle_tree.specs.declared.tree.statement.Stmt.TheFolds.{map-Case, map-Stmts, ind-Stmt, ind-Stmts}
 use Rattle.estelle_model.specs.declared.denoter.Denoter.{Denoter}
-use Rattle.estelle_model.specs.Paths.{Path}
+use Rattle.estelle_tree.specs.Paths.{Path}
 use Rattle.estelle_model.specs.States.{Offers}
 use Rattle.estelle_model.specs.Steps.{Step, Do, ◌>>◌, spend}
 use Rattle.estelle_model.specs.declared.meaning.Routine.{Routine}
@@ -24,8 +24,8 @@ use Rattle.estelle_model.specs.declared.meaning.Meaning.TheVariants.{Called}
 use Rattle.estelle_model.specs.Meant.{Meanings, result_number}
 use Rattle.estelle_model.specs.declared.place.Place.TheVariants.{In}
 use Rattle.estelle_model.specs.Places.{store, store_ordinal}
-use Rattle.estelle_model.specs.declared.place.Here.{Here}
-use Rattle.estelle_model.specs.declared.place.Given.{Given}
+use Rattle.estelle_model.specs.declared.place.Environment.{Environment}
+use Rattle.estelle_model.specs.declared.place.ActualParameters.{ActualParameters}
 use Rattle.estelle_model.specs.Expressions.{Call, Operand, Access, Selecting, ordinal_step, give_all, no_arguments, result_of, assigned, target, variable}
 use Rattle.estelle_model.specs.Loops.{while_turns, repeat_turns, while_loop, repeat_loop, next_of, turns_of, count_turns, count_loop}
 use Rattle.estelle_model.specs.Statements.{Action, Init, Release, Connect, Disconnect, Attach, Detach, Output, is_labelled, chosen, or_nothing, value_of_expr, arguments, assign_to, assign, invoke_of, invoke, choose, count_over, count, select, stmt, branch, stmts}
@@ -84,11 +84,11 @@ module _ (S T : Type 0) (on : Offers S) (on' : Offers T) (m : Path) (R : S → T
   ActionAlike (Output p n es) (Output q k fs) = (p ≡ q) × (n ≡ k) × EachAlike (OperandAlike S T on on' m R) es fs
   ActionAlike a b = ⊥
 
-  abbrev pub ActAlike : (Here → Action S → Do S) → (Here → Action T → Do T) → Type 0
-  ActAlike act act' = (here : Here) → IsHereWithin m here → (a : Action S) (b : Action T) → ActionAlike a b → DoAlike S T R (act here a) (act' here b)
+  abbrev pub ActAlike : (Environment → Action S → Do S) → (Environment → Action T → Do T) → Type 0
+  ActAlike act act' = (here : Environment) → IsHereWithin m here → (a : Action S) (b : Action T) → ActionAlike a b → DoAlike S T R (act here a) (act' here b)
 
-module _ (S T : Type 0) (on : Offers S) (on' : Offers T) (m : Path) (R : S → T → Type 0) (show : ShowAlike S T on on' m R) (meant : Meanings) (act : Here → Action S → Do S) (act' : Here → Action T → Do T) (acts : ActAlike S T on on' m R act act')
-    (call : Call S) (call' : Call T) (calls : CallAlike S T on on' m R call call') (here : Here) (within : IsHereWithin m here) where
+module _ (S T : Type 0) (on : Offers S) (on' : Offers T) (m : Path) (R : S → T → Type 0) (show : ShowAlike S T on on' m R) (meant : Meanings) (act : Environment → Action S → Do S) (act' : Environment → Action T → Do T) (acts : ActAlike S T on on' m R act act')
+    (call : Call S) (call' : Call T) (calls : CallAlike S T on on' m R call call') (here : Environment) (within : IsHereWithin m here) where
   value_alike : (e : Expr) → ValueAlike S T R (value_of_expr S on meant act call here e) (value_of_expr T on' meant act' call' here e)
   value_alike e = (expr_alike S T on on' m R show meant call call' calls here within e).value
 
@@ -123,7 +123,7 @@ module _ (S T : Type 0) (on : Offers S) (on' : Offers T) (m : Path) (R : S → T
 
   invoke_of_alike : (x : Meaning) (es : List (Operand S)) (fs : List (Operand T)) → EachAlike (OperandAlike S T on on' m R) es fs → DoAlike S T R (invoke_of S on meant act call here x es) (invoke_of T on' meant act' call' here x fs)
   invoke_of_alike (Called r) es fs h = then_alike S T R (GivenAlike m) (Same {A = Unit {0}}) (give_all r.parameters es no_arguments) (give_all r.parameters fs no_arguments) _ _ (give_all_alike S T on on' m R r.parameters es fs no_arguments h tt)
-      (λ g k gk. then_same S T R (Same {A = Unit {0}}) (call r g) (call' r k) _ _ (subst (λ (c : Given). ValueAlike S T R (call r g) (call' r c)) gk.0 (calls r g gk.1)) (λ v. pure_alike S T R (Same {A = Unit {0}}) tt tt refl))
+      (λ g k gk. then_same S T R (Same {A = Unit {0}}) (call r g) (call' r k) _ _ (subst (λ (c : ActualParameters). ValueAlike S T R (call r g) (call' r c)) gk.0 (calls r g gk.1)) (λ v. pure_alike S T R (Same {A = Unit {0}}) tt tt refl))
   invoke_of_alike _ es fs h = fail_alike S T R (Same {A = Unit {0}}) fault.Unset
 
   invoke_alike : (x : Name) (es : Option Args) → DoAlike S T R (invoke S on meant act call here x es) (invoke T on' meant act' call' here x es)

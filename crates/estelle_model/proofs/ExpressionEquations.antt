@@ -13,10 +13,10 @@ use Rattle.estelle_tree.specs.declared.tree.expression.Factor.TheFolds.{map-Sele
 use Rattle.estelle_model.specs.States.{Offers}
 use Rattle.estelle_model.specs.Steps.{Step}
 use Rattle.estelle_model.specs.Meant.{Meanings}
-use Rattle.estelle_model.specs.declared.place.Here.{Here}
+use Rattle.estelle_model.specs.declared.place.Environment.{Environment}
 use Rattle.estelle_model.specs.Expressions.{Call, Operand, Selecting, Written, factor_layer, selector_layer, args_layer, elem_layer, expr_layer, simple_layer, term_layer, variable_layer, factor, selector, args, elem, expr, simple, term, variable}
 
-module _ (S : Type 0) (on : Offers S) (meant : Meanings) (call : Call S) (here : Here) where
+module _ (S : Type 0) (on : Offers S) (meant : Meanings) (call : Call S) (here : Environment) where
   -- one layer
   abbrev pub factor_at : Factor-F Factor Selector Args Elem Expr Simple Term Variable → Operand S
   factor_at l = factor_layer S on meant call here (map-Factor Factor Selector Args Elem Expr Simple Term Variable (Operand S) (Selecting S) (List (Operand S)) (Step S (List ℕ)) (Operand S) (Operand S) (Operand S) (Written S) (factor S on meant call here) (selector S on meant call here) (args S on meant call here) (elem S on meant call here) (expr S on meant call here) (simple S on meant call here) (term S on meant call here) (variable S on meant call here) l)

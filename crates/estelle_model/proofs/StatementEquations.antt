@@ -9,11 +9,11 @@ use Rattle.estelle_tree.specs.declared.tree.statement.Stmt.TheFolds.{map-Case, m
 use Rattle.estelle_model.specs.States.{Offers}
 use Rattle.estelle_model.specs.Steps.{Do}
 use Rattle.estelle_model.specs.Meant.{Meanings}
-use Rattle.estelle_model.specs.declared.place.Here.{Here}
+use Rattle.estelle_model.specs.declared.place.Environment.{Environment}
 use Rattle.estelle_model.specs.Expressions.{Call}
 use Rattle.estelle_model.specs.Statements.{Action, stmt_layer, case_layer, stmts_layer, stmt, branch, stmts}
 
-module _ (S : Type 0) (on : Offers S) (meant : Meanings) (act : Here → Action S → Do S) (call : Call S) (here : Here) where
+module _ (S : Type 0) (on : Offers S) (meant : Meanings) (act : Environment → Action S → Do S) (call : Call S) (here : Environment) where
   -- one layer
   abbrev pub stmt_at : Stmt-F Stmt Case Stmts → Do S
   stmt_at l = stmt_layer S on meant act call here (map-Stmt Stmt Case Stmts (Do S) (List Const × Do S) (Do S) (stmt S on meant act call here) (branch S on meant act call here) (stmts S on meant act call here) l)

@@ -24,7 +24,7 @@ use Rattle.estelle_model.specs.declared.meaning.Passing.TheVariants.{ByValue, By
 use Rattle.estelle_model.specs.declared.place.Place.{Place}
 use Rattle.estelle_model.specs.declared.place.Place.TheVariants.{Of, In}
 use Rattle.estelle_model.specs.Places.{known, held, held_in, module_variables_of, load, put, put_at, store, store_ordinal, child_step}
-use Rattle.estelle_model.specs.declared.place.Given.{Given}
+use Rattle.estelle_model.specs.declared.place.ActualParameters.{ActualParameters}
 use Rattle.estelle_model.specs.Expressions.{Call, Operand, Access, Selecting, bool_step, ordinal_step, both, conjunction, disjunction, multiplied, added, place_of_operand, give, give_all, member_step, set_step}
 use Rattle.estelle_model.proofs.LoopLaws.{AtMost, NeverRaises}
 
@@ -91,7 +91,7 @@ module _ (S : Type 0) where
   SelectingNever x = (a : Access S) → AccessNever a → AccessNever (x.over a)
 
   abbrev pub CallNever : Call S → Type 0
-  CallNever call = (r : Routine) (g : Given) → NeverRaises (call r g)
+  CallNever call = (r : Routine) (g : ActualParameters) → NeverRaises (call r g)
 
   pub of_value_never : (A : Type 0) (f : Value → Result A Fault) (p : Step S Value) → NeverRaises p → NeverRaises (p >>= λ v. checked (f v))
   of_value_never A f p h = then_never Value A p (λ v. checked (f v)) h (λ v. checked_never A (f v))
@@ -127,16 +127,16 @@ module _ (S : Type 0) where
   place_of_never None h = fail_never Place Unset
   place_of_never (Some p) h = h
 
-  give_never : (p : Passing) (e : Operand S) (g : Given) → OperandNever e → NeverRaises (give p e g)
-  give_never (ByValue t) e g h = then_never Value Given e.value (λ v. checked (fit_of (shape_of t) v) >>= λ ok. pure (record g { values = g.values ++ v ∷ [] })) h.value
-      (λ v. then_never (Unit {0}) Given (checked (fit_of (shape_of t) v)) (λ ok. pure (record g { values = g.values ++ v ∷ [] })) (checked_never (Unit {0}) (fit_of (shape_of t) v)) (λ ok. pure_never Given (record g { values = g.values ++ v ∷ [] })))
-  give_never ByPlace e g h = then_never Place Given (place_of_operand e.place) (λ p. pure (record g { references = g.references ++ p ∷ [] })) (place_of_never e.place h.place) (λ p. pure_never Given (record g { references = g.references ++ p ∷ [] }))
+  give_never : (p : Passing) (e : Operand S) (g : ActualParameters) → OperandNever e → NeverRaises (give p e g)
+  give_never (ByValue t) e g h = then_never Value ActualParameters e.value (λ v. checked (fit_of (shape_of t) v) >>= λ ok. pure (record g { values = g.values ++ v ∷ [] })) h.value
+      (λ v. then_never (Unit {0}) ActualParameters (checked (fit_of (shape_of t) v)) (λ ok. pure (record g { values = g.values ++ v ∷ [] })) (checked_never (Unit {0}) (fit_of (shape_of t) v)) (λ ok. pure_never ActualParameters (record g { values = g.values ++ v ∷ [] })))
+  give_never ByPlace e g h = then_never Place ActualParameters (place_of_operand e.place) (λ p. pure (record g { references = g.references ++ p ∷ [] })) (place_of_never e.place h.place) (λ p. pure_never ActualParameters (record g { references = g.references ++ p ∷ [] }))
 
-  pub give_all_never : (ps : List Passing) (es : List (Operand S)) (g : Given) → Each OperandNever es → NeverRaises (give_all ps es g)
-  give_all_never [] [] g h = pure_never Given g
-  give_all_never [] (e ∷ es) g h = fail_never Given Unset
-  give_all_never (p ∷ ps) [] g h = fail_never Given Unset
-  give_all_never (p ∷ ps) (e ∷ es) g h = then_never Given Given (give p e g) (λ k. give_all ps es k) (give_never p e g h.0) (λ k. give_all_never ps es k h.1)
+  pub give_all_never : (ps : List Passing) (es : List (Operand S)) (g : ActualParameters) → Each OperandNever es → NeverRaises (give_all ps es g)
+  give_all_never [] [] g h = pure_never ActualParameters g
+  give_all_never [] (e ∷ es) g h = fail_never ActualParameters Unset
+  give_all_never (p ∷ ps) [] g h = fail_never ActualParameters Unset
+  give_all_never (p ∷ ps) (e ∷ es) g h = then_never ActualParameters ActualParameters (give p e g) (λ k. give_all ps es k) (give_never p e g h.0) (λ k. give_all_never ps es k h.1)
 
   pub member_never : (e : Operand S) (o : Option (Operand S)) → OperandNever e → IfThere OperandNever o → NeverRaises (member_step e o)
   member_never e None h k = then_never ℤ (List ℕ) (ordinal_step e.value) (λ n. checked (one_member n)) (of_value_never ℤ ordinal_of e.value h.value) (λ n. checked_never (List ℕ) (one_member n))

@@ -17,7 +17,7 @@ use Rattle.estelle_tree.specs.declared.tree.statement.Stmt.TheFolds.{map-Case, m
 use Rattle.estelle_model.specs.declared.denoter.Denoter.{Denoter}
 use Rattle.estelle_model.specs.Types.{ordinal_of}
 use Rattle.estelle_model.specs.Operators.{bool_of}
-use Rattle.estelle_model.specs.Paths.{Path}
+use Rattle.estelle_tree.specs.Paths.{Path}
 use Rattle.estelle_model.specs.States.{Offers}
 use Rattle.estelle_model.specs.Steps.{Step, Do, ◌>>=◌, ◌>>◌, pure, fail, spend}
 use Rattle.estelle_model.specs.declared.meaning.Routine.{Routine}
@@ -27,8 +27,8 @@ use Rattle.estelle_model.specs.Meant.{Meanings, result_number}
 use Rattle.estelle_model.specs.declared.place.Place.{Place}
 use Rattle.estelle_model.specs.declared.place.Place.TheVariants.{In}
 use Rattle.estelle_model.specs.Places.{put, store, store_ordinal}
-use Rattle.estelle_model.specs.declared.place.Here.{Here}
-use Rattle.estelle_model.specs.declared.place.Given.{Given}
+use Rattle.estelle_model.specs.declared.place.Environment.{Environment}
+use Rattle.estelle_model.specs.declared.place.ActualParameters.{ActualParameters}
 use Rattle.estelle_model.specs.Expressions.{Call, Operand, Access, Selecting, bool_step, ordinal_step, give_all, no_arguments, accessed, result_of, assigned, target, variable}
 use Rattle.estelle_model.specs.Loops.{while_turns, repeat_turns, while_loop, repeat_loop, next_of, turns_of, count_turns, count_loop}
 use Rattle.estelle_model.specs.Statements.{Action, Init, Release, Connect, Disconnect, Attach, Detach, Output, is_labelled, chosen, or_nothing, value_of_expr, arguments, assign_to, assign, invoke_of, invoke, choose, count_over, count, select, stmt, branch, stmts}
@@ -75,12 +75,12 @@ module _ (S : Type 0) where
   ActionNever (Output p n es) = Each (OperandNever S) es
   ActionNever a = Unit {0}
 
-  abbrev pub ActNever : (Here → Action S → Do S) → Type 0
-  ActNever act = (here : Here) (a : Action S) → ActionNever a → NeverRaises (act here a)
+  abbrev pub ActNever : (Environment → Action S → Do S) → Type 0
+  ActNever act = (here : Environment) (a : Action S) → ActionNever a → NeverRaises (act here a)
 
 -- ---- statements
 
-module _ (S : Type 0) (on : Offers S) (meant : Meanings) (act : Here → Action S → Do S) (acts : ActNever S act) (call : Call S) (calls : CallNever S call) (here : Here) where
+module _ (S : Type 0) (on : Offers S) (meant : Meanings) (act : Environment → Action S → Do S) (acts : ActNever S act) (call : Call S) (calls : CallNever S call) (here : Environment) where
   value_never : (e : Expr) → NeverRaises (value_of_expr S on meant act call here e)
   value_never e = (expr_never S on meant call calls here e).value
 
@@ -105,7 +105,7 @@ module _ (S : Type 0) (on : Offers S) (meant : Meanings) (act : Here → Action 
   assign_never v e = assign_to_never (assigned S on meant call here (meant (variable S on meant call here v).name) (variable S on meant call here v).selectors) (value_of_expr S on meant act call here e) (assigned_never (meant (variable S on meant call here v).name) (variable S on meant call here v).selectors (variable_never S on meant call calls here v)) (value_never e)
 
   invoke_of_never : (x : Meaning) (es : List (Operand S)) → Each (OperandNever S) es → NeverRaises (invoke_of S on meant act call here x es)
-  invoke_of_never (Called r) es h = then_never S Given (Unit {0}) (give_all r.parameters es no_arguments) (λ g. call r g >>= λ v. pure tt) (give_all_never S r.parameters es no_arguments h)
+  invoke_of_never (Called r) es h = then_never S ActualParameters (Unit {0}) (give_all r.parameters es no_arguments) (λ g. call r g >>= λ v. pure tt) (give_all_never S r.parameters es no_arguments h)
       (λ g. then_never S Value (Unit {0}) (call r g) (λ v. pure tt) (calls r g) (λ v. pure_never S (Unit {0}) tt))
   invoke_of_never _ es h = fail_never S (Unit {0}) fault.Unset
 
@@ -222,9 +222,9 @@ module _ (S : Type 0) (on : Offers S) (meant : Meanings) (act : Here → Action 
 module _ (S : Type 0) where
   -- what enters a routine gives no units back, where what is done before does not
   abbrev pub EntersNever : Enters S → Type 0
-  EntersNever enters = (before : Do S) → NeverRaises before → (p : Path) (r : Routine) (g : Given) → NeverRaises (enters before p r g)
+  EntersNever enters = (before : Do S) → NeverRaises before → (p : Path) (r : Routine) (g : ActualParameters) → NeverRaises (enters before p r g)
 
-  abbrev pub ActsNever : (Enters S → Here → Action S → Do S) → Type 0
+  abbrev pub ActsNever : (Enters S → Environment → Action S → Do S) → Type 0
   ActsNever act = (enters : Enters S) → EntersNever enters → ActNever S (act enters)
 
   enter_never : (r : Routine) (vs : List Value) → NeverRaises {S = S} (enter r vs)
@@ -234,13 +234,13 @@ module _ (S : Type 0) where
   unfolding leave
   leave_never r s = omega arith
 
-module _ (S : Type 0) (on : Offers S) (meant : Meanings) (act : Enters S → Here → Action S → Do S) (acts : ActsNever S act) where
+module _ (S : Type 0) (on : Offers S) (meant : Meanings) (act : Enters S → Environment → Action S → Do S) (acts : ActsNever S act) where
   call_by_never : (enters : Enters S) → EntersNever S enters → (p : Path) → CallNever S (call_by enters p)
   call_by_never enters h p r g = h (pure tt) (pure_never S (Unit {0}) tt) p r g
 
-  within_never : (enters : Enters S) → EntersNever S enters → (depth : ℕ) (p : Path) (r : Routine) (g : Given) → NeverRaises (within S on meant act enters depth p r g)
+  within_never : (enters : Enters S) → EntersNever S enters → (depth : ℕ) (p : Path) (r : Routine) (g : ActualParameters) → NeverRaises (within S on meant act enters depth p r g)
   within_never enters h depth p r g =
-      let here : Here = record { path = p; frame = depth; references = g.references } in
+      let here : Environment = record { path = p; frame = depth; references = g.references } in
       seq_never S Value (enter r g.values >> stmts S on meant (act enters) (call_by enters p) here r.body) (leave r)
       (seq_never S (Unit {0}) (enter r g.values) (stmts S on meant (act enters) (call_by enters p) here r.body) (enter_never S r g.values) (stmts_never S on meant (act enters) (acts enters h) (call_by enters p) (call_by_never enters h p) here r.body))
       (leave_never S r)

@@ -24,7 +24,7 @@ use Rattle.estelle_tree.specs.declared.tree.expression.Factor.TheFolds.{map-Sele
 use Rattle.estelle_model.specs.Types.{ordinal_of, bounds_of}
 use Rattle.estelle_model.specs.declared.meaning.Required.{Required}
 use Rattle.estelle_model.specs.Operators.{negation, signed, related, required_value}
-use Rattle.estelle_model.specs.Paths.{Path}
+use Rattle.estelle_tree.specs.Paths.{Path}
 use Rattle.estelle_model.specs.States.{Offers}
 use Rattle.estelle_model.specs.Steps.{◌>>=◌, pure, checked}
 use Rattle.estelle_model.specs.declared.meaning.Routine.{Routine}
@@ -34,14 +34,14 @@ use Rattle.estelle_model.specs.Meant.{Meanings}
 use Rattle.estelle_model.specs.declared.place.Place.{Place}
 use Rattle.estelle_model.specs.declared.place.Place.TheVariants.{Of, In}
 use Rattle.estelle_model.specs.Places.{deeper, set_value, load, child_step}
-use Rattle.estelle_model.specs.declared.place.Here.{Here}
-use Rattle.estelle_model.specs.declared.place.Given.{Given}
+use Rattle.estelle_model.specs.declared.place.Environment.{Environment}
+use Rattle.estelle_model.specs.declared.place.ActualParameters.{ActualParameters}
 use Rattle.estelle_model.specs.Expressions.{Call, Operand, Access, Selecting, Written, ordinal_step, multiplied, multiplied_host, added, added_host, computed, give_all, no_arguments, reference_at, index_step, indexed, fielded, selected, exported, behind_dot, behind_module, accessed, of_access, called, valued, required_of, designated, term_of, with_sign, simple_of, factor, selector, args, elem, expr, simple, term, variable}
 use Rattle.estelle_model.proofs.LoopLaws.{NeverRaises}
 use Rattle.estelle_model.proofs.Units.{Each, IfThere, OperandNever, AccessNever, SelectingNever, CallNever, then_never, pure_never, fail_never, checked_never, of_value_never, both_never, multiplied_never, added_never, give_all_never, member_never, set_never, load_never, child_never}
 use Rattle.estelle_model.proofs.ExpressionEquations.{factor_at, factor_made, selector_at, selector_made, args_at, args_made, elem_at, elem_made, expr_at, expr_made, simple_at, simple_made, term_at, term_made, variable_at, variable_made}
 
-module _ (S : Type 0) (on : Offers S) (meant : Meanings) (call : Call S) (calls : CallNever S call) (here : Here) where
+module _ (S : Type 0) (on : Offers S) (meant : Meanings) (call : Call S) (calls : CallNever S call) (here : Environment) where
   abbrev ON : Operand S → Type 0
   ON = OperandNever S
 
@@ -95,7 +95,7 @@ module _ (S : Type 0) (on : Offers S) (meant : Meanings) (call : Call S) (calls 
 
   called_never : (r : Routine) (es : List (Operand S)) → Each ON es → NeverRaises (called S on meant call here r es)
   unfolding called
-  called_never r es h = then_never S Given Value (give_all r.parameters es no_arguments) (λ g. call r g >>= λ v. checked (set_value (Some v))) (give_all_never S r.parameters es no_arguments h)
+  called_never r es h = then_never S ActualParameters Value (give_all r.parameters es no_arguments) (λ g. call r g >>= λ v. checked (set_value (Some v))) (give_all_never S r.parameters es no_arguments h)
       (λ g. of_value_never S Value (λ v. set_value (Some v)) (call r g) (calls r g))
 
   pub valued_never : (x : Meaning) (xs : List (Selecting S)) → Each (SelectingNever S) xs → ON (valued S on meant call here x xs)

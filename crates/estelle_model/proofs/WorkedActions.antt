@@ -5,40 +5,42 @@ use Rattle.std.specs.FinMap as map
 use Rattle.pascal_values.specs.declared.fault.Fault.TheVariants as fault
 use Rattle.estelle_tree.specs.declared.tree.name.Name.{Name}
 use Rattle.estelle_model.specs.declared.job.Guard.TheVariants.{On}
-use Rattle.estelle_model.specs.Paths.{Path}
+use Rattle.estelle_tree.specs.Paths.{Path}
 use Rattle.estelle_model.specs.Core.{Instance}
 use Rattle.estelle_model.specs.States.{Offers}
 use Rattle.estelle_model.specs.Steps.{Running}
 use Rattle.estelle_model.specs.declared.meaning.Meaning.TheVariants.{Module, Ip}
 use Rattle.estelle_model.specs.Meant.{Meanings}
 use Rattle.estelle_model.specs.Places.{child_step}
-use Rattle.estelle_model.specs.declared.place.Here.{Here}
+use Rattle.estelle_model.specs.declared.place.Environment.{Environment}
 use Rattle.estelle_model.specs.Calls.{nested}
 use Rattle.estelle_model.specs.Subject.{Subject, Child}
-use Rattle.estelle_model.specs.Actions.{act, at, is_bound, is_upper, release, connect, detach, init}
+use Rattle.estelle_model.specs.InteractionPoints.{point, external_at, may_connect}
+use Rattle.estelle_model.specs.Actions.{act, at, is_bound, is_upper, may_hold, release, connect, detach, init}
 use Rattle.estelle_model.specs.Clauses.{between, from_on}
 use Rattle.estelle_model.proofs.Trees as tree
 use Rattle.estelle_model.proofs.WorkedStatements.{spend_some}
 
-module _ (S : Type 0) (on : Offers S) (subject : Subject) (meant : Meanings) (here : Here) (s : Running S) where
+module _ (S : Type 0) (on : Offers S) (subject : Subject) (meant : Meanings) (here : Environment) (s : Running S) where
   -- release x, where x is empty
   pub release_empty : (m : ℕ) (i : Instance) → map.get (on.core s.state).instances here.path ≡ Some i → slice_get i.module_variables m ≡ Some None → release S on subject meant here (Module m) s ≡ Err (fault.NoModule, s.left)
   unfolding child_step
   release_empty m i there empty = simp (there, empty)
 
   -- init x with a body without parameters, where x holds an instance: the unit is taken
-  pub init_taken : (m n : ℕ) (i : Instance) (p : Path) (new : Child) → s.left ≡ suc n → map.get (on.core s.state).instances here.path ≡ Some i → slice_get i.module_variables m ≡ Some (Some p) → new.parameters ≡ []
-      → init S on subject meant (nested S on meant (act S on subject meant) 1) here m new [] s ≡ Err (fault.ModuleTaken, n)
-  init_taken m n i p new left there full none = simp (there, full, none, spend_some s n left)
+  pub init_taken : (m k n : ℕ) (i : Instance) (p : Path) (new : Child) → s.left ≡ suc n → map.get (on.core s.state).instances here.path ≡ Some i → slice_get i.module_variables m ≡ Some (Some p) → new.parameters ≡ []
+      → may_hold subject i.body m k ≡ true
+      → init S on subject meant (nested S on meant (act S on subject meant) 1) here m k new [] s ≡ Err (fault.ModuleTaken, n)
+  init_taken m k n i p new left there full none allowed = simp (there, full, none, allowed, spend_some s n left)
 
   -- connect p to q, where p is in a connection or a lower end
-  pub connect_taken : (p q : Name) (k n : ℕ) → meant p ≡ Ip k → meant q ≡ Ip n → is_bound (at here.path k) (on.core s.state).links ≡ true
+  pub connect_taken : (p q : Name) (k n : ℕ) → meant p ≡ Ip k → meant q ≡ Ip n → may_connect subject (on.core s.state).instances here.path (at here.path k) (at here.path n) ≡ true → is_bound (at here.path k) (on.core s.state).links ≡ true
       → connect S on subject meant here (record { name = p; part = None; span = tree.nowhere }) (record { name = q; part = None; span = tree.nowhere }) s ≡ Err (fault.LinkTaken, s.left)
-  connect_taken p q k n is_p is_q bound = simp (is_p, is_q, bound)
+  connect_taken p q k n is_p is_q allowed bound = simp (is_p, is_q, allowed, bound)
 
   -- detach p, where p is no upper end
-  pub detach_absent : (p : Name) (k : ℕ) → meant p ≡ Ip k → is_upper (at here.path k) (on.core s.state).links ≡ false → detach S on subject meant here p s ≡ Err (fault.LinkAbsent, s.left)
-  detach_absent p k is_p free = simp (is_p, free)
+  pub detach_absent : (p : Name) (k : ℕ) → meant p ≡ Ip k → external_at (point subject (on.core s.state).instances (at here.path k)) ≡ true → is_upper (at here.path k) (on.core s.state).links ≡ false → detach S on subject meant here p s ≡ Err (fault.LinkAbsent, s.left)
+  detach_absent p k is_p external free = simp (is_p, external, free)
 
   -- ---- delays
 

@@ -7,7 +7,7 @@ use Rattle.pascal_values.specs.declared.value.Value.TheVariants.{outs-Int, outs-
 use Rattle.estelle_tree.specs.declared.tree.expression.Expr.{Expr}
 use Rattle.estelle_tree.specs.declared.tree.statement.Stmt.{Stmt}
 use Rattle.estelle_model.specs.declared.denoter.Denoter.TheVariants.{outs-Array as outs-ArrayType}
-use Rattle.estelle_model.specs.Paths.{Path}
+use Rattle.estelle_tree.specs.Paths.{Path}
 use Rattle.estelle_model.specs.States.{Offers}
 use Rattle.estelle_model.specs.Steps.{Running, Outcome, Do, and_then, pure, fail, spend}
 use Rattle.estelle_model.specs.declared.meaning.Passing.TheVariants.{ByPlace}
@@ -15,7 +15,7 @@ use Rattle.estelle_model.specs.declared.meaning.Routine.{Routine}
 use Rattle.estelle_model.specs.declared.meaning.Meaning.TheVariants.{Local, Var, Called}
 use Rattle.estelle_model.specs.Meant.{Meanings}
 use Rattle.estelle_model.specs.Places.{load, store, put}
-use Rattle.estelle_model.specs.declared.place.Here.{Here}
+use Rattle.estelle_model.specs.declared.place.Environment.{Environment}
 use Rattle.estelle_model.specs.Expressions.{called, no_arguments}
 use Rattle.estelle_model.specs.Statements.{Action}
 use Rattle.estelle_model.specs.Calls.{Enters, call_by, nested, within, leave, max_depth}
@@ -60,7 +60,7 @@ endless = record { parameters = []; locals = []; result = None; body = tree.sequ
 abbrev pub idle : Routine
 idle = record { parameters = []; locals = []; result = None; body = tree.sequence (tree.empty ∷ []) }
 
-module _ (S : Type 0) (on : Offers S) (act : Enters S → Here → Action S → Do S) (path : Path) (st : S) where
+module _ (S : Type 0) (on : Offers S) (act : Enters S → Environment → Action S → Do S) (path : Path) (st : S) where
   abbrev pub running : List Value → ℕ → Running S
   running vs n = record { state = st; frames = pascal.Fields vs ∷ []; left = n }
 

@@ -18,12 +18,12 @@ use Rattle.estelle_model.specs.Steps.{Running, Outcome, Step, ◌>>=◌, pure, c
 use Rattle.estelle_model.specs.declared.meaning.Meaning.{Meaning}
 use Rattle.estelle_model.specs.declared.meaning.Meaning.TheVariants.{Constant}
 use Rattle.estelle_model.specs.Meant.{Meanings}
-use Rattle.estelle_model.specs.declared.place.Here.{Here}
+use Rattle.estelle_model.specs.declared.place.Environment.{Environment}
 use Rattle.estelle_model.specs.Expressions.{Call, Operand, computed, multiplied, both, conjunction, disjunction, valued}
 use Rattle.estelle_model.proofs.Trees as tree
 use Rattle.estelle_model.proofs.Forms.{mean, mean_factor, number_is, parenthesised_is, access_is, product_is, sum_is, signed_is, signed_alone_is}
 
-module _ (S : Type 0) (on : Offers S) (meant : Meanings) (call : Call S) (here : Here) (s : Running S) where
+module _ (S : Type 0) (on : Offers S) (meant : Meanings) (call : Call S) (here : Environment) (s : Running S) where
   -- what an expression comes to
   abbrev pub value : Expr → Outcome S Value
   value e = (mean S on meant call here e).value s

@@ -14,13 +14,13 @@ use Rattle.estelle_model.specs.declared.denoter.Denoter.TheVariants.{outs-Ordina
 use Rattle.estelle_model.specs.Types.{whole}
 use Rattle.estelle_model.specs.declared.meaning.Required.TheVariants.{Succ, Chr}
 use Rattle.estelle_model.specs.Operators.{required_value, one_member, members_from, related}
-use Rattle.estelle_model.specs.Paths.{Path}
+use Rattle.estelle_tree.specs.Paths.{Path}
 use Rattle.estelle_model.specs.States.{Offers}
 use Rattle.estelle_model.specs.Steps.{Running, Outcome, Do}
 use Rattle.estelle_model.specs.declared.meaning.Meaning.{Meaning}
 use Rattle.estelle_model.specs.declared.meaning.Meaning.TheVariants.{Local, RequiredFunction}
 use Rattle.estelle_model.specs.Places.{load}
-use Rattle.estelle_model.specs.declared.place.Here.{Here}
+use Rattle.estelle_model.specs.declared.place.Environment.{Environment}
 use Rattle.estelle_model.specs.Expressions.{Call}
 use Rattle.estelle_model.specs.Statements.{Action}
 use Rattle.estelle_model.proofs.Trees as tree
@@ -29,11 +29,11 @@ use Rattle.estelle_model.proofs.Forms.{mean, run, alone_is, access_is, number_is
 use Rattle.estelle_model.proofs.Points.{number_at, function_at, set_at, member_at, range_at, relation_at, number_factor_at, set_factor_at, case_at}
 use Rattle.estelle_model.proofs.WorkedStatements.{meanings}
 
-module _ (S : Type 0) (on : Offers S) (act : Here → Action S → Do S) (call : Call S) (path : Path) (st : S) where
+module _ (S : Type 0) (on : Offers S) (act : Environment → Action S → Do S) (call : Call S) (path : Path) (st : S) where
   abbrev pub running : List Value → ℕ → Running S
   running vs n = record { state = st; frames = pascal.Fields vs ∷ []; left = n }
 
-  abbrev pub here : Here
+  abbrev pub here : Environment
   here = record { path = path; frame = 0; references = [] }
 
   abbrev pub value : List Meaning → Expr → List Value → ℕ → Outcome S Value

@@ -23,7 +23,7 @@ use Rattle.estelle_model.specs.States.{Offers}
 use Rattle.estelle_model.specs.declared.meaning.Meaning.TheVariants.{Own, State}
 use Rattle.estelle_model.specs.Meant.{Meanings}
 use Rattle.estelle_model.specs.Denoted.{Section, named_type}
-use Rattle.estelle_model.specs.Bodies.{Standing, Way, bodies, bodies_declare}
+use Rattle.estelle_model.specs.Bodies.{BodyAlone, Way, bodies, bodies_declare}
 use Rattle.estelle_model.specs.Names.{meant_by, declared}
 use Rattle.estelle_model.specs.Places.{load, store, put}
 use Rattle.estelle_model.specs.Calls.{leave}
@@ -43,11 +43,11 @@ abbrev variable : Section
 variable = (tree.name 10 ∷ [], record { denotes = λ known. named_type known integer; declares = [] })
 
 -- the body, without its transition
-abbrev pub counter : Standing
+abbrev pub counter : BodyAlone
 counter = record {
   name = None;
   header = None;
-  brought = record { names = []; variables = variable ∷ []; module_variables = []; ips = []; states = tree.name 11 ∷ [] } ∷ [];
+  brought = record { names = []; variables = variable ∷ []; module_variables = []; module_headers = []; ips = []; states = tree.name 11 ∷ [] } ∷ [];
   init = None;
   trans = [];
 }

@@ -16,7 +16,7 @@ use Rattle.estelle_model.specs.declared.denoter.Denoter.TheVariants as denoter
 use Rattle.estelle_model.specs.declared.denoter.Denoter.TheVariants.{outs-Ordinal, outs-Array as outs-ArrayType}
 use Rattle.estelle_model.specs.Types.{whole, item_of}
 use Rattle.estelle_model.specs.Operators.{bool_of, divided}
-use Rattle.estelle_model.specs.Paths.{Path}
+use Rattle.estelle_tree.specs.Paths.{Path}
 use Rattle.estelle_model.specs.States.{Offers}
 use Rattle.estelle_model.specs.Steps.{Running, Outcome, Step, Do, and_then, pure, checked_at, spend}
 use Rattle.estelle_model.specs.declared.meaning.Meaning.{Meaning}
@@ -26,7 +26,7 @@ use Rattle.estelle_model.specs.Names.{or_other}
 use Rattle.estelle_model.specs.declared.place.Place.TheVariants.{In}
 use Rattle.estelle_model.specs.Places.{load, store, store_ordinal, put}
 use Rattle.estelle_model.specs.Loops.{count_loop, while_loop, while_turns}
-use Rattle.estelle_model.specs.declared.place.Here.{Here}
+use Rattle.estelle_model.specs.declared.place.Environment.{Environment}
 use Rattle.estelle_model.specs.Expressions.{Call, Operand, Access, Selecting, computed, both, assigned, index_step, ordinal_step, bool_step}
 use Rattle.estelle_model.specs.Statements.{Action, assign_to, count_over}
 use Rattle.estelle_model.proofs.Trees as tree
@@ -48,12 +48,12 @@ pub spend_some : {S : Type 0} (s : Running S) (n : ℕ) → s.left ≡ suc n →
 unfolding spend
 spend_some s n e = grind (arith)
 
-module _ (S : Type 0) (on : Offers S) (act : Here → Action S → Do S) (call : Call S) (path : Path) (st : S) where
+module _ (S : Type 0) (on : Offers S) (act : Environment → Action S → Do S) (call : Call S) (path : Path) (st : S) where
   -- a block runs with these variables, and so many units are left
   abbrev pub running : List Value → ℕ → Running S
   running vs n = record { state = st; frames = pascal.Fields vs ∷ []; left = n }
 
-  abbrev pub here : Here
+  abbrev pub here : Environment
   here = record { path = path; frame = 0; references = [] }
 
   -- what an expression comes to

@@ -3,13 +3,13 @@ use Rattle.std.specs.Prelude.{ℕ, List, [], ◌∷◌, Ok}
 use Rattle.pascal_values.specs.declared.value.Value.{Value}
 use Rattle.pascal_values.specs.declared.value.Value.TheVariants as pascal
 use Rattle.estelle_tree.specs.declared.tree.expression.Expr.{Expr}
-use Rattle.estelle_model.specs.Paths.{Path}
+use Rattle.estelle_tree.specs.Paths.{Path}
 use Rattle.estelle_model.specs.States.{Offers}
 use Rattle.estelle_model.specs.Steps.{Running, Step, Do, ◌>>=◌, ◌>>◌, pure}
 use Rattle.estelle_model.specs.declared.meaning.Routine.{Routine}
 use Rattle.estelle_model.specs.Meant.{Meanings}
-use Rattle.estelle_model.specs.declared.place.Here.{Here}
-use Rattle.estelle_model.specs.declared.place.Given.{Given}
+use Rattle.estelle_model.specs.declared.place.Environment.{Environment}
+use Rattle.estelle_model.specs.declared.place.ActualParameters.{ActualParameters}
 use Rattle.estelle_model.specs.Expressions.{expr}
 use Rattle.estelle_model.specs.Statements.{Action}
 use Rattle.estelle_model.specs.Calls.{Enters, call_by, within, nested, max_depth}
@@ -19,7 +19,7 @@ abbrev pub fresh : {S : Type 0} → S → ℕ → Running S
 fresh s budget = record { state = s; frames = []; left = budget }
 
 -- the values of the interaction that is received
-abbrev pub given_values : List Value → Given
+abbrev pub given_values : List Value → ActualParameters
 given_values values = record { values = values; references = [] }
 
 -- a frame with these values alone
@@ -30,7 +30,7 @@ enter_values values = λ s. Ok (tt, record s { frames = pascal.Fields values ∷
 abbrev pub leave_values : {S : Type 0} → Value → Step S Value
 leave_values v = λ s. Ok (v, record s { frames = [] })
 
-module _ (S : Type 0) (on : Offers S) (meant : Meanings) (act : Enters S → Here → Action S → Do S) where
+module _ (S : Type 0) (on : Offers S) (meant : Meanings) (act : Enters S → Environment → Action S → Do S) where
   -- what a block calls is nested one deep
   abbrev pub from_block : Enters S
   from_block = nested S on meant act max_depth

@@ -7,13 +7,13 @@ use Rattle.pascal_values.specs.Values.{parts_of}
 use Rattle.pascal_values.specs.Shapes.{blank_of}
 use Rattle.estelle_model.specs.declared.denoter.Denoter.{Denoter}
 use Rattle.estelle_model.specs.Types.{shape_of}
-use Rattle.estelle_model.specs.Paths.{Path}
+use Rattle.estelle_tree.specs.Paths.{Path}
 use Rattle.estelle_model.specs.States.{Offers}
 use Rattle.estelle_model.specs.Steps.{Step, Do, ◌>>◌, pure, fail, spend}
 use Rattle.estelle_model.specs.declared.meaning.Routine.{Routine}
 use Rattle.estelle_model.specs.Meant.{Meanings, result_types, result_number}
-use Rattle.estelle_model.specs.declared.place.Here.{Here}
-use Rattle.estelle_model.specs.declared.place.Given.{Given}
+use Rattle.estelle_model.specs.declared.place.Environment.{Environment}
+use Rattle.estelle_model.specs.declared.place.ActualParameters.{ActualParameters}
 use Rattle.estelle_model.specs.Expressions.{Call}
 use Rattle.estelle_model.specs.Statements.{Action, stmts}
 
@@ -42,15 +42,15 @@ max_depth = 200
 
 -- runs a routine, or the initialization of a new child, for an instance; before it begins, something is done. It takes a unit, and then tests the depth.
 abbrev pub Enters : Type 0 → Type 0
-Enters S = Do S → Path → Routine → Given → Step S Value
+Enters S = Do S → Path → Routine → ActualParameters → Step S Value
 
 -- a call does nothing before it begins
 abbrev pub call_by : {S : Type 0} → Enters S → Path → Call S
 call_by enters path r given = enters (pure tt) path r given
 
-module _ (S : Type 0) (on : Offers S) (meant : Meanings) (act : Enters S → Here → Action S → Do S) where
+module _ (S : Type 0) (on : Offers S) (meant : Meanings) (act : Enters S → Environment → Action S → Do S) where
   -- the statements of a routine in a frame of its own, at a depth
-  abbrev pub within : Enters S → ℕ → Path → Routine → Given → Step S Value
+  abbrev pub within : Enters S → ℕ → Path → Routine → ActualParameters → Step S Value
   within enters depth path r given =
       enter r given.values
       >> stmts S on meant (act enters) (call_by enters path) (record { path = path; frame = depth; references = given.references }) r.body

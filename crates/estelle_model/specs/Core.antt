@@ -3,7 +3,7 @@ use Rattle.std.specs.Prelude.{ℕ, List, Option}
 use Rattle.std.specs.FinMap as map
 use Rattle.pascal_values.specs.declared.value.Value.{Value}
 use Rattle.estelle_tree.specs.declared.link.Link.{Link}
-use Rattle.estelle_model.specs.Paths.{Path, path_cmp}
+use Rattle.estelle_tree.specs.Paths.{Path, path_cmp}
 
 -- an instance of a module; a module variable is empty or holds a child
 pub record Instance : Type 0 where

@@ -1,5 +1,7 @@
 -- What definitions, routines, blocks and headers declare (ISO 7185, 6.2 and 6.6; ISO/IEC 9074).
-use Rattle.std.specs.Prelude.{ℕ, ◌+◌, not, if◌then◌else◌, List, [], ◌∷◌, ◌++◌, length, map, replicate, filter, flat_map, option_to_list, Option, Some, None}
+use Rattle.std.specs.Prelude.{ℕ, ◌+◌, Bool, true, false, not, if◌then◌else◌, List, [], ◌∷◌, ◌++◌, length, map, replicate, filter, flat_map, option_to_list, Option, Some, None}
+use Rattle.std.specs.List.{list_any}
+use Rattle.std.specs.Str.{bytes_eq}
 use Rattle.estelle_tree.specs.declared.tree.name.Name.{Name}
 use Rattle.estelle_tree.specs.declared.tree.declaration.ConstDef.{ConstDef}
 use Rattle.estelle_tree.specs.declared.tree.declaration.TypeDef.{TypeDef}
@@ -14,14 +16,18 @@ use Rattle.estelle_tree.specs.declared.tree.clause.Block.{Block}
 use Rattle.estelle_tree.specs.declared.tree.clause.AnyDom.{AnyDom}
 use Rattle.estelle_tree.specs.declared.tree.clause.Clause.{Clause}
 use Rattle.estelle_tree.specs.declared.tree.clause.Clause.TheVariants as clause
-use Rattle.estelle_tree.specs.declared.tree.specification.Channel.{Channel}
+use Rattle.estelle_tree.specs.declared.tree.specification.Channel.{Channel as ChannelTree}
+use Rattle.estelle_tree.specs.declared.tree.specification.InterGroup.{InterGroup}
 use Rattle.estelle_tree.specs.declared.tree.specification.Inter.{Inter}
 use Rattle.estelle_tree.specs.declared.tree.specification.Params.{Params}
 use Rattle.estelle_model.specs.declared.denoter.Denoter.{Denoter}
 use Rattle.estelle_model.specs.declared.meaning.Passing.{Passing}
 use Rattle.estelle_model.specs.declared.meaning.Passing.TheVariants.{ByValue, ByPlace}
 use Rattle.estelle_model.specs.declared.meaning.Meaning.{Meaning}
-use Rattle.estelle_model.specs.declared.meaning.Meaning.TheVariants.{TypeName, Local, Var, Called, Interaction}
+use Rattle.estelle_model.specs.declared.meaning.Meaning.TheVariants.{TypeName, Local, Var, Called, Channel, Role, Interaction}
+use Rattle.estelle_model.specs.declared.meaning.Role.{Role as ChannelRole}
+use Rattle.estelle_model.specs.declared.meaning.Role.TheVariants.{First, Second}
+use Rattle.estelle_model.specs.declared.meaning.Senders.{Senders}
 use Rattle.estelle_model.specs.Meant.{Meanings}
 use Rattle.estelle_model.specs.Constants.{const_meaning}
 use Rattle.estelle_model.specs.Denoted.{Declarations, declare, named_type, ordinal_declares, Section, types_declare, sections_declare, section_types, typing, section, of_named_type}
@@ -93,17 +99,49 @@ routine_declares r =
 abbrev pub parameter_sections : Option Params → List Section
 parameter_sections ps = flat_map (λ x. map (λ g. of_named_type g.names.names g.type_name) x.groups) (option_to_list ps)
 
--- the parameters of an interaction are the first variables of the frame in which it is received
-abbrev pub inter_declares : Inter → Declarations
-inter_declares x = sections_declare local 0 (parameter_sections x.params) ++ declare x.name (λ known. Interaction (section_types known (parameter_sections x.params))) ∷ []
+-- the other role of a channel
+abbrev pub opposite : ChannelRole → ChannelRole
+opposite First = Second
+opposite Second = First
 
-abbrev pub channel_declares : Channel → Declarations
-channel_declares c = flat_map (λ g. flat_map inter_declares g.inters) c.groups
+-- the role that a name means; what is none counts as the first
+abbrev pub role_at : Meaning → ChannelRole
+role_at (Role r) = r
+role_at _ = First
+
+-- the channel that a name means, by its place; what is none counts as the place 0
+abbrev pub channel_at : Meaning → ℕ
+channel_at (Channel at) = at
+channel_at _ = 0
+
+-- the roles behind `by`, of the two that the channel names
+abbrev pub senders : ChannelTree → InterGroup → Senders
+senders c g = record {
+  first = list_any (λ x. bytes_eq x.word c.first_role.word) g.roles.names;
+  second = list_any (λ x. bytes_eq x.word c.second_role.word) g.roles.names;
+}
+
+-- the parameters of an interaction are the first variables of the frame in which it is received
+abbrev pub inter_declares : ℕ → Senders → Inter → Declarations
+inter_declares channel by x =
+    sections_declare local 0 (parameter_sections x.params)
+    ++ declare x.name (λ known. Interaction (record { channel = channel; senders = by; parameters = section_types known (parameter_sections x.params) })) ∷ []
+
+abbrev pub group_declares : ChannelTree → InterGroup → Declarations
+group_declares c g = flat_map (inter_declares c.name.span.start (senders c g)) g.inters
+
+-- a channel is known by the place of its name
+abbrev pub channel_declares : ChannelTree → Declarations
+channel_declares c =
+    declare c.name (λ known. Channel c.name.span.start)
+    ∷ declare c.first_role (λ known. Role First)
+    ∷ declare c.second_role (λ known. Role Second)
+    ∷ flat_map (group_declares c) c.groups
 
 -- ---- blocks and clauses
 
 abbrev pub types_received : Meaning → List Denoter
-types_received (Interaction ts) = ts
+types_received (Interaction kind) = kind.parameters
 types_received _ = []
 
 -- the interaction of a `when` clause

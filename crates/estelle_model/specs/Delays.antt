@@ -1,45 +1,19 @@
 -- Time: what a delay lets a transition do, and how timers start and are kept (ISO/IEC 9074: `delay` clauses).
-use Rattle.std.specs.Prelude.{ℕ, ◌+◌, ◌-◌, ◌^◌, min, nat_le, Bool, true, false, not, ◌&&◌, ◌||◌, List, length, map as each, filter, fold, flat_map, is_some, unwrap_or, Option, Some, None}
+use Rattle.std.specs.Prelude.{ℕ, Bool, true, false, not, ◌&&◌, ◌||◌, List, [], ◌∷◌, length, map as each, filter, flat_map, is_some, Option, Some, None}
 use Rattle.std.specs.List.{list_any, range_with_len}
 use Rattle.std.specs.FinMap as map
-use Rattle.estelle_model.specs.declared.event.Pair.{Pair}
+use Rattle.estelle_tree.specs.declared.transition.Pair.{Pair}
+use Rattle.estelle_tree.specs.declared.transition.Wanted.{Wanted}
+use Rattle.estelle_tree.specs.Timers.{pair, low_is_over, high_is_over, renewed}
 use Rattle.estelle_model.specs.declared.job.Guard.{Guard}
 use Rattle.estelle_model.specs.declared.job.Guard.TheVariants.{Off, On, Faulted}
-use Rattle.estelle_model.specs.Paths.{Path, is_inside}
+use Rattle.estelle_tree.specs.Paths.{Path, is_inside}
 use Rattle.estelle_model.specs.Core.{Instance}
 use Rattle.estelle_model.specs.Bodies.{bodies}
 use Rattle.estelle_model.specs.Transitions.{Transition}
 use Rattle.estelle_model.specs.Subject.{Subject, transitions}
-use Rattle.estelle_model.specs.Situation.{Situation, Timer, pair_cmp}
+use Rattle.estelle_model.specs.Situation.{Situation}
 use Rattle.estelle_model.specs.Firing.{transition_at, guard}
-
-abbrev pub pair : Path → ℕ → Pair
-pair m n = record { path = m; trans = n }
-
--- ---- moments
-
--- the last moment that there is
-abbrev pub last_moment : ℕ
-last_moment = 2 ^ 64 - 1
-
--- a later moment counts as the last
-abbrev pub cap : ℕ → ℕ
-cap n = min n last_moment
-
--- the time after which a transition may fire is over
-abbrev pub low_is_over : ℕ → Option Timer → Bool
-low_is_over now None = false
-low_is_over now (Some t) = nat_le (cap (t.start + t.low)) now
-
--- a delay that ends is over
-abbrev pub ends_by : ℕ → ℕ → Option ℕ → Bool
-ends_by now start None = false
-ends_by now start (Some high) = nat_le (cap (start + high)) now
-
--- the time after which a transition must be counted is over
-abbrev pub high_is_over : ℕ → Option Timer → Bool
-high_is_over now None = false
-high_is_over now (Some t) = ends_by now t.start t.high
 
 -- ---- transitions with a delay
 
@@ -78,16 +52,15 @@ delayed_of s e = filter (λ p. is_delayed (transition_at s p.trans (Some e.1))) 
 abbrev pub delayed_in : Subject → Situation → Path → List Pair
 delayed_in s g system = flat_map (delayed_of s) (map.entries (map.retain_keys g.core.instances (is_inside system)))
 
--- an enabled transition has a timer: the one that runs, or one that starts now
-abbrev pub with_timer : ℕ → Pair → Option Timer → Guard → map.FinMap pair_cmp Timer → map.FinMap pair_cmp Timer
-with_timer now p runs (On low high) timers = map.insert timers p (unwrap_or runs (record { start = now; low = low; high = high }))
-with_timer now p runs _ timers = timers
+-- an enabled transition with a delay wants a timer
+abbrev pub wanted_by : Pair → Guard → List Wanted
+wanted_by p (On low high) = record { path = p.path; trans = p.trans; low = low; high = high } ∷ []
+wanted_by p _ = []
+
+-- the enabled transitions with a delay at and below a system, in the order of paths and then of transitions
+abbrev pub wanted : Subject → ℕ → Situation → Path → List Wanted
+wanted s budget g system = flat_map (λ p. wanted_by p (guard s budget g p.path p.trans)) (delayed_in s g system)
 
 -- The moment is set. At and below the system the timers are those of the enabled transitions with a delay; elsewhere they stay.
 abbrev pub renew : Subject → ℕ → Situation → Path → ℕ → Situation
-renew s budget g system now = record g {
-  now = now;
-  timers = fold (λ timers p. with_timer now p (map.get g.timers p) (guard s budget g p.path p.trans) timers)
-      (map.retain_keys g.timers (λ p. not (is_inside system p.path)))
-      (delayed_in s g system);
-}
+renew s budget g system now = record g { now = now; timers = renewed system now (wanted s budget g system) g.timers }

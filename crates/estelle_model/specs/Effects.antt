@@ -5,8 +5,8 @@ use Rattle.pascal_values.specs.declared.value.Value.{Value}
 use Rattle.pascal_values.specs.Values.{changed_at, with_part}
 use Rattle.estelle_tree.specs.declared.link.IpAddr.{IpAddr}
 use Rattle.estelle_tree.specs.declared.link.Link.{Link}
-use Rattle.estelle_model.specs.Paths.{Path, child, is_inside}
-use Rattle.estelle_model.specs.Links.{joins, is_upper_of, touches, connection, attachment}
+use Rattle.estelle_tree.specs.Paths.{Path, child, is_inside}
+use Rattle.estelle_tree.specs.Links.{joins, is_upper_of, touches, connection, attachment}
 use Rattle.estelle_model.specs.Core.{Instance, Instances, Core}
 
 -- the effects of the statements of Estelle (ISO/IEC 9074)

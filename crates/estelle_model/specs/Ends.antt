@@ -6,7 +6,7 @@ use Rattle.estelle_model.specs.declared.event.Event.TheVariants.{Fire, Fault}
 use Rattle.estelle_model.specs.declared.event.End.{End}
 use Rattle.estelle_model.specs.declared.event.End.TheVariants as end
 use Rattle.estelle_model.specs.declared.job.Guard.TheVariants.{Off}
-use Rattle.estelle_model.specs.Paths.{Path}
+use Rattle.estelle_tree.specs.Paths.{Path}
 use Rattle.estelle_model.specs.Subject.{Subject}
 use Rattle.estelle_model.specs.Situation.{Situation}
 use Rattle.estelle_model.specs.Firing.{guard}

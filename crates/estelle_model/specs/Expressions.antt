@@ -40,12 +40,12 @@ use Rattle.estelle_model.specs.Meant.{Meanings, result_number}
 use Rattle.estelle_model.specs.declared.place.Place.{Place}
 use Rattle.estelle_model.specs.declared.place.Place.TheVariants.{Of, In}
 use Rattle.estelle_model.specs.Places.{deeper, set_value, load, child_step}
-use Rattle.estelle_model.specs.declared.place.Here.{Here}
-use Rattle.estelle_model.specs.declared.place.Given.{Given}
+use Rattle.estelle_model.specs.declared.place.Environment.{Environment}
+use Rattle.estelle_model.specs.declared.place.ActualParameters.{ActualParameters}
 
 -- what a call of a routine does, and a function's result
 abbrev pub Call : Type 0 → Type 0
-Call S = Routine → Given → Step S Value
+Call S = Routine → ActualParameters → Step S Value
 
 -- an expression: its value, the host of its type where that is ordinal, and its place where it is a variable
 pub record Operand (S : Type 0) : Type 0 where
@@ -125,7 +125,7 @@ abbrev pub place_of_operand : {S : Type 0} → Option (Step S Place) → Step S 
 place_of_operand None = fail Unset
 place_of_operand (Some p) = p
 
-abbrev pub give : {S : Type 0} → Passing → Operand S → Given → Step S Given
+abbrev pub give : {S : Type 0} → Passing → Operand S → ActualParameters → Step S ActualParameters
 give (ByValue t) e g = do
   v ← e.value
   ok ← checked (fit_of (shape_of t) v)
@@ -133,13 +133,13 @@ give (ByValue t) e g = do
 give ByPlace e g = place_of_operand e.place >>= λ p. pure (record g { references = g.references ++ p ∷ [] })
 
 -- the arguments from left to right
-abbrev pub give_all : {S : Type 0} → List Passing → List (Operand S) → Given → Step S Given
+abbrev pub give_all : {S : Type 0} → List Passing → List (Operand S) → ActualParameters → Step S ActualParameters
 give_all [] [] g = pure g
 give_all (p ∷ ps) (e ∷ es) g = give p e g >>= λ h. give_all ps es h
 give_all [] (e ∷ es) g = fail Unset
 give_all (p ∷ ps) [] g = fail Unset
 
-abbrev pub no_arguments : Given
+abbrev pub no_arguments : ActualParameters
 no_arguments = record { values = []; references = [] }
 
 -- ---- set constructors
@@ -167,7 +167,7 @@ reference_at (Some p) = Ok p
 
 -- ---- trees
 
-module _ (S : Type 0) (on : Offers S) (meant : Meanings) (call : Call S) (here : Here) where
+module _ (S : Type 0) (on : Offers S) (meant : Meanings) (call : Call S) (here : Environment) where
   -- an index of an array, tested directly after its evaluation
   abbrev pub index_step : Access S → Operand S → Step S Place
   index_step a e = do

@@ -7,14 +7,14 @@ use Rattle.pascal_values.specs.declared.value.Value.{Value}
 use Rattle.estelle_model.specs.declared.effect.Out.{Out}
 use Rattle.estelle_model.specs.declared.job.Guard.{Guard}
 use Rattle.estelle_model.specs.declared.job.Guard.TheVariants.{Off}
-use Rattle.estelle_model.specs.Paths.{Path, path_cmp}
+use Rattle.estelle_tree.specs.Paths.{Path, path_cmp}
 use Rattle.estelle_model.specs.Core.{Instance}
 use Rattle.estelle_model.specs.Steps.{Outcome}
 use Rattle.estelle_model.specs.Blocks.{fresh}
 use Rattle.estelle_model.specs.Transitions.{Transition, When}
 use Rattle.estelle_model.specs.Subject.{Subject, body, transition, new_instance}
 use Rattle.estelle_model.specs.Situation.{Situation, Acting, on_situation}
-use Rattle.estelle_model.specs.Queues.{Found, NotNeeded, Head, Absent, found, without_head}
+use Rattle.estelle_model.specs.Queues.{Found, NotNeeded, Head, Absent, found, is_named, received, without_head}
 use Rattle.estelle_model.specs.Clauses.{fire_step, start_step, guard_step, answered}
 
 -- ---- firings
@@ -55,7 +55,7 @@ fire_found s budget g p t Absent = Undefined
 
 abbrev pub fire_of : Subject → ℕ → Situation → Path → Option Transition → Firing
 fire_of s budget g p None = Undefined
-fire_of s budget g p (Some t) = fire_found s budget g p t (found s g p t.when)
+fire_of s budget g p (Some t) = fire_found s budget g p t (received s g p t.when)
 
 -- the transition with a number of an instance, if there is one
 abbrev pub transition_at : Subject → ℕ → Option Instance → Option Transition
@@ -107,7 +107,7 @@ guard_with s budget g p t timed values = answered (guard_step Acting on_situatio
 
 abbrev pub guard_found : Subject → ℕ → Situation → Path → Transition → Bool → Found → Guard
 guard_found s budget g p t timed NotNeeded = guard_with s budget g p t timed []
-guard_found s budget g p t timed (Head i) = guard_with s budget g p t timed i.values
+guard_found s budget g p t timed (Head i) = if is_named i t.when then guard_with s budget g p t timed i.values else Off
 guard_found s budget g p t timed Absent = Off
 
 abbrev pub guard_of : Subject → ℕ → Situation → Path → Bool → Instance → Option Transition → Guard

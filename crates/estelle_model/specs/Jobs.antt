@@ -12,15 +12,15 @@ use Rattle.estelle_model.specs.declared.job.Job.{Job}
 use Rattle.estelle_model.specs.declared.job.Done.{Done}
 use Rattle.estelle_model.specs.declared.job.Outcome.{Outcome}
 use Rattle.estelle_model.specs.declared.job.Outcome.TheVariants as outcome
-use Rattle.estelle_model.specs.Paths.{Path, child, parent_of, last_of, is_inside}
-use Rattle.estelle_model.specs.Links.{is_connection}
+use Rattle.estelle_tree.specs.Paths.{Path, child, parent_of, last_of, is_inside}
+use Rattle.estelle_tree.specs.Links.{is_connection}
 use Rattle.estelle_model.specs.Core.{Instance, Instances, Core}
 use Rattle.estelle_model.specs.Effects.{Effect, Output, Connect, Disconnect, Attach, Detach, Create, Remove}
 use Rattle.estelle_model.specs.Transitions.{Transition}
 use Rattle.estelle_model.specs.Subject.{Subject, child_of, ips_of}
 use Rattle.estelle_model.specs.Actions.{is_bound, is_connected, is_upper, at, count_from}
 use Rattle.estelle_model.specs.Situation.{Situation, Acting, acting_after}
-use Rattle.estelle_model.specs.Queues.{Found, NotNeeded, Head, Absent, found}
+use Rattle.estelle_model.specs.Queues.{Found, NotNeeded, Head, Absent, found, received}
 use Rattle.estelle_model.specs.Firing.{Firing, Ran, Failed, begun, untimed, taken, transition_at, fire, start, bare}
 use Rattle.estelle_model.specs.Legal.{AreLegal}
 
@@ -146,11 +146,15 @@ abbrev pub found_by : Subject → Situation → Path → Option Transition → F
 found_by s g p None = Absent
 found_by s g p (Some t) = found s g p t.when
 
+abbrev pub received_by : Subject → Situation → Path → Option Transition → Found
+received_by s g p None = Absent
+received_by s g p (Some t) = received s g p t.when
+
 -- the job of a transition of an instance in a situation
 pub record IsJobIn (s : Subject) (g : Situation) (job : Job) : Type 0 where
   pub legal : AreLegal s g.core.instances
   pub private : Shows job.image (private s g.core job.path)
-  pub head : IsHead (found_by s g job.path (transition_at s job.trans (map.get g.core.instances job.path))) job.head
+  pub head : IsHead (received_by s g job.path (transition_at s job.trans (map.get g.core.instances job.path))) job.head
 
 -- what is computed of a transition answers for every situation in which this is its job; of the initialization, for the one situation in which it runs
 abbrev pub AnswersAt : Subject → Job → ℕ → Outcome → ℕ → Type 0

@@ -11,9 +11,9 @@ use Rattle.pascal_values.specs.Integers.{is_between}
 use Rattle.pascal_values.specs.Shapes.{item_count, has_ordinal, bool_ordinal, each_passes}
 use Rattle.estelle_model.specs.declared.denoter.Denoter.{Denoter}
 use Rattle.estelle_model.specs.Types.{shape_of}
-use Rattle.estelle_model.specs.Paths.{Path, child}
+use Rattle.estelle_tree.specs.Paths.{Path, child}
 use Rattle.estelle_model.specs.Core.{Instance, Instances}
-use Rattle.estelle_model.specs.Bodies.{Standing, variable_types, module_variables_in, states_in}
+use Rattle.estelle_model.specs.Bodies.{BodyAlone, variable_types, module_variables_in, states_in}
 use Rattle.estelle_model.specs.Subject.{Subject, meant, body}
 
 -- ---- values of a type
@@ -50,7 +50,7 @@ IsStateOf count None = count ≡ 0
 IsStateOf count (Some k) = k < count
 
 -- an instance has just what its body declares
-pub record IsOfBody (s : Subject) (b : Standing) (i : Instance) : Type 0 where
+pub record IsOfBody (s : Subject) (b : BodyAlone) (i : Instance) : Type 0 where
   pub variables : IsTrue (are_values_of (variable_types (meant s) b) i.variables)
   pub state : IsStateOf (length (states_in b)) i.state
   pub module_variables : length i.module_variables ≡ length (module_variables_in b)
@@ -74,6 +74,6 @@ pub record HasParent (instances : Instances) (p : Path) (k : ℕ) : Type 0 where
   pub held : IsHeldOnce parent (child p k)
 
 pub record AreLegal (s : Subject) (instances : Instances) : Type 0 where
-  pub bodies : (p : Path) (i : Instance) → map.get instances p ≡ Some i → (b : Standing) × (body s i.body ≡ Some b) × IsOfBody s b i
+  pub bodies : (p : Path) (i : Instance) → map.get instances p ≡ Some i → (b : BodyAlone) × (body s i.body ≡ Some b) × IsOfBody s b i
   pub holds : (p : Path) (i : Instance) (m : ℕ) (held : Option Path) → map.get instances p ≡ Some i → slice_get i.module_variables m ≡ Some held → Holds instances p held
   pub parents : (p : Path) (k : ℕ) (i : Instance) → map.get instances (child p k) ≡ Some i → HasParent instances p k

@@ -1,6 +1,4 @@
 -- ---- the state of a run, as far as blocks reach it
-pub mod Paths
-pub mod Links
 pub mod Core
 pub mod Effects
 pub mod States
@@ -16,6 +14,8 @@ pub mod Bodies
 pub mod Names
 pub mod Transitions
 pub mod Subject
+pub mod InteractionPoints
+pub mod Attributes
 -- ---- what expressions, statements, blocks and clauses mean
 pub mod Steps
 pub mod Places
@@ -33,7 +33,6 @@ pub mod Firing
 pub mod Legal
 pub mod Jobs
 -- ---- runs
-pub mod Attributes
 pub mod Delays
 pub mod Selection
 pub mod Runs

@@ -4,16 +4,17 @@ use Rattle.std.specs.Str.{bytes_eq}
 use Rattle.std.specs.declared.cmp.Ordering.TheVariants.{Less}
 use Rattle.pascal_values.specs.declared.fault.Fault as fault
 use Rattle.estelle_model.specs.declared.effect.Out.{Out}
-use Rattle.estelle_model.specs.declared.event.Pair.{Pair}
+use Rattle.estelle_tree.specs.declared.transition.Pair.{Pair}
 use Rattle.estelle_model.specs.declared.event.Event.{Event}
 use Rattle.estelle_model.specs.declared.event.Event.TheVariants.{Start, Select, Fire, Fault}
 use Rattle.estelle_model.specs.declared.job.Guard.TheVariants.{Faulted}
-use Rattle.estelle_model.specs.Paths.{Path, is_inside}
+use Rattle.estelle_tree.specs.Paths.{Path, is_inside}
 use Rattle.estelle_model.specs.Subject.{Subject}
-use Rattle.estelle_model.specs.Situation.{Situation, pair_cmp}
+use Rattle.estelle_model.specs.Situation.{Situation}
+use Rattle.estelle_tree.specs.Timers.{pair, pair_cmp}
 use Rattle.estelle_model.specs.Firing.{Firing, Ran, Failed, Undefined, guard, fire, start, bare}
 use Rattle.estelle_model.specs.Attributes.{IsSystem}
-use Rattle.estelle_model.specs.Delays.{pair, renew}
+use Rattle.estelle_model.specs.Delays.{renew}
 use Rattle.estelle_model.specs.Selection.{Selects}
 
 -- ---- what an event does

@@ -1,21 +1,22 @@
--- The choices that the program makes: of all runs, the one that it runs. Here it takes the first wherever there are several candidates.
+-- The choices that the program makes: of all runs, the one that it runs. Environment it takes the first wherever there are several candidates.
 use Rattle.std.specs.Prelude.{◌≡◌, ◌⊎◌, ℕ, ◌+◌, ◌<◌, ◌≤◌, max, min, nat_lt, Bool, true, false, not, ◌&&◌, ◌||◌, if◌then◌else◌, IsTrue, List, [], ◌∷◌, ◌++◌, length, drop, map as each, fold, flat_map, Contains, Option, Some, None}
 use Rattle.std.specs.List.{list_any}
 use Rattle.std.specs.FinMap as map
 use Rattle.std.specs.Str.{bytes_eq}
 use Rattle.std.specs.declared.cmp.Ordering.TheVariants.{Less}
 use Rattle.pascal_values.specs.declared.fault.Fault as fault
-use Rattle.estelle_model.specs.declared.event.Pair.{Pair}
+use Rattle.estelle_tree.specs.declared.transition.Pair.{Pair}
 use Rattle.estelle_model.specs.declared.event.Event.{Event}
 use Rattle.estelle_model.specs.declared.event.Event.TheVariants.{Start, Select, Fire, Fault}
 use Rattle.estelle_model.specs.declared.event.End.{End}
 use Rattle.estelle_model.specs.declared.event.End.TheVariants as end
-use Rattle.estelle_model.specs.Paths.{Path, path_cmp, child, is_inside}
+use Rattle.estelle_tree.specs.Paths.{Path, path_cmp, child, is_inside}
 use Rattle.estelle_model.specs.Subject.{Subject}
 use Rattle.estelle_model.specs.Situation.{Situation}
 use Rattle.estelle_model.specs.Firing.{guard, start}
 use Rattle.estelle_model.specs.Attributes.{IsSystem, IsProcess, IsActivity}
-use Rattle.estelle_model.specs.Delays.{pair, cap, last_moment, is_on, has_delays, renew}
+use Rattle.estelle_tree.specs.Timers.{pair, due, last_moment}
+use Rattle.estelle_model.specs.Delays.{is_on, has_delays, renew}
 use Rattle.estelle_model.specs.Selection.{May, HasPriority, priority, children}
 use Rattle.estelle_model.specs.Runs.{IsIdle, IsFirstFault, next, started, situation}
 use Rattle.estelle_model.specs.Ends.{fires, last_event, IsFault, IsDead}
@@ -138,7 +139,7 @@ IsMoment s = IsMomentBy (has_delays s)
 
 -- the first moment at which a transition with a timer may fire
 abbrev pub next_due : Situation → ℕ
-next_due g = fold min last_moment (each (λ e. cap (e.1.start + e.1.low)) (map.entries g.timers))
+next_due g = fold min last_moment (each (λ e. due e.1) (map.entries g.timers))
 
 -- nothing is due and nothing is pending, but some transition is enabled, for which the clock is waited
 pub record IsWaiting (s : Subject) (budget : ℕ) (events : List Event) (waited : ℕ) : Type 0 where

@@ -2,14 +2,15 @@
 use Rattle.std.specs.Prelude.{◌≢◌, ℕ, ℤ, int_lt, Bool, true, false, IsTrue, List, [], ◌∷◌, filter, flat_map, is_some, option_and_then, Option, Some, None, Contains}
 use Rattle.std.specs.List.{range_with_len}
 use Rattle.std.specs.FinMap as map
-use Rattle.estelle_model.specs.declared.event.Pair.{Pair}
-use Rattle.estelle_model.specs.Paths.{Path, child}
+use Rattle.estelle_tree.specs.declared.transition.Pair.{Pair}
+use Rattle.estelle_tree.specs.Paths.{Path, child}
 use Rattle.estelle_model.specs.Core.{Instance}
 use Rattle.estelle_model.specs.Subject.{Subject}
 use Rattle.estelle_model.specs.Situation.{Situation}
 use Rattle.estelle_model.specs.Firing.{transition_at}
 use Rattle.estelle_model.specs.Attributes.{IsProcess, IsActivity}
-use Rattle.estelle_model.specs.Delays.{pair, may, must}
+use Rattle.estelle_tree.specs.Timers.{pair}
+use Rattle.estelle_model.specs.Delays.{may, must}
 
 -- ---- what an instance offers
 

@@ -1,33 +1,23 @@
 -- The global situation, and what the effects of a block do to it (ISO/IEC 9074: global instantaneous description).
 use Rattle.std.specs.Prelude.{ℕ, suc, Bool, not, nat_lt, if◌then◌else◌, List, [], ◌∷◌, ◌++◌, map as each, filter, fold, is_none, Option, Some, None}
 use Rattle.std.specs.FinMap as map
-use Rattle.std.specs.Ordering.{nat_cmp, ordering_then}
-use Rattle.std.specs.declared.cmp.Ordering.{Ordering}
 use Rattle.estelle_tree.specs.declared.link.IpAddr.{IpAddr}
 use Rattle.estelle_tree.specs.declared.link.Link.{Link}
 use Rattle.estelle_model.specs.declared.image.Interaction.{Interaction}
 use Rattle.estelle_model.specs.declared.effect.Out.{Out}
-use Rattle.estelle_model.specs.declared.event.Pair.{Pair}
-use Rattle.estelle_model.specs.Paths.{Path, path_cmp, child, is_inside}
-use Rattle.estelle_model.specs.Links.{same_ip, bottom, route, attachment}
+use Rattle.estelle_tree.specs.declared.transition.Pair.{Pair}
+use Rattle.estelle_tree.specs.Queues as queues
+use Rattle.estelle_tree.specs.Queues.{waits_inside, moved, outside_of}
+use Rattle.estelle_tree.specs.Timers.{Timers}
+use Rattle.estelle_tree.specs.Paths.{Path, child}
+use Rattle.estelle_tree.specs.Links.{bottom, route, attachment}
 use Rattle.estelle_model.specs.Core.{Core}
 use Rattle.estelle_model.specs.Effects.{Effect, Output, Attach, Detach, Remove, Change, core_after, core_kept}
 use Rattle.estelle_model.specs.States.{Offers}
 
--- by path, and then by the transition's number
-abbrev pub pair_cmp : Pair → Pair → Ordering
-pair_cmp a b = ordering_then (path_cmp a.path b.path) (nat_cmp a.trans b.trans)
-
 -- an interaction, and the interaction point where it waits
-pub record Waiting : Type 0 where
-  pub item : Interaction
-  pub at : IpAddr
-
--- the timer of a transition with a delay: when it started, and the bounds of the delay
-pub record Timer : Type 0 where
-  pub start : ℕ
-  pub low : ℕ
-  pub high : Option ℕ
+abbrev pub Waiting : Type 0
+Waiting = queues.Waiting Interaction
 
 pub record Situation : Type 0 where
   -- the instances and the links
@@ -36,7 +26,7 @@ pub record Situation : Type 0 where
   pub mail : List Waiting
   -- how many outputs there have been
   pub made : ℕ
-  pub timers : map.FinMap pair_cmp Timer
+  pub timers : Timers
   -- the moment of the last selection
   pub now : ℕ
   -- the selected firings of all systems, in the order of their selections
@@ -54,26 +44,12 @@ abbrev pub arrived : Interaction → Option IpAddr → List Waiting → List Wai
 arrived i None mail = mail
 arrived i (Some a) mail = mail ++ record { item = i; at = a } ∷ []
 
-abbrev pub waits_at : IpAddr → Waiting → Bool
-waits_at a w = same_ip a w.at
-
-abbrev pub put_at : IpAddr → Waiting → Waiting
-put_at b w = record w { at = b }
-
--- what waits at one point goes, in its order, to the end of another's queue
-abbrev pub moved : IpAddr → IpAddr → List Waiting → List Waiting
-moved a b mail = filter (λ w. not (waits_at a w)) mail ++ each (put_at b) (filter (waits_at a) mail)
-
--- it waits at an instance or below it
-abbrev pub waits_inside : Path → Waiting → Bool
-waits_inside p w = is_inside p w.at.path
-
 -- what waits after an effect, by the links and the count of outputs before it
 unfoldable pub mail_after : Effect → List Link → ℕ → List Waiting → List Waiting
 mail_after (Output from ip name values) links made mail = arrived (record { number = suc made; name = name; values = values }) (route links from) mail
 mail_after (Attach upper lower) links made mail = moved upper (bottom (links ++ attachment upper lower ∷ []) lower) mail
 mail_after (Detach upper) links made mail = moved (bottom links upper) upper mail
-mail_after (Remove p k) links made mail = filter (λ w. not (waits_inside (child p k) w)) mail
+mail_after (Remove p k) links made mail = outside_of (child p k) mail
 mail_after _ links made mail = mail
 
 unfoldable pub made_after : Effect → ℕ → ℕ

@@ -26,7 +26,7 @@ use Rattle.estelle_model.specs.declared.meaning.Meaning.{Meaning}
 use Rattle.estelle_model.specs.declared.meaning.Meaning.TheVariants.{Called}
 use Rattle.estelle_model.specs.Meant.{Meanings}
 use Rattle.estelle_model.specs.Places.{put, store, store_ordinal}
-use Rattle.estelle_model.specs.declared.place.Here.{Here}
+use Rattle.estelle_model.specs.declared.place.Environment.{Environment}
 use Rattle.estelle_model.specs.Expressions.{Call, Operand, Access, bool_step, ordinal_step, give_all, no_arguments, expr, args, target, accessed}
 use Rattle.estelle_model.specs.Loops.{while_loop, repeat_loop, count_loop}
 
@@ -61,7 +61,7 @@ or_nothing None = pure tt
 or_nothing (Some p) = p
 
 -- act : what a statement of Estelle does
-module _ (S : Type 0) (on : Offers S) (meant : Meanings) (act : Here → Action S → Do S) (call : Call S) (here : Here) where
+module _ (S : Type 0) (on : Offers S) (meant : Meanings) (act : Environment → Action S → Do S) (call : Call S) (here : Environment) where
   abbrev pub value_of_expr : Expr → Step S Value
   value_of_expr e = (expr S on meant call here e).value
 

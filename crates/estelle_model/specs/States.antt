@@ -1,6 +1,6 @@
 -- What a block runs on: any state that can be read, that takes effects, and that keeps changes of records.
 use Rattle.std.specs.Prelude.{◌≡◌, List, [], ◌∷◌, ◌++◌}
-use Rattle.estelle_model.specs.Paths.{Path}
+use Rattle.estelle_tree.specs.Paths.{Path}
 use Rattle.estelle_model.specs.Core.{Core}
 use Rattle.estelle_model.specs.Effects.{Effect, Change, core_after, core_kept}
 

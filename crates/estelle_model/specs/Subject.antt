@@ -1,6 +1,6 @@
 -- What is run: a specification, with what its names mean.
 -- The definitions of runs reach the tree through the accessors of this file alone.
-use Rattle.std.specs.Prelude.{ℕ, Bool, zero, suc, List, [], ◌++◌, length, map, replicate, drop, slice_get, option_map, option_and_then, unwrap_or, Option, Some, None}
+use Rattle.std.specs.Prelude.{ℕ, zero, suc, List, [], ◌++◌, length, map, replicate, drop, slice_get, option_map, option_and_then, unwrap_or, Option, Some, None}
 use Rattle.pascal_values.specs.declared.value.Value.{Value}
 use Rattle.pascal_values.specs.Shapes.{blank_of}
 use Rattle.estelle_tree.specs.declared.names.Use.{Use}
@@ -14,10 +14,11 @@ use Rattle.estelle_model.specs.declared.denoter.Denoter.{Denoter}
 use Rattle.estelle_model.specs.Types.{shape_of}
 use Rattle.estelle_model.specs.declared.meaning.Passing.TheVariants.{ByValue}
 use Rattle.estelle_model.specs.declared.meaning.Routine.{Routine}
+use Rattle.estelle_model.specs.declared.meaning.InteractionPoint.{InteractionPoint}
 use Rattle.estelle_model.specs.Meant.{Meanings}
 use Rattle.estelle_model.specs.Denoted.{section_types}
 use Rattle.estelle_model.specs.Definitions.{local_variables}
-use Rattle.estelle_model.specs.Bodies.{Standing, bodies, bodies_declare, default_of, heading, variable_types, module_variables_in, ips_of_body}
+use Rattle.estelle_model.specs.Bodies.{BodyAlone, bodies, bodies_declare, default_of, heading, variable_types, module_variables_in, module_headers, ips_of_body}
 use Rattle.estelle_model.specs.Names.{Declared, meant_by, declared}
 use Rattle.estelle_model.specs.Transitions.{Choice, with_choices, Transition, flat, state_at}
 use Rattle.estelle_model.specs.Core.{Instance}
@@ -38,7 +39,7 @@ meant s = meant_by s.names (declared_in s)
 abbrev pub meant_with : Subject → List Choice → Meanings
 meant_with s chosen = meant_by s.names (with_choices (declared_in s) chosen)
 
-abbrev pub body : Subject → ℕ → Option Standing
+abbrev pub body : Subject → ℕ → Option BodyAlone
 body s k = slice_get (bodies s.specification) k
 
 -- a block as a routine whose parameters are those of the interaction that it receives
@@ -52,7 +53,7 @@ of_block known received b = record {
 
 -- ---- transitions
 
-abbrev pub transitions_of : Subject → Option Standing → List Transition
+abbrev pub transitions_of : Subject → Option BodyAlone → List Transition
 transitions_of s None = []
 transitions_of s (Some b) = flat (meant s) b
 
@@ -92,7 +93,7 @@ abbrev pub blanks : List Denoter → List Value
 blanks = map (λ t. blank_of (shape_of t))
 
 -- an instance as it is made: it has no state, its parameters have these values, and everything else in it is unset or empty
-abbrev pub new_instance : Subject → ℕ → Standing → List Value → Instance
+abbrev pub new_instance : Subject → ℕ → BodyAlone → List Value → Instance
 new_instance s k b parameters = record {
   body = k;
   state = None;
@@ -103,6 +104,8 @@ new_instance s k b parameters = record {
 
 -- what is made of a body
 pub record Child : Type 0 where
+  -- the place where its header is declared
+  pub header : ℕ
   -- how many of its interaction points are external
   pub external : ℕ
   pub parameters : List Denoter
@@ -121,8 +124,9 @@ nothing_to_do = record { to = None; block = record { parameters = []; locals = [
 abbrev pub begins : Subject → ℕ → Initialization
 begins s k = unwrap_or (initialization s k) nothing_to_do
 
-abbrev pub child_by : Subject → ℕ → Standing → Child
+abbrev pub child_by : Subject → ℕ → BodyAlone → Child
 child_by s k b = record {
+  header = (heading (meant s) b.header).at;
   external = length (heading (meant s) b.header).ips;
   parameters = (heading (meant s) b.header).parameters;
   with_parameters = new_instance s k b;
@@ -130,13 +134,17 @@ child_by s k b = record {
   block = (begins s k).block;
 }
 
-abbrev pub no_body : Standing
+abbrev pub no_body : BodyAlone
 no_body = record { name = None; header = None; brought = []; init = None; trans = [] }
 
 -- an instance of the body with a number
 abbrev pub child_of : Subject → ℕ → Child
 child_of s k = child_by s k (unwrap_or (body s k) no_body)
 
--- of each interaction point of an instance of the body, whether it shares the common queue
-abbrev pub ips_of : Subject → ℕ → List Bool
+-- the header of each module variable of an instance of the body, by the place where it is declared
+abbrev pub headers_of : Subject → ℕ → List ℕ
+headers_of s k = module_headers (meant s) (unwrap_or (body s k) no_body)
+
+-- the interaction points of an instance of the body
+abbrev pub ips_of : Subject → ℕ → List InteractionPoint
 ips_of s k = ips_of_body (meant s) (default_of s.specification.heads) (unwrap_or (body s k) no_body)

@@ -6,12 +6,12 @@ use Rattle.pascal_values.specs.declared.fault.Fault as fault
 use Rattle.pascal_values.specs.declared.fault.Fault.TheVariants as kind
 use Rattle.pascal_values.specs.Texts.{text as value_text}
 use Rattle.estelle_model.specs.declared.effect.Out.{Out}
-use Rattle.estelle_model.specs.declared.event.Pair.{Pair}
+use Rattle.estelle_tree.specs.declared.transition.Pair.{Pair}
 use Rattle.estelle_model.specs.declared.event.Event.{Event}
 use Rattle.estelle_model.specs.declared.event.Event.TheVariants.{Start, Select, Fire, Fault}
 use Rattle.estelle_model.specs.declared.event.End.{End}
 use Rattle.estelle_model.specs.declared.event.End.TheVariants.{Dead, Turns, Faulted, Clock}
-use Rattle.estelle_model.specs.Paths.{Path}
+use Rattle.estelle_tree.specs.Paths.{Path}
 
 abbrev pub line_end : List ℕ
 line_end = 10 ∷ []

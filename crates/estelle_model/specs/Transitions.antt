@@ -24,7 +24,7 @@ use Rattle.estelle_model.specs.Constants.{constant_of}
 use Rattle.estelle_model.specs.Denoted.{ordinal_type}
 use Rattle.estelle_model.specs.Names.{Declared}
 use Rattle.estelle_model.specs.Definitions.{domains_of, received}
-use Rattle.estelle_model.specs.Bodies.{Way, Standing, ways_of, states_named}
+use Rattle.estelle_model.specs.Bodies.{Way, BodyAlone, ways_of, states_named}
 
 -- an interaction at an interaction point of the instance, by their number and name
 pub record When : Type 0 where
@@ -159,5 +159,5 @@ module _ (known : Meanings) where
   flat_way w = map (flat_one w) (choices (flat_map names_of_domain (flat_map domains_of w.clauses)))
 
   -- in text order
-  abbrev pub flat : Standing → List Transition
+  abbrev pub flat : BodyAlone → List Transition
   flat b = flat_map flat_way (ways_of b)

@@ -1,13 +1,6 @@
 use crate::effect::Out;
-use estelle_tree::{Items, Path};
+use estelle_tree::{Items, Pair, Path};
 use pascal_values::Fault;
-
-/// A flat transition of an instance, by its number from 1. Number 0 is the initialization.
-#[derive(Debug, Drop)]
-pub struct Pair {
-    pub path: Path,
-    pub trans: u32,
-}
 
 /// One step of a run. Outputs stand in the order in which they were made, and the numbers of
 /// dropped interactions rise.

@@ -2,7 +2,7 @@
 //! be read, that takes effects and that keeps changes of records.
 //!
 //! It stands on `pascal_values` and `estelle_tree`; evaluator, compiler, machine and judge stand on it.
-//! Here are the definitions, in `specs/`, and the types of what is computed.
+//! Environment are the definitions, in `specs/`, and the types of what is computed.
 #![tactic(auto)]
 
 mod denoter;
@@ -16,9 +16,13 @@ mod shared;
 
 pub use denoter::{Denoter, Host};
 pub use effect::{Effect, Out};
-pub use event::{End, Event, Pair, Run};
+pub use estelle_tree::{Pair, Wanted};
+pub use event::{End, Event, Run};
 pub use image::{Image, Interaction, Part};
 pub use job::{Done, Guard, Job, Outcome};
-pub use meaning::{Attribute, Heading, Meaning, Passing, Required, Routine};
-pub use place::{Given, Here, Place};
+pub use meaning::{
+    Attribute, Heading, InteractionKind, InteractionPoint, Meaning, Passing, Required, Role,
+    Routine, Senders,
+};
+pub use place::{ActualParameters, Environment, Place};
 pub use shared::{Statements, Type};

@@ -30,14 +30,50 @@ pub enum Attribute {
     Activity,
 }
 
+/// The two roles of a channel, in the order in which it names them (ISO/IEC 9074).
+#[derive(Clone, Copy, Debug, PartialEq, Eq)]
+pub enum Role {
+    First,
+    Second,
+}
+
+/// An interaction point as it is declared (ISO/IEC 9074). A channel is known by the place where its name is
+/// declared.
+#[derive(Clone, Copy, Debug, PartialEq, Eq)]
+pub struct InteractionPoint {
+    pub channel: u32,
+    pub role: Role,
+    /// Whether it shares the common queue of its instance.
+    pub common: bool,
+    /// Whether a header declares it, and not a body.
+    pub external: bool,
+}
+
+/// Which roles may send an interaction (ISO/IEC 9074: `by`).
+#[derive(Clone, Copy, Debug, PartialEq, Eq)]
+pub struct Senders {
+    pub first: bool,
+    pub second: bool,
+}
+
+/// An interaction as its channel declares it (ISO/IEC 9074).
+#[derive(Drop)]
+pub struct InteractionKind {
+    pub channel: u32,
+    pub senders: Senders,
+    /// The types of its parameters.
+    pub parameters: Items<Type>,
+}
+
 /// A module header (ISO/IEC 9074).
 #[derive(Drop)]
 pub struct Heading {
+    /// The place where its name is declared.
+    pub at: u32,
     pub attribute: Option<Attribute>,
     pub parameters: Items<Type>,
     pub exports: Items<Type>,
-    /// Of each interaction point, whether it shares the common queue.
-    pub ips: Items<bool>,
+    pub ips: Items<InteractionPoint>,
 }
 
 /// A required function (ISO 7185, 6.6.6).
@@ -79,8 +115,10 @@ pub enum Meaning<'a> {
     /// A state of the instance, by its number.
     State(u32),
     StateSet(Items<u32>),
-    /// An interaction, with the types of its parameters.
-    Interaction(Items<Type>),
+    /// A channel, by the place where it is declared.
+    Channel(u32),
+    Role(Role),
+    Interaction(InteractionKind),
     Header(Heading),
     /// A body, by its number in the specification.
     Body(u32),

@@ -22,7 +22,7 @@ pub enum Place {
 /// Where a block or a routine runs: the instance, the number of the frame, which is how deep calls nest,
 /// and what the var parameters name.
 #[derive(Drop)]
-pub struct Here {
+pub struct Environment {
     pub path: Path,
     pub frame: u32,
     pub references: Items<Place>,
@@ -30,7 +30,7 @@ pub struct Here {
 
 /// The arguments of a call: values, and the places for var parameters.
 #[derive(Drop)]
-pub struct Given {
+pub struct ActualParameters {
     pub values: Values,
     pub references: Items<Place>,
 }

@@ -8,7 +8,7 @@ ghost use Rattle.estelle_parser.specs.Bodies as spec;
 
 use crate::transition::{InitForm, TransForm};
 use declaration_parser::{joined, plain_decl};
-use estelle_tree::{Body, Decl, Items, Kind, Parts, Sequence};
+use estelle_tree::{Body, Decl, Items, Kind, Parts};
 use statement_parser::routine;
 use std::alloc::Global;
 use token_reader::{Begins, Cursor, Optional, Read, ReadError, repeated};
@@ -129,7 +129,7 @@ fn parts_over<P: Read<Parts>>(
     let from = tokens.start();
     let before = tokens.left();
     let decl = DeclForm { room, below };
-    let decls = repeated(alloc, tokens, Items::none(alloc), &Optional { item: &decl })?;
+    let decls = repeated(alloc, tokens, Items::new(alloc), &Optional { item: &decl })?;
     let init = Optional {
         item: &InitForm { room },
     }
@@ -137,7 +137,7 @@ fn parts_over<P: Read<Parts>>(
     let trans = repeated(
         alloc,
         tokens,
-        Items::none(alloc),
+        Items::new(alloc),
         &Optional {
             item: &TransForm { room },
         },

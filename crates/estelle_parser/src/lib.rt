@@ -12,6 +12,3 @@ pub use body::parts;
 pub use error::SyntaxError;
 pub use laws::{one_tree, parts_are_read};
 pub use specification::parse;
-
-#[cfg(test)]
-mod tests;

@@ -24,6 +24,3 @@ mod writer;
 
 pub use canonical::spell;
 pub use laws::{canonical_text_is_lexed, spells_one_list};
-
-#[cfg(test)]
-mod tests;

@@ -1,34 +1,29 @@
 -- Blocks, clauses and groups of clauses, cut at any place.
-use Rattle.std.proofs.Common.{◌≡◌, ℕ, zero, suc, Bool, true, false, List, [], ◌∷◌, length, Option, Some, None, inl, inr, ◌⊎◌, sym, refl, ap, ◌∙◌, subst}
+use Rattle.std.proofs.Common.{◌≡◌, ℕ, zero, suc, true, false, List, [], ◌∷◌, Option, Some, None, inl, inr, ◌⊎◌, sym, refl, ◌∙◌, subst}
 use Rattle.estelle_tree.specs.declared.kind.Kind.{Kind}
 use Rattle.estelle_tree.specs.declared.kind.Kind.TheVariants as k
-use Rattle.estelle_tree.specs.declared.tree.name.NameList.{NameList}
 use Rattle.estelle_tree.specs.declared.tree.statement.Stmts.{Stmts}
 use Rattle.estelle_tree.specs.declared.tree.declaration.BlockDecl.{BlockDecl}
 use Rattle.estelle_tree.specs.declared.tree.clause.Label.{Label}
-use Rattle.estelle_tree.specs.declared.tree.clause.Block.{Block}
-use Rattle.estelle_tree.specs.declared.tree.clause.AnyDom.{AnyDom}
 use Rattle.estelle_tree.specs.declared.tree.clause.NextState.TheVariants as next_state
 use Rattle.estelle_tree.specs.declared.tree.clause.DelayHigh.{DelayHigh}
 use Rattle.estelle_tree.specs.declared.tree.clause.DelayHigh.TheVariants as delay_high
 use Rattle.estelle_tree.specs.declared.tree.clause.Clause.{Clause}
 use Rattle.estelle_tree.specs.declared.tree.clause.Clause.TheVariants as clause
-use Rattle.estelle_tree.specs.declared.tree.clause.TransBody.{TransBody, out-TransBody}
+use Rattle.estelle_tree.specs.declared.tree.clause.TransBody.{out-TransBody}
 use Rattle.estelle_tree.specs.declared.tree.clause.TransBody.TheOpen.{TransBody-F}
 use Rattle.estelle_tree.specs.declared.tree.clause.Group.{Group, out-Group}
 use Rattle.estelle_tree.specs.Input.{Input, kind}
-use Rattle.estelle_tree.specs.Spans.{TransBodyLayer}
 use Rattle.estelle_tree.specs.Spelling.{Spelling, Takes, Optional, Behind, Chain}
 use Rattle.estelle_tree.specs.Declarations.{IsBlockDecl, IsStatementPart}
-use Rattle.estelle_tree.specs.Clauses.{IsLabel, IsLabelled, IsAnyDom, IsDelayHigh, IsBlock, IsClause, of_clause, clause_kinds, stands, way_of, Follows, MoreGroups, AreGroups, TransBodyLayerOf, TransBodyOf, GroupOf, GroupWithin, IsTransBody}
-use Rattle.estelle_tree.specs.Beginning as begins
-use Rattle.estelle_tree.specs.Beginning.{Beginning, Nothing, ◌or◌, Then, After, OneToken, May, Many}
+use Rattle.estelle_tree.specs.Clauses.{IsLabel, IsLabelled, IsAnyDom, IsDelayHigh, IsBlock, IsClause, of_clause, stands, way_of, Follows, MoreGroups, AreGroups, TransBodyLayerOf, TransBodyOf, GroupOf, GroupWithin, IsTransBody}
+use Rattle.estelle_tree.specs.Beginning.{Beginning, ◌or◌, Then, After, OneToken}
 use Rattle.estelle_tree.specs.BeginsExpressions.{BeginsExpr}
 use Rattle.estelle_tree.specs.Expressions.{IsExpr}
-use Rattle.estelle_tree.specs.BeginsDeclarations.{BeginsBlockDecl, BeginsStatementPart}
+use Rattle.estelle_tree.specs.BeginsDeclarations.{BeginsStatementPart}
 use Rattle.estelle_tree.specs.BeginsClauses.{BeginsLabel, BeginsAnyDom, BeginsBlock, BeginsClause, last_of, MayFollow, BeginGroups, BeginTransBody, BeginGroup, BeginsGroupWithin, BeginsTransBody}
-use Rattle.estelle_tree.proofs.Cuts.{Reach, Out, Cut, begun, past, one, other, stop, token, after, part, optional, chain, several, separated, joined, last_enclosed}
-use Rattle.estelle_tree.proofs.CutTypes.{named, name_cut, names_cut, const_cut, ordinal_cut, takes_name}
+use Rattle.estelle_tree.proofs.Cuts.{Reach, Out, Cut, begun, past, one, other, token, after, part, optional, chain, several, separated, joined, last_enclosed}
+use Rattle.estelle_tree.proofs.CutTypes.{named, names_cut, const_cut, ordinal_cut, takes_name}
 use Rattle.estelle_tree.proofs.CutExpressions.{expr_cut}
 use Rattle.estelle_tree.proofs.CutDeclarations.{block_decl_cut, statement_part_cut}
 

@@ -1,23 +1,19 @@
 -- Definitions and routines, cut at any place.
-use Rattle.std.proofs.Common.{◌≡◌, ◌<◌, ℕ, false, List, [], ◌∷◌, Option, Some, None, sym, subst}
+use Rattle.std.proofs.Common.{ℕ, false, List, Option, sym, subst}
 use Rattle.estelle_tree.specs.declared.kind.Kind.TheVariants as k
 use Rattle.estelle_tree.specs.declared.tree.name.Name.{Name}
 use Rattle.estelle_tree.specs.declared.tree.statement.Stmts.{Stmts}
-use Rattle.estelle_tree.specs.declared.tree.declaration.ConstDef.{ConstDef}
-use Rattle.estelle_tree.specs.declared.tree.declaration.TypeDef.{TypeDef}
 use Rattle.estelle_tree.specs.declared.tree.declaration.BlockDecl.{BlockDecl}
 use Rattle.estelle_tree.specs.declared.tree.declaration.BlockDecl.TheVariants as block_decl
-use Rattle.estelle_tree.specs.declared.tree.declaration.Routine.{Routine}
 use Rattle.estelle_tree.specs.declared.tree.declaration.RoutineForm.{RoutineForm}
 use Rattle.estelle_tree.specs.declared.tree.declaration.RoutineForm.TheVariants as form
 use Rattle.estelle_tree.specs.declared.tree.declaration.Formals.{Formals}
-use Rattle.estelle_tree.specs.declared.tree.declaration.Formal.{Formal}
 use Rattle.estelle_tree.specs.Input.{Input}
 use Rattle.estelle_tree.specs.Spelling.{Takes, Optional, Behind, Chain}
 use Rattle.estelle_tree.specs.Types.{IsName, IsType}
 use Rattle.estelle_tree.specs.Statements.{StmtBelow}
 use Rattle.estelle_tree.specs.Declarations.{IsConstDef, IsFormal, AreFormals, IsTypeDef, AreVars, IsBlockDecl, IsStatementPart, of_form, IsResult, IsRoutine}
-use Rattle.estelle_tree.specs.Beginning.{Beginning, After, May, Many}
+use Rattle.estelle_tree.specs.Beginning.{Beginning, After, Many}
 use Rattle.estelle_tree.specs.BeginsTypes.{BeginsType}
 use Rattle.estelle_tree.specs.BeginsStatements.{BeginsStmtBelow}
 use Rattle.estelle_tree.specs.BeginsDeclarations.{BeginsConstDef, BeginsFormal, BeginFormals, BeginsTypeDef, BeginVars, BeginsBlockDecl, BeginsStatementPart, BeginsRoutine}

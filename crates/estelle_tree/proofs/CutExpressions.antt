@@ -1,17 +1,16 @@
 -- Expressions, cut at any place.
-use Rattle.std.proofs.Common.{◌≡◌, ◌<◌, ℕ, zero, suc, List, [], ◌∷◌, Option, Some, None, sym, refl, subst}
+use Rattle.std.proofs.Common.{ℕ, zero, suc, List, [], ◌∷◌, sym, subst}
 use Rattle.estelle_tree.specs.declared.kind.Kind.TheVariants as k
-use Rattle.estelle_tree.specs.declared.tree.expression.Expr.{Expr, out-Expr}
-use Rattle.estelle_tree.specs.declared.tree.expression.Simple.{Simple, out-Simple}
-use Rattle.estelle_tree.specs.declared.tree.expression.Term.{Term, out-Term}
+use Rattle.estelle_tree.specs.declared.tree.expression.Expr.{out-Expr}
+use Rattle.estelle_tree.specs.declared.tree.expression.Simple.{out-Simple}
+use Rattle.estelle_tree.specs.declared.tree.expression.Term.{out-Term}
 use Rattle.estelle_tree.specs.declared.tree.expression.Factor.{Factor, out-Factor}
 use Rattle.estelle_tree.specs.declared.tree.expression.Factor.TheOpen.{Factor-F, Selector-F}
 use Rattle.estelle_tree.specs.declared.tree.expression.Elem.{Elem, out-Elem}
-use Rattle.estelle_tree.specs.declared.tree.expression.Args.{Args, out-Args}
-use Rattle.estelle_tree.specs.declared.tree.expression.Variable.{Variable, out-Variable}
-use Rattle.estelle_tree.specs.declared.tree.expression.Selector.{Selector, out-Selector}
+use Rattle.estelle_tree.specs.declared.tree.expression.Args.{out-Args}
+use Rattle.estelle_tree.specs.declared.tree.expression.Variable.{out-Variable}
+use Rattle.estelle_tree.specs.declared.tree.expression.Selector.{out-Selector}
 use Rattle.estelle_tree.specs.Input.{Input}
-use Rattle.estelle_tree.specs.Spans.{FactorLayer, SelectorLayer}
 use Rattle.estelle_tree.specs.Spelling.{Spelling}
 use Rattle.estelle_tree.specs.Expressions.{of_relation, of_adding, of_multiplying, TermOf, SimpleOf, ExprOf, ArgsOf, ElemOf, ElemsOf, SelectorLayerOf, SelectorOf, VariableOf, IsFactorLayer, FactorBelow, ExprBelow, IsExpr, IsArgs, IsVariable}
 use Rattle.estelle_tree.specs.Beginning.{Beginning, OneToken, ◌or◌, Separating}

@@ -1,27 +1,20 @@
 -- Channels, headers, bodies and a specification, cut at any place.
-use Rattle.std.proofs.Common.{rules, ◌≡◌, ◌<◌, ◌≤◌, ℕ, zero, suc, Bool, true, false, List, [], ◌∷◌, ◌++◌, map, length, Option, Some, None, inl, inr, ◌⊎◌, sym, refl, ap, ◌∙◌, subst}
+use Rattle.std.proofs.Common.{rules, ◌≡◌, ℕ, zero, suc, Bool, true, false, List, [], ◌∷◌, map, Option, Some, None, inl, inr, ◌⊎◌, sym, refl, ◌∙◌, subst}
 use Rattle.std.specs.Prelude.{◌||◌}
 use Rattle.estelle_tree.specs.declared.kind.Kind.{Kind}
 use Rattle.estelle_tree.specs.declared.kind.Kind.TheVariants as k
-use Rattle.estelle_tree.specs.declared.tree.name.NameList.{NameList}
 use Rattle.estelle_tree.specs.declared.tree.specification.Spec.{Spec}
 use Rattle.estelle_tree.specs.declared.tree.specification.SysAttr.{SysAttr}
 use Rattle.estelle_tree.specs.declared.tree.specification.SysAttr.TheVariants as sys_attr
-use Rattle.estelle_tree.specs.declared.tree.specification.Attr.{Attr}
 use Rattle.estelle_tree.specs.declared.tree.specification.Attr.TheVariants as attr
 use Rattle.estelle_tree.specs.declared.tree.specification.Head.{Head}
 use Rattle.estelle_tree.specs.declared.tree.specification.Head.TheVariants as head
-use Rattle.estelle_tree.specs.declared.tree.specification.Disc.{Disc}
 use Rattle.estelle_tree.specs.declared.tree.specification.Disc.TheVariants as disc
 use Rattle.estelle_tree.specs.declared.tree.specification.Parts.{Parts, out-Parts}
-use Rattle.estelle_tree.specs.declared.tree.specification.Trans.{Trans}
-use Rattle.estelle_tree.specs.declared.tree.specification.Init.{Init}
-use Rattle.estelle_tree.specs.declared.tree.specification.Decl.{Decl, out-Decl}
+use Rattle.estelle_tree.specs.declared.tree.specification.Decl.{out-Decl}
 use Rattle.estelle_tree.specs.declared.tree.specification.Decl.TheOpen.{Decl-F}
-use Rattle.estelle_tree.specs.declared.tree.specification.Channel.{Channel}
 use Rattle.estelle_tree.specs.declared.tree.specification.Params.{Params}
-use Rattle.estelle_tree.specs.declared.tree.specification.Header.{Header}
-use Rattle.estelle_tree.specs.declared.tree.specification.Body.{Body, out-Body}
+use Rattle.estelle_tree.specs.declared.tree.specification.Body.{out-Body}
 use denote.Enum.Bare.{sameb, same_true, true_same}
 use Rattle.estelle_tree.specs.contracts.kind.Kind.{the_type}
 use Rattle.estelle_tree.specs.declared.token.Placed.{Placed}
@@ -30,13 +23,10 @@ use Rattle.estelle_tree.specs.Spells.{Spells, max_nesting}
 use Rattle.estelle_tree.specs.BeginsClauses.{BeginsBlock}
 use Rattle.estelle_tree.specs.Types.{IsName}
 use Rattle.estelle_tree.specs.Input.{Input, input, kind, next, skip}
-use Rattle.estelle_tree.specs.Spans.{DeclLayer}
-use Rattle.estelle_tree.specs.Spelling.{Spelling, Takes, Optional, MayBeLines, Chain, Behind}
-use Rattle.estelle_tree.specs.Declarations.{IsConstDef, AreVars}
-use Rattle.estelle_tree.specs.Specification.{IsSysAttr, IsAttr, IsDisc, IsQueue, IsHead, AreParams, IsParams, MayBeParams, IsInter, AreInters, IsChannel, IsIpDecl, AreModvars, IsStateset, IsHeader, IsInit, IsTrans, BodyOf, DeclLayerOf, DeclOf, PartsOf, PartsBelow, IsParts, of_head, Distinct, AreHeads, IsSpec}
-use Rattle.estelle_tree.specs.Beginning.{Beginning, Nothing, ◌or◌, Then, After, OneToken, May, Lining}
+use Rattle.estelle_tree.specs.Spelling.{Spelling, Optional, MayBeLines, Chain, Behind}
+use Rattle.estelle_tree.specs.Specification.{IsSysAttr, IsAttr, IsQueue, IsHead, AreParams, IsParams, MayBeParams, IsInter, AreInters, IsChannel, IsIpDecl, AreModvars, IsStateset, IsHeader, IsInit, IsTrans, BodyOf, DeclLayerOf, DeclOf, PartsOf, PartsBelow, IsParts, of_head, Distinct, AreHeads, IsSpec}
+use Rattle.estelle_tree.specs.Beginning.{Beginning, ◌or◌, Then, After, OneToken, May, Lining}
 use Rattle.estelle_tree.specs.BeginsSpecification.{BeginsSysAttr, BeginsAttr, BeginsQueue, BeginsHead, BeginNamed, BeginsParams, MayBeginParams, BeginsInter, BeginInters, BeginsChannel, BeginsIpDecl, BeginsStateset, BeginsHeader, BeginsInit, BeginsTrans, BeginBody, BeginDecl, BeginParts, BeginsPartsBelow, BeginsParts, BeginHeads, BeginsSpec, Begins}
-use Rattle.estelle_tree.specs.BeginsDeclarations.{BeginVars}
 use Rattle.estelle_tree.proofs.Cuts.{Reach, Out, Cut, begun, past, one, other, stop, token, after, opens, part, optional, chain, several, behind, separated, joined, lines}
 use Rattle.estelle_tree.proofs.CutTypes.{named, name_cut, names_cut, takes_name}
 use Rattle.estelle_tree.proofs.CutDeclarations.{const_def_cut, type_def_cut, vars_cut, routine_cut}

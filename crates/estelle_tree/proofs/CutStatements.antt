@@ -1,21 +1,17 @@
 -- Statements, cut at any place.
-use Rattle.std.proofs.Common.{◌≡◌, ◌<◌, ℕ, zero, suc, Bool, true, false, List, [], ◌∷◌, Option, Some, None, inl, inr, subst}
+use Rattle.std.proofs.Common.{◌<◌, ℕ, zero, suc, Bool, true, false, Option, Some, None, inl, subst}
 use Rattle.estelle_tree.specs.declared.kind.Kind.TheVariants as k
 use Rattle.estelle_tree.specs.declared.tree.expression.Expr.{Expr}
 use Rattle.estelle_tree.specs.declared.tree.expression.Args.{Args}
-use Rattle.estelle_tree.specs.declared.tree.statement.Ip.{Ip}
 use Rattle.estelle_tree.specs.declared.tree.statement.Stmt.{Stmt, out-Stmt}
 use Rattle.estelle_tree.specs.declared.tree.statement.Stmt.TheOpen.{Stmt-F}
-use Rattle.estelle_tree.specs.declared.tree.statement.Stmts.{Stmts, out-Stmts}
-use Rattle.estelle_tree.specs.declared.tree.statement.Case.{Case, out-Case}
+use Rattle.estelle_tree.specs.declared.tree.statement.Stmts.{out-Stmts}
+use Rattle.estelle_tree.specs.declared.tree.statement.Case.{out-Case}
 use Rattle.estelle_tree.specs.Input.{Input}
-use Rattle.estelle_tree.specs.Spans.{StmtLayer}
-use Rattle.estelle_tree.specs.Spelling.{Spelling, Flag}
-use Rattle.estelle_tree.specs.Types.{IsConst}
+use Rattle.estelle_tree.specs.Spelling.{Spelling}
 use Rattle.estelle_tree.specs.Expressions.{ExprBelow}
-use Rattle.estelle_tree.specs.Statements.{IsIp, MayBeArgs, of_direction, StmtsOf, CaseOf, IsChoice, IsIf, IsStmtLayer, StmtBelow, IsStmts}
+use Rattle.estelle_tree.specs.Statements.{IsIp, MayBeArgs, StmtsOf, CaseOf, IsChoice, IsStmtLayer, StmtBelow, IsStmts}
 use Rattle.estelle_tree.specs.Beginning.{Beginning, Then, After, Opens}
-use Rattle.estelle_tree.specs.BeginsExpressions.{BeginsExprBelow}
 use Rattle.estelle_tree.specs.BeginsStatements.{BeginsIp, BeginStmts, BeginCase, BeginsMayBeArgs, WithExpr, BeginsStmtLayer, BeginsStmtBelow, BeginsStmts}
 use Rattle.estelle_tree.proofs.Cuts.{Reach, Out, Cut, begun, past, one, other, stop, token, after, after_one, opens, part, flag, separated, joined, last_behind, last_enclosed}
 use Rattle.estelle_tree.proofs.CutTypes.{named, name_cut, const_cut}

@@ -1,22 +1,18 @@
 -- Names, constants and types, cut at any place.
-use Rattle.std.proofs.Common.{◌≡◌, ◌<◌, ℕ, ℤ, zero, suc, Bool, List, [], ◌∷◌, Option, Some, None, inl, inr, sym, refl, ap, ◌∙◌, subst}
+use Rattle.std.proofs.Common.{◌≡◌, ℕ, ℤ, zero, suc, List, [], ◌∷◌, Some, ap}
 use Rattle.estelle_tree.specs.declared.token.Token.{Token}
 use Rattle.estelle_tree.specs.declared.token.Token.TheVariants as token_is
 use Rattle.estelle_tree.specs.declared.token.Placed.{Placed}
 use Rattle.estelle_tree.specs.declared.kind.Kind.TheVariants as k
 use Rattle.estelle_tree.specs.declared.tree.name.Name.{Name}
-use Rattle.estelle_tree.specs.declared.tree.name.NameList.{NameList}
-use Rattle.estelle_tree.specs.declared.tree.type_expr.Const.{Const}
 use Rattle.estelle_tree.specs.declared.tree.type_expr.Const.TheVariants as const
-use Rattle.estelle_tree.specs.declared.tree.type_expr.Ordinal.{Ordinal}
 use Rattle.estelle_tree.specs.declared.tree.type_expr.Ordinal.TheVariants as ordinal
 use Rattle.estelle_tree.specs.declared.tree.type_expr.TypeExpr.{TypeExpr, out-TypeExpr}
 use Rattle.estelle_tree.specs.declared.tree.type_expr.TypeExpr.TheOpen.{TypeExpr-F}
-use Rattle.estelle_tree.specs.declared.tree.type_expr.Fields.{Fields, out-Fields}
-use Rattle.estelle_tree.specs.declared.tree.type_expr.TypedNames.{TypedNames, out-TypedNames}
+use Rattle.estelle_tree.specs.declared.tree.type_expr.Fields.{out-Fields}
+use Rattle.estelle_tree.specs.declared.tree.type_expr.TypedNames.{out-TypedNames}
 use Rattle.estelle_tree.specs.Kind.{kind_of}
 use Rattle.estelle_tree.specs.Input.{Input, first_token, first_kind, kind, token_at}
-use Rattle.estelle_tree.specs.Spans.{TypeExprLayer}
 use Rattle.estelle_tree.specs.Spelling.{Spelling, Takes}
 use Rattle.estelle_tree.specs.Types.{IsName, IsNumber, IsChar, IsNames, IsConst, IsOrdinal, AreTyped, AreFields, IsTypeLayer, TypeBelow, IsType}
 use Rattle.estelle_tree.specs.Beginning.{Beginning, After}

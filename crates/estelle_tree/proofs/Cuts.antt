@@ -1,10 +1,10 @@
 -- A list of tokens that a form spells, cut at any place: what stands before the cut begins the form, or the
 -- cut comes at its end or behind it.
-use Rattle.std.proofs.Common.{◌≡◌, ◌<◌, ℕ, zero, suc, Bool, true, false, List, [], ◌∷◌, Option, Some, None, inl, inr, ◌⊎◌, sym, refl, ap, ◌∙◌, subst}
+use Rattle.std.proofs.Common.{◌≡◌, ◌<◌, ℕ, zero, suc, Bool, true, false, List, [], ◌∷◌, Option, Some, None, inl, inr, sym, refl, subst}
 use Rattle.estelle_tree.specs.declared.kind.Kind.{Kind}
 use Rattle.estelle_tree.specs.declared.kind.Kind.TheVariants as k
-use Rattle.estelle_tree.specs.Input.{Input, next, skip}
-use Rattle.estelle_tree.specs.Spelling.{Spelling, Takes, Flag, Mark, Optional, Chain, Several, Lines, MayBeLines, Behind, Ended, Joined, Separated, Enclosed}
+use Rattle.estelle_tree.specs.Input.{Input, skip}
+use Rattle.estelle_tree.specs.Spelling.{Spelling, Takes, Flag, Mark, Optional, Chain, Several, Lines, Behind, Ended, Joined, Separated, Enclosed}
 use Rattle.estelle_tree.specs.Beginning as begins
 use Rattle.estelle_tree.specs.Beginning.{Beginning, Nothing, ◌or◌, Then, After, OneToken, AfterOne, Opens, MayBe, MayBeOne, May, Many, Separating, Lining}
 

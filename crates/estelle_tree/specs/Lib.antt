@@ -17,3 +17,7 @@ pub mod BeginsStatements
 pub mod BeginsDeclarations
 pub mod BeginsClauses
 pub mod BeginsSpecification
+pub mod Paths
+pub mod Links
+pub mod Queues
+pub mod Timers

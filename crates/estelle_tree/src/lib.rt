@@ -10,19 +10,21 @@ mod path;
 mod span;
 mod text;
 mod token;
+mod transition;
 mod tree;
 mod word;
 
-pub use estelle_lists::{Boxed, Items, Sequence};
+pub use estelle_lists::{Boxed, Items, Sequence, SequenceMut};
 pub use flat::{Flat, FlatTrans, Limit};
 pub use kind::{Kind, RESERVED, is_identifier, kind_of};
 pub use laws::prefixes_begin;
 pub use link::{IpAddr, Link, LinkKind};
 pub use names::{Names, Use};
-pub use path::Path;
+pub use path::{Path, PathRoom};
 pub use span::Span;
 pub use text::Text;
 pub use token::{Placed, Symbol, Token};
+pub use transition::{Pair, Wanted};
 pub use tree::{
     Adding, AnyDom, Args, Attr, Block, BlockDecl, Body, Case, Channel, Clause, Const, ConstDef,
     Decl, DelayHigh, Direction, Disc, Elem, Expr, Factor, Fields, Formal, Formals, Group, Head,
@@ -32,6 +34,3 @@ pub use tree::{
     TypedNames, Variable,
 };
 pub use word::Word;
-
-#[cfg(test)]
-mod tests;

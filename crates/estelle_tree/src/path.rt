@@ -1,4 +1,5 @@
-ghost use Rattle.std.specs.Prelude.{◌≡◌, [], ◌∷◌, ◌++◌, length, IfOk};
+ghost use Rattle.std.specs.Prelude.{◌≡◌, ◌<◌, ◌≤◌, ◌&&◌, [], ◌∷◌, ◌++◌, length, nat_lt, take, IfOk};
+ghost use Rattle.estelle_tree.specs.Paths.{is_inside, is_above};
 
 use std::alloc::{AllocError, Global};
 use std::marker::Model;
@@ -50,5 +51,75 @@ impl Path {
         ensures { result.now ≡ self.now }
     {
         &self.numbers
+    }
+
+    /// The path of these birth numbers. It takes no memory.
+    pub fn of(numbers: Vec<u64>) -> Path
+        ensures { result ≡ numbers.items }
+    {
+        Path { numbers }
+    }
+
+    /// The birth numbers, by value. It takes no memory.
+    pub fn into_numbers(self) -> Vec<u64>
+        ensures { result.items ≡ self }
+    {
+        self.numbers
+    }
+
+    /// Whether the other instance is this one or below it. It takes no memory.
+    pub fn is_at_or_above(&self, other: &Path) -> bool
+        ensures { result ≡ is_inside self.now other.now }
+    {
+        other.numbers.starts_with(&self.numbers)
+    }
+
+    /// Whether the other instance is below this one. It takes no memory.
+    pub fn is_above(&self, other: &Path) -> bool
+        ensures { result ≡ is_above self.now other.now }
+    {
+        self.numbers.len() < other.numbers.len() && self.is_at_or_above(other)
+    }
+}
+
+/// Memory for one path of at most so many birth numbers, seen as their number.
+#[derive(Debug, Drop)]
+pub struct PathRoom {
+    numbers: Vec<u64>,
+}
+
+impl Model for PathRoom {
+    ghost use Rattle.std.specs.Prelude.{ℕ, ◌≡◌, []};
+    ghost use Rattle.std.specs.Vec.{vec_capacity};
+    ghost use Rattle.std.specs.Coded.{coded_ℕ};
+
+    ghost Value = { ℕ };
+
+    ghost coded = { coded_ℕ };
+
+    ghost view = { λ r. vec_capacity r.numbers };
+
+    ghost invariant = { λ r. r.numbers.items ≡ [] };
+}
+
+impl PathRoom {
+    pub fn of(alloc: Global, birth_numbers: usize) -> Result<PathRoom, AllocError>
+        ensures { IfOk result (λ room. room ≡ birth_numbers) }
+    {
+        Ok(PathRoom {
+            numbers: Vec::with_capacity(alloc, birth_numbers)?,
+        })
+    }
+
+    /// The path of the first birth numbers of another. It takes no memory.
+    pub fn fill(self, path: &Path, len: usize) -> Path
+        requires room { len ≤ self }
+        requires within { len ≤ length path.now }
+        ensures { result ≡ take len path.now }
+    {
+        let PathRoom { mut numbers } = self;
+        // There is room, so that this does not fail.
+        let _ = numbers.extend_from_slice(&path.numbers[..len]);
+        Path { numbers }
     }
 }

@@ -1,7 +1,6 @@
 //! Expressions, lists of them and variables, where so many more levels of nesting may open.
 
 ghost use Rattle.std.specs.Prelude.{◌≡◌, ⊤};
-ghost use Rattle.estelle_tree.specs.Kind.{is_name};
 ghost use Rattle.token_reader.specs.Reader.{Reads};
 ghost use Rattle.token_reader.specs.Nests.{Nests};
 ghost use Rattle.expression_parser.specs.Expression as spec;
@@ -149,53 +148,5 @@ impl Begins for ExprAt {
 
     fn begins(&self, kind: Kind) -> bool {
         begins_expr(kind)
-    }
-}
-
-/// `Args`, where so many levels of nesting may open in it.
-#[derive(Clone, Copy, Debug, PartialEq, Eq)]
-pub struct ArgsAt {
-    pub room: u32,
-}
-
-impl Read<Args> for ArgsAt {
-    ghost parser = { λ s. spec.args s.room };
-
-    ghost can = { λ _. ⊤ };
-
-    fn read(&self, alloc: Global, tokens: &mut Cursor<'_>) -> Result<Args, ReadError> {
-        args(alloc, tokens, self.room)
-    }
-}
-
-impl Begins for ArgsAt {
-    ghost begins = { λ _. spec.begins_expr };
-
-    fn begins(&self, kind: Kind) -> bool {
-        begins_expr(kind)
-    }
-}
-
-/// `Variable`, where so many levels of nesting may open in it.
-#[derive(Clone, Copy, Debug, PartialEq, Eq)]
-pub struct VariableAt {
-    pub room: u32,
-}
-
-impl Read<Variable> for VariableAt {
-    ghost parser = { λ s. spec.variable s.room };
-
-    ghost can = { λ _. ⊤ };
-
-    fn read(&self, alloc: Global, tokens: &mut Cursor<'_>) -> Result<Variable, ReadError> {
-        variable(alloc, tokens, self.room)
-    }
-}
-
-impl Begins for VariableAt {
-    ghost begins = { λ _. is_name };
-
-    fn begins(&self, kind: Kind) -> bool {
-        matches!(kind, Kind::Name)
     }
 }

@@ -11,8 +11,5 @@ mod laws;
 mod operation;
 mod operator;
 
-pub use expression::{ArgsAt, ExprAt, VariableAt, args, begins_expr, expr, variable};
+pub use expression::{ExprAt, args, expr, variable};
 pub use laws::{args_laws, expr_laws, variable_laws};
-
-#[cfg(test)]
-mod tests;

@@ -16,7 +16,7 @@ use Rattle.estelle_model.specs.Meant.{Meanings}
 use Rattle.estelle_model.specs.Definitions.{types_received, interaction_of, received, domains_of}
 use Rattle.estelle_model.specs.Bodies.{Way, behind, ways, trans_body_layer, group_layer, clauses, clauses_layer, clause_group_layer}
 use Rattle.estelle_model.specs.Transitions.{Transition, or_first, said, from_of, to_of, when_of, provided_of, priority_of, delay_of, names_of_domain, choices, flat_one, flat_way}
-use Rattle.flat_transitions.specs.declared.said.Said.{Said}
+use Rattle.flat_transitions.specs.declared.in_force.ClausesInForce.{ClausesInForce}
 use Rattle.flat_transitions.specs.Flat.{is_any, have_no_any, is_without_any, ways_in, transitions_in}
 use Rattle.flat_transitions.specs.Walks.{unsaid, with_clause, reached, at_way, below}
 use Rattle.flat_transitions.proofs.Walks.{group_clauses, group_ways}
@@ -145,7 +145,7 @@ module _ (known : Meanings) where
       sym (flat_map-append types (interaction_of c ++ []) (flat_map interaction_of cs)) ∙ ap (λ xs. flat_map types (xs ++ flat_map interaction_of cs)) (append-nil (interaction_of c))
 
   -- what is said, with all that these clauses say
-  abbrev joined : Said → List Clause → Said
+  abbrev joined : ClausesInForce → List Clause → ClausesInForce
   joined s cs = record {
     from = or_first s.from (said (from_of known) cs);
     to = or_first s.to (said (to_of known) cs);
@@ -156,7 +156,7 @@ module _ (known : Meanings) where
     delay = or_first s.delay (said (delay_of known) cs);
   }
 
-  joined_more : (s : Said) (c : Clause) (cs : List Clause) → joined (with_clause known s c) cs ≡ joined s (c ∷ cs)
+  joined_more : (s : ClausesInForce) (c : Clause) (cs : List Clause) → joined (with_clause known s c) cs ≡ joined s (c ∷ cs)
   joined_more s c cs =
       let from = first_again s.from (from_of known c) (said (from_of known) cs) in
       let to = first_again s.to (to_of known c) (said (to_of known) cs) in
@@ -167,10 +167,10 @@ module _ (known : Meanings) where
       let delay = first_again s.delay (delay_of known c) (said (delay_of known) cs) in
       cc
 
-  joined_none : (s : Said) → s ≡ joined s []
+  joined_none : (s : ClausesInForce) → s ≡ joined s []
   joined_none s = rw (← first_alone s.from, ← first_alone s.to, ← first_alone s.when, append-nil s.received, ← first_alone s.provided, ← first_alone s.priority, ← first_alone s.delay) refl
 
-  all_said : (cs : List Clause) (s : Said) → fold (with_clause known) s cs ≡ joined s cs
+  all_said : (cs : List Clause) (s : ClausesInForce) → fold (with_clause known) s cs ≡ joined s cs
   all_said [] s = joined_none s
   all_said (c ∷ cs) s = all_said cs (with_clause known s c) ∙ joined_more s c cs
 

@@ -12,7 +12,7 @@ use Rattle.estelle_tree.specs.declared.tree.specification.Trans.{Trans}
 use Rattle.estelle_model.specs.Meant.{Meanings}
 use Rattle.estelle_model.specs.Bodies.{Way, behind, ways, trans_body_layer, group_layer, clauses, clauses_layer, clause_group_layer}
 use Rattle.estelle_model.specs.Transitions.{Transition}
-use Rattle.flat_transitions.specs.declared.said.Said.{Said}
+use Rattle.flat_transitions.specs.declared.in_force.ClausesInForce.{ClausesInForce}
 use Rattle.flat_transitions.specs.Flat.{is_any, have_no_any, is_without_any}
 use Rattle.flat_transitions.specs.Walks.{with_clause, reached, at_way, below, below_group, has_no_any}
 
@@ -66,34 +66,34 @@ unfolding ways group_ways
 group_ways_are x = fold_out-Group (List Way) (List Way) trans_body_layer group_layer x
 
 module _ (known : Meanings) where
-  abbrev below_at : Said → TransBody-F TransBody Group → List Transition
+  abbrev below_at : ClausesInForce → TransBody-F TransBody Group → List Transition
   below_at s (TransBody-F.Block b) = reached s b ∷ []
   below_at s (TransBody-F.Groups groups span) = flat_map (below_group known s) groups
 
-  pub below_group_is : (s : Said) (g : Group) → below_group known s g ≡ below known (with_clause known s (out-Group g).clause) (out-Group g).body
+  pub below_group_is : (s : ClausesInForce) (g : Group) → below_group known s g ≡ below known (with_clause known s (out-Group g).clause) (out-Group g).body
   unfolding below_group
   below_group_is s g = refl
 
-  behind_below : (s : Said) (c : Clause) (ws : List Way) → map (at_way known s) (map (behind c) ws) ≡ map (at_way known (with_clause known s c)) ws
+  behind_below : (s : ClausesInForce) (c : Clause) (ws : List Way) → map (at_way known s) (map (behind c) ws) ≡ map (at_way known (with_clause known s c)) ws
   behind_below s c [] = refl
   behind_below s c (w ∷ ws) = ap (λ ts. at_way known (with_clause known s c) w ∷ ts) (behind_below s c ws)
 
-  append_mapped : (s : Said) (vs ws : List Way) → map (at_way known s) (vs ++ ws) ≡ map (at_way known s) vs ++ map (at_way known s) ws
+  append_mapped : (s : ClausesInForce) (vs ws : List Way) → map (at_way known s) (vs ++ ws) ≡ map (at_way known s) vs ++ map (at_way known s) ws
   append_mapped s [] ws = refl
   append_mapped s (v ∷ vs) ws = ap (λ ts. at_way known s v ∷ ts) (append_mapped s vs ws)
 
-  groups_below : (s : Said) (xs : List Group) → map (at_way known s) (flat_map (λ ws. ws) (map group_ways xs)) ≡ flat_map (below_group known s) xs
+  groups_below : (s : ClausesInForce) (xs : List Group) → map (at_way known s) (flat_map (λ ws. ws) (map group_ways xs)) ≡ flat_map (below_group known s) xs
   groups_below s [] = refl
   groups_below s (x ∷ xs) =
       append_mapped s (group_ways x) (flat_map (λ ws. ws) (map group_ways xs))
       ∙ ap (λ ts. ts ++ map (at_way known s) (flat_map (λ ws. ws) (map group_ways xs))) (ap (map (at_way known s)) (group_ways_are x) ∙ behind_below s (out-Group x).clause (ways (out-Group x).body) ∙ sym (below_group_is s x))
       ∙ ap (λ ts. below_group known s x ++ ts) (groups_below s xs)
 
-  layer_below : (s : Said) (l : TransBody-F TransBody Group) → map (at_way known s) (trans_body_layer (map-TransBody TransBody Group (List Way) (List Way) ways group_ways l)) ≡ below_at s l
+  layer_below : (s : ClausesInForce) (l : TransBody-F TransBody Group) → map (at_way known s) (trans_body_layer (map-TransBody TransBody Group (List Way) (List Way) ways group_ways l)) ≡ below_at s l
   layer_below s (TransBody-F.Block b) = refl
   layer_below s (TransBody-F.Groups groups span) = groups_below s groups
 
-  pub below_is : (s : Said) (x : TransBody) → below known s x ≡ below_at s (out-TransBody x)
+  pub below_is : (s : ClausesInForce) (x : TransBody) → below known s x ≡ below_at s (out-TransBody x)
   below_is s x = ap (map (at_way known s)) (ways_are x) ∙ layer_below s (out-TransBody x)
 
 pub ruleset groups = (none_is, below_is, below_group_is, append_assoc, append-nil)

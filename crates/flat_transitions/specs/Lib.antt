@@ -1,2 +1,4 @@
 pub mod Flat
 pub mod Walks
+pub mod FlatList
+pub mod BodyWalks

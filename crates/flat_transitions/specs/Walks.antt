@@ -9,14 +9,14 @@ use Rattle.estelle_model.specs.Definitions.{received}
 use Rattle.estelle_model.specs.Bodies.{Way, ways, clauses}
 use Rattle.estelle_model.specs.Transitions.{Transition, or_first, from_of, to_of, when_of, provided_of, priority_of, delay_of}
 use Rattle.flat_transitions.specs.Flat.{is_any, have_no_any}
-use Rattle.flat_transitions.specs.declared.said.Said.{Said}
+use Rattle.flat_transitions.specs.declared.in_force.ClausesInForce.{ClausesInForce}
 
 -- nothing is said
-abbrev pub unsaid : Said
+abbrev pub unsaid : ClausesInForce
 unsaid = record { from = None; to = None; when = None; received = []; provided = None; priority = None; delay = None }
 
 -- what is said, with one more clause
-abbrev pub with_clause : Meanings → Said → Clause → Said
+abbrev pub with_clause : Meanings → ClausesInForce → Clause → ClausesInForce
 with_clause known s c = record {
   from = or_first s.from (from_of known c);
   to = or_first s.to (to_of known c);
@@ -28,17 +28,17 @@ with_clause known s c = record {
 }
 
 -- the transition of a block of which this is said
-abbrev pub reached : Said → Block → Transition
+abbrev pub reached : ClausesInForce → Block → Transition
 reached s b = record { from = s.from; to = s.to; when = s.when; received = s.received; provided = s.provided; priority = s.priority; delay = s.delay; chosen = []; block = b }
 
-abbrev pub at_way : Meanings → Said → Way → Transition
+abbrev pub at_way : Meanings → ClausesInForce → Way → Transition
 at_way known s w = reached (fold (with_clause known) s w.clauses) w.block
 
 -- the transitions of the blocks in it, where this is said before
-abbrev pub below : Meanings → Said → TransBody → List Transition
+abbrev pub below : Meanings → ClausesInForce → TransBody → List Transition
 below known s b = map (at_way known s) (ways b)
 
-unfoldable pub below_group : Meanings → Said → Group → List Transition
+unfoldable pub below_group : Meanings → ClausesInForce → Group → List Transition
 below_group known s g = below known (with_clause known s (out-Group g).clause) (out-Group g).body
 
 -- no clause `any` stands in it

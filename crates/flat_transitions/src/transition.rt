@@ -5,7 +5,7 @@ ghost use Rattle.std.specs.Option.{option_copied};
 ghost use Rattle.flat_transitions.specs.Walks.{reached};
 
 use crate::clauses::{Delay, When};
-use crate::said::Said;
+use crate::in_force::ClausesInForce;
 use crate::shared::Shared;
 use estelle_model::Type;
 use estelle_tree::{Block, Expr, Items, Sequence};
@@ -15,7 +15,7 @@ use std::marker::Model;
 /// A flat transition.
 #[derive(Drop)]
 pub struct Transition<'a> {
-    said: Said<'a>,
+    said: ClausesInForce<'a>,
     block: &'a Block,
 }
 
@@ -37,7 +37,7 @@ impl<'a> Model for Transition<'a> {
 
 impl<'a> Transition<'a> {
     /// The transition of a block of which this is said.
-    pub fn of(said: Said<'a>, block: &'a Block) -> Transition<'a>
+    pub fn of(said: ClausesInForce<'a>, block: &'a Block) -> Transition<'a>
         ensures { result ≡ reached said.entry block.now }
     {
         Transition { said, block }

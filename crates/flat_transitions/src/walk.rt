@@ -7,7 +7,7 @@ ghost use Rattle.flat_transitions.specs.Walks.{unsaid, below, below_group};
 ghost use Rattle.meaning_table.specs.Known.{meanings_of};
 
 use crate::any::is_without_any;
-use crate::said::Said;
+use crate::in_force::ClausesInForce;
 use crate::transition::{Transition, Transitions};
 use estelle_tree::{Group, Sequence, Trans, TransBody};
 use meaning_table::Table;
@@ -16,7 +16,7 @@ use std::alloc::AllocError;
 #[cycle(groups)]
 fn trans_body<'a>(
     table: &Table,
-    said: &Said<'a>,
+    said: &ClausesInForce<'a>,
     body: &'a TransBody,
     out: &mut Transitions<'a>,
 ) -> Result<(), AllocError>
@@ -31,7 +31,7 @@ fn trans_body<'a>(
 #[cycle(groups)]
 fn groups<'a>(
     table: &Table,
-    said: &Said<'a>,
+    said: &ClausesInForce<'a>,
     groups: &'a [Group],
     out: &mut Transitions<'a>,
 ) -> Result<(), AllocError>
@@ -46,7 +46,7 @@ fn groups<'a>(
 #[cycle(groups)]
 fn group<'a>(
     table: &Table,
-    said: &Said<'a>,
+    said: &ClausesInForce<'a>,
     group: &'a Group,
     out: &mut Transitions<'a>,
 ) -> Result<(), AllocError>
@@ -64,7 +64,7 @@ fn each_trans<'a>(
 ) -> Result<(), AllocError>
     ensures { OnOk result (out.new ≡ out.old ++ flat_map (λ t. below (meanings_of table.now) unsaid t.body) transitions.now) }
 {
-    let said = Said::nothing(table.alloc)?;
+    let said = ClausesInForce::nothing(table.alloc)?;
     for trans in transitions {
         trans_body(table, &said, &trans.body, out)?;
     }

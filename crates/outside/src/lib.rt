@@ -23,6 +23,3 @@ pub use source::Source;
 pub use standard::{StdSink, StdSource};
 pub use sure::{SureSink, SureSource};
 pub use virtual_clock::VirtualClock;
-
-#[cfg(test)]
-mod tests;

@@ -1,1 +1,5 @@
-mod Reported
+pub mod Members
+pub mod Following
+pub mod Openings
+pub mod Breaches
+mod OfSpecification

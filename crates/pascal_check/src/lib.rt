@@ -1,35 +1,15 @@
 //! Pascal's static rules on types and routines, the rules 40 to 48, of a specification whose names are resolved.
 //!
-//! It stands on `declaration_table` for what names mean, on `rule_sites` for where the rules speak of them, on
-//! `site_rules` for what is reported of these places, and on `scope_rules` for what a refusal is. `check` is Ok
-//! exactly where none of these rules is broken.
+//! It stands on `declaration_table` for what names mean, on `pascal_check_sites` for where the rules speak of them, on
+//! `type_rules` for when each rule is broken there, on `scope_rules` for what a refusal is and which of two breaches is
+//! reported, and on `indexmap`. `open_routines` has the routines that are not closed, `rules` what one place breaks, and
+//! `reported` the breach that is reported of all places. `check` is Ok exactly where none of these rules is broken.
 #![tactic(auto)]
 
-ghost use Rattle.std.specs.Prelude.{IfErr, OnOk};
-ghost use Rattle.scope_rules.specs.declared.refusal.Breach.{Breach};
-ghost use Rattle.scope_rules.specs.Least.{Refuses};
-ghost use Rattle.type_rules.specs.PascalRules.{PascalRuleBroken};
+mod open_routines;
+mod reported;
+mod rules;
+mod specification;
 
-use declaration_table::declarations;
-use estelle_tree::{Names, Sequence, Spec};
-use rule_sites::sites;
-use scope_rules::Refusal;
-use site_rules::judge;
-use std::alloc::Global;
-
-/// Nothing where none of the rules 40 to 48 is broken; else the least of these rules that is broken, with the first
-/// node in the text that breaks it.
-pub fn check(alloc: Global, tree: &Spec, names: &Names) -> Result<(), Refusal>
-    ensures kept { OnOk result ((b : Breach) → ¬ (PascalRuleBroken tree.now names.now b)) }
-    ensures refused { IfErr result (Refuses (PascalRuleBroken tree.now names.now)) }
-{
-    let table = declarations(alloc, tree, names)?;
-    let sites = sites(alloc, tree, &table)?;
-    match judge(alloc, sites.items())? {
-        None => Ok(()),
-        Some(breach) => Err(Refusal::Rule {
-            number: breach.number,
-            span: breach.span,
-        }),
-    }
-}
+pub use reported::judge;
+pub use specification::check;

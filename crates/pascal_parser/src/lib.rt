@@ -10,6 +10,3 @@ mod reading;
 
 pub use calls::{expression, routine, statements, type_expr};
 pub use error::SyntaxError;
-
-#[cfg(test)]
-mod tests;

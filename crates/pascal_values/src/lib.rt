@@ -41,6 +41,3 @@ pub use value::{Relation, Shape, Value, Values};
 pub use way::{find, part, replace};
 pub use whole::{blank, copy};
 pub use writing::write_value;
-
-#[cfg(test)]
-mod tests;

@@ -11,7 +11,7 @@ use crate::reading::{
 };
 use crate::value::{Value, Values};
 use crate::words::separator_at;
-use estelle_lists::Sequence;
+use estelle_lists::SequenceMut;
 use std::alloc::Global;
 
 /// How deep arrays and records may nest in a text.

@@ -1,7 +1,7 @@
 ghost use Rattle.std.specs.Prelude.{◌≡◌, ◌∷◌, [], ◌++◌, ◌<◌, length, slice_get, slice_set, Some, OnOk, OnErr};
 ghost use Rattle.std.specs.declared.alloc.Global.{Global};
 
-use estelle_lists::Sequence;
+use estelle_lists::{Sequence, SequenceMut};
 use std::alloc::{AllocError, Global};
 use std::marker::Model;
 use std::mem;
@@ -51,12 +51,16 @@ impl<T: Drop> Parts<T> {
     }
 }
 
-impl<T: Drop> Sequence<T> for Parts<T> {
+impl<T> Sequence<T> for Parts<T> {
     ghost list = { λ items. items };
 
     fn items(&self) -> &[T] {
         &self.items
     }
+}
+
+impl<T: Drop> SequenceMut<T> for Parts<T> {
+    ghost list = { λ items. items };
 
     fn none(alloc: Global) -> Self {
         Parts {

@@ -5,7 +5,7 @@ ghost use Rattle.std.specs.Option.{option_copied};
 ghost use Rattle.pascal_values.specs.Values.{part_of, with_part, changed_at};
 
 use crate::value::{Value, Values};
-use estelle_lists::Sequence;
+use estelle_lists::{Sequence, SequenceMut};
 use std::mem;
 
 /// The part at the way, if it leads to one. A way has the number of a part at each level, from 0.

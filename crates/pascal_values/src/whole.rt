@@ -4,7 +4,7 @@ ghost use Rattle.std.specs.Prelude.{◌≡◌, ◌+◌, IfOk, map, replicate};
 ghost use Rattle.pascal_values.specs.Shapes.{blank_of};
 
 use crate::value::{Shape, Value, Values};
-use estelle_lists::Sequence;
+use estelle_lists::{Sequence, SequenceMut};
 use std::alloc::{AllocError, Global};
 
 /// A value of the shape whose simple parts and sets are unset.

@@ -17,8 +17,8 @@ use Rattle.estelle_model.specs.declared.meaning.Meaning.{Meaning}
 use Rattle.estelle_model.specs.declared.meaning.Meaning.TheVariants.{Called}
 use Rattle.estelle_model.specs.Meant.{Meanings}
 use Rattle.estelle_model.specs.Places.{set_value}
-use Rattle.estelle_model.specs.declared.place.Here.{Here}
-use Rattle.estelle_model.specs.declared.place.Given.{Given}
+use Rattle.estelle_model.specs.declared.place.Environment.{Environment}
+use Rattle.estelle_model.specs.declared.place.ActualParameters.{ActualParameters}
 use Rattle.estelle_model.specs.Expressions.{Call, Operand, Selecting, Written, bool_step, ordinal_step, computed, give_all, no_arguments, result_host, called, valued, designated, accessed, factor_layer, selector_layer, args_layer, elem_layer, expr_layer, simple_layer, term_layer, variable_layer, expr, args, variable, assigned, target}
 use Rattle.estelle_model.specs.Loops.{while_loop, repeat_loop}
 use Rattle.estelle_model.specs.Statements.{Action, Init, Output, chosen, or_nothing, arguments, assign_to, assign, invoke_of, invoke, choose, count_over, count, select, stmt_layer, case_layer, stmts_layer, stmts}
@@ -26,9 +26,9 @@ use Rattle.plain_jobs.specs.Plain.{IsPlainRoutine, HasPlainRoutines}
 
 -- two calls do the same of plain routines
 abbrev pub AgreeOnPlain : {S : Type 0} → Call S → Call S → Type 0
-AgreeOnPlain call call' = (r : Routine) (g : Given) → IsPlainRoutine r → call r g ≡ call' r g
+AgreeOnPlain call call' = (r : Routine) (g : ActualParameters) → IsPlainRoutine r → call r g ≡ call' r g
 
-module _ (S : Type 0) (on : Offers S) (meant : Meanings) (plain : HasPlainRoutines meant) (call call' : Call S) (agree : AgreeOnPlain call call') (here : Here) where
+module _ (S : Type 0) (on : Offers S) (meant : Meanings) (plain : HasPlainRoutines meant) (call call' : Call S) (agree : AgreeOnPlain call call') (here : Environment) where
   called_same : (r : Routine) → IsPlainRoutine r → (es : List (Operand S)) → called S on meant call here r es ≡ called S on meant call' here r es
   unfolding called
   called_same r h es = λ i. give_all r.parameters es no_arguments >>= λ given. agree r given h i >>= λ v. checked (set_value (Some v))
@@ -64,7 +64,7 @@ module _ (S : Type 0) (on : Offers S) (meant : Meanings) (plain : HasPlainRoutin
   unfolding variable
   variables_same = ap (λ (l : Layer → Operand S). fold-Variable (Operand S) (Selecting S) (List (Operand S)) (Step S (List ℕ)) (Operand S) (Operand S) (Operand S) (Written S) l (selector_layer S on meant call here) (args_layer S on meant call here) (elem_layer S on meant call here) (expr_layer S on meant call here) (simple_layer S on meant call here) (term_layer S on meant call here) (variable_layer S on meant call here)) factors_same
 
-  module _ (act : Here → Action S → Do S) where
+  module _ (act : Environment → Action S → Do S) where
     arguments_same : (es : Option Args) → arguments S on meant act call here es ≡ arguments S on meant act call' here es
     arguments_same None = refl
     arguments_same (Some es) = λ i. args_same i es

@@ -5,19 +5,20 @@ use Rattle.std.specs.Cmp.{IsTotalOrder}
 use Rattle.std.specs.Cmp.Lexicographic.{nat_list_cmp_total}
 use Rattle.std.proofs.lemmas.Cmp.{nat_cmp_total, then_total}
 use Rattle.estelle_tree.specs.declared.link.Link.{Link}
-use Rattle.estelle_model.specs.declared.event.Pair.{Pair}
+use Rattle.estelle_tree.specs.declared.transition.Pair.{Pair}
 use Rattle.estelle_model.specs.declared.image.Part.{Part}
 use Rattle.estelle_model.specs.declared.image.Image.{Image}
 use Rattle.estelle_model.specs.declared.effect.Effect.{Effect as LoggedEffect}
 use Rattle.estelle_model.specs.declared.job.Outcome.{Outcome as JobOutcome}
 use Rattle.estelle_model.specs.declared.job.Outcome.TheVariants as outcome
-use Rattle.estelle_model.specs.Paths.{path_cmp}
+use Rattle.estelle_tree.specs.Paths.{path_cmp}
 use Rattle.estelle_model.specs.Core.{Instance, Instances}
 use Rattle.estelle_model.specs.States.{Logged}
 use Rattle.estelle_model.specs.Steps.{Outcome}
 use Rattle.estelle_model.specs.Blocks.{fresh}
 use Rattle.estelle_model.specs.Subject.{Subject}
-use Rattle.estelle_model.specs.Situation.{Situation, Acting, Timer, pair_cmp}
+use Rattle.estelle_tree.specs.Timers.{Timer, pair_cmp}
+use Rattle.estelle_model.specs.Situation.{Situation, Acting}
 use Rattle.estelle_model.specs.Firing.{Firing, Ran, Failed, alone, root, bare, begun, done, untimed, start}
 use Rattle.estelle_model.specs.Jobs.{part_of_entry, Shows, overlaid, outline_of_parts, ran, IsPut, IsAnswer}
 use Rattle.estelle_model.proofs.Alike.{Same, OutcomeAlike}

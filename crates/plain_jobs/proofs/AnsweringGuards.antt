@@ -13,12 +13,13 @@ use Rattle.estelle_model.specs.Transitions.{Transition, When}
 use Rattle.estelle_model.specs.Subject.{Subject, transition}
 use Rattle.estelle_model.specs.Clauses.{guard_step, answered}
 use Rattle.estelle_model.specs.Situation.{Situation, Waiting}
-use Rattle.estelle_model.specs.Queues.{Head, Absent, is_meant, head_for, queue, found}
+use Rattle.estelle_model.specs.Queues.{Head, Absent, head_at, is_named, queue, found}
+use Rattle.estelle_tree.specs.Queues.{waits_at}
 use Rattle.estelle_model.specs.Firing.{begun, is_in_state, transition_at, guard_with, guard_found, guard_of, guard_at}
 use Rattle.estelle_model.specs.Jobs.{found_by}
 use Rattle.plain_jobs.specs.Computed.{IsPlain, core_of, log_from, values_of}
 use Rattle.plain_jobs.specs.Guards.{head_of, IsGuard, is_received, guard_run, guard_by, guard_for, guard_of_image}
-use Rattle.estelle_model.specs.Paths.{Path}
+use Rattle.estelle_tree.specs.Paths.{Path}
 use Rattle.estelle_model.specs.Legal.{AreLegal}
 use Rattle.estelle_model.specs.Jobs.{private, Shows}
 use Rattle.plain_jobs.proofs.PlainGuards.{guard_alike, same_answer}
@@ -37,17 +38,17 @@ module _ (s : Subject) (plain : IsPlain s) (p : Path) (image : Image) (n : ℕ) 
     with_head h = guard_with s budget g p t timed (values_of h)
 
     -- the head is what is found
-    by_queue : (w : When) (a : IpAddr) (name : List ℕ) (ws : List Waiting) → head ≡ head_of (head_for a name ws) → cond (is_received (Some w) head) (with_head head) Off ≡ guard_found s budget g p t timed (head_for a name ws)
-    by_queue w a name [] h = ap (λ x. cond (is_received (Some w) x) (with_head x) Off) h
-    by_queue w a name (x ∷ ws) h = by_first (is_meant a name x) h
+    by_queue : (w : When) (a : IpAddr) (ws : List Waiting) → t.when ≡ Some w → head ≡ head_of (head_at a ws) → cond (is_received (Some w) head) (with_head head) Off ≡ guard_found s budget g p t timed (head_at a ws)
+    by_queue w a [] e h = ap (λ x. cond (is_received (Some w) x) (with_head x) Off) h
+    by_queue w a (x ∷ ws) e h = by_first (waits_at a x) h
       where
         by_first : (b : Bool) → head ≡ head_of (cond b (Head x.item) Absent) → cond (is_received (Some w) head) (with_head head) Off ≡ guard_found s budget g p t timed (cond b (Head x.item) Absent)
-        by_first true k = ap (λ y. cond (is_received (Some w) y) (with_head y) Off) k
+        by_first true k = ap (λ y. cond (is_received (Some w) y) (with_head y) Off) k ∙ ap (λ o. cond (is_named x.item o) (with_head (Some x.item)) Off) (sym e)
         by_first false k = ap (λ y. cond (is_received (Some w) y) (with_head y) Off) k
 
-    by_when : (w : Option When) → head ≡ head_of (found s g p w) → cond (is_received w head) (with_head head) Off ≡ guard_found s budget g p t timed (found s g p w)
-    by_when None h = ap with_head h
-    by_when (Some w) h = by_queue w (record { path = p; ip = w.ip }) w.name (queue s g (record { path = p; ip = w.ip })) h
+    by_when : (w : Option When) → t.when ≡ w → head ≡ head_of (found s g p w) → cond (is_received w head) (with_head head) Off ≡ guard_found s budget g p t timed (found s g p w)
+    by_when None e h = ap with_head h
+    by_when (Some w) e h = by_queue w (record { path = p; ip = w.ip }) (queue s g (record { path = p; ip = w.ip })) e h
 
     by_state : (b c : Bool) (x y : Guard) → cond c x Off ≡ y → cond (b && c) x Off ≡ cond b y Off
     by_state true c x y h = h
@@ -55,7 +56,7 @@ module _ (s : Subject) (plain : IsPlain s) (p : Path) (image : Image) (n : ℕ) 
 
   by_transition : (instance : Instance) (o : Option Transition) → transition s instance.body n ≡ o → head ≡ head_of (found_by s g p o) → guard_by s p image head timed budget instance o ≡ guard_of s budget g p timed instance o
   by_transition instance None is h = refl
-  by_transition instance (Some t) is h = by_state t (is_in_state t.from instance.state) (is_received t.when head) _ _ (ap (λ x. cond (is_received t.when head) x Off) (run_same instance t is) ∙ by_when t t.when h)
+  by_transition instance (Some t) is h = by_state t (is_in_state t.from instance.state) (is_received t.when head) _ _ (ap (λ x. cond (is_received t.when head) x Off) (run_same instance t is) ∙ by_when t t.when refl h)
 
   by_instance : (o : Option Instance) → head ≡ head_of (found_by s g p (transition_at s n o)) → guard_for s p image n head timed budget o ≡ elim o as (λ x. Guard) [ None ↦ Off | Some i ↦ guard_of s budget g p timed i (transition s i.body n) ]
   by_instance None h = refl

@@ -8,7 +8,7 @@ use Rattle.std.specs.Cmp.Lexicographic.{nat_list_cmp_total}
 use Rattle.std.specs.Ordering.{eq_by_cmp, is_lt, is_eq}
 use Rattle.std.specs.declared.cmp.Ordering.{Ordering}
 use Rattle.std.specs.declared.cmp.Ordering.TheVariants.{Less, Equal, Greater}
-use Rattle.estelle_model.specs.Paths.{Path, path_cmp}
+use Rattle.estelle_tree.specs.Paths.{Path, path_cmp}
 use Rattle.estelle_model.specs.Core.{Instance, Instances}
 use Rattle.estelle_model.specs.Jobs.{part_of_entry, insert_part}
 

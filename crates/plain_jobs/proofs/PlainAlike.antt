@@ -4,13 +4,13 @@ use Rattle.std.specs.FinMap as map
 use Rattle.pascal_values.specs.declared.fault.Fault.TheVariants as fault
 use Rattle.pascal_values.specs.declared.value.Value.{Value}
 use Rattle.estelle_tree.specs.declared.tree.expression.Expr.{Expr}
-use Rattle.estelle_model.specs.Paths.{Path, is_inside}
+use Rattle.estelle_tree.specs.Paths.{Path, is_inside}
 use Rattle.estelle_model.specs.Effects.{Store}
 use Rattle.estelle_model.specs.States.{Offers}
 use Rattle.estelle_model.specs.Steps.{Running, Outcome, Do, fail}
 use Rattle.estelle_model.specs.declared.meaning.Routine.{Routine}
 use Rattle.estelle_model.specs.Meant.{Meanings}
-use Rattle.estelle_model.specs.declared.place.Here.{Here}
+use Rattle.estelle_model.specs.declared.place.Environment.{Environment}
 use Rattle.estelle_model.specs.Statements.{Action}
 use Rattle.estelle_model.specs.Calls.{Enters}
 use Rattle.estelle_model.specs.Blocks.{block_step, clause_value}
@@ -22,10 +22,10 @@ use Rattle.plain_jobs.specs.Plain.{IsPlainRoutine, HasPlainRoutines, Leaves}
 use Rattle.plain_jobs.proofs.Same.{block_same, clause_same}
 
 -- where no statement of Estelle is run, it may do anything
-abbrev idle : (S : Type 0) → Enters S → Here → Action S → Do S
+abbrev idle : (S : Type 0) → Enters S → Environment → Action S → Do S
 idle S enters here a = fail fault.Unset
 
-module _ (S T : Type 0) (on : Offers S) (on' : Offers T) (m : Path) (R : S → T → Type 0) (show : ShowAlike S T on on' m R) (meant : Meanings) (plain : HasPlainRoutines meant) (act : Enters S → Here → Action S → Do S) (act' : Enters T → Here → Action T → Do T) where
+module _ (S T : Type 0) (on : Offers S) (on' : Offers T) (m : Path) (R : S → T → Type 0) (show : ShowAlike S T on on' m R) (meant : Meanings) (plain : HasPlainRoutines meant) (act : Enters S → Environment → Action S → Do S) (act' : Enters T → Environment → Action T → Do T) where
   idle_alike : ActsAlike S T on on' m R (idle S) (idle T)
   idle_alike enters enters' h here w a b same = fail_alike S T R (Same {A = Unit {0}}) fault.Unset
 
@@ -61,6 +61,6 @@ module _ (S : Type 0) (on : Offers S) (K : S → Type 0) (kept : (s : S) (p : Pa
   leaves (Ok r) (Err x) h = absurd h
   leaves (Err e) (Ok q) h = absurd h
 
-  pub plain_block_keeps : (meant : Meanings) → HasPlainRoutines meant → (act : Enters S → Here → Action S → Do S) (p : Path) (r : Routine) (vs : List Value) → IsPlainRoutine r → (s : Running S) → K s.state → Leaves K (block_step S on meant act p r vs s)
+  pub plain_block_keeps : (meant : Meanings) → HasPlainRoutines meant → (act : Enters S → Environment → Action S → Do S) (p : Path) (r : Routine) (vs : List Value) → IsPlainRoutine r → (s : Running S) → K s.state → Leaves K (block_step S on meant act p r vs s)
   plain_block_keeps meant plain act p r vs is s k = leaves (block_step S on meant act p r vs s) (block_step S on meant act p r vs s)
       (plain_block_alike S S on on [] Keeping keeping_shows meant plain act act p (inside_root p) r vs is s s (record { state = (refl, k); frames = refl; left = refl }))

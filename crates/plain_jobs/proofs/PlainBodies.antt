@@ -1,5 +1,5 @@
 -- A specification without statements of Estelle has none in any body, and so none in what is run.
-use Rattle.std.proofs.Common.{◌≡◌, ℕ, zero, suc, Bool, List, [], ◌∷◌, ◌++◌, map, length, Option, Some, None, refl, sym, subst, ◌∙◌}
+use Rattle.std.proofs.Common.{◌≡◌, ℕ, zero, suc, Bool, true, List, [], ◌∷◌, ◌++◌, map, length, Option, Some, None, refl, sym, subst, ◌∙◌}
 use Rattle.std.specs.Prelude.{IsTrue, flat_map, ◌+◌, ◌&&◌, option_map, option_and_then, option_to_list, unwrap_or}
 use Rattle.std.specs.List.{list_all}
 use Rattle.estelle_tree.specs.declared.tree.name.Name.{Name}
@@ -14,11 +14,12 @@ use Rattle.estelle_tree.specs.declared.tree.specification.Body.{Body, roll-Body}
 use Rattle.estelle_tree.specs.declared.tree.specification.Parts.{Parts, roll-Parts}
 use Rattle.estelle_tree.specs.declared.tree.specification.Decl.TheOpen.{Decl-F, Body-F, Parts-F}
 use Rattle.estelle_tree.specs.declared.tree.specification.Decl.TheFolds.{map-Body, map-Parts, fold-Decl, fold-Body, fold-roll-Body, fold-roll-Parts, ind-Parts}
+use Rattle.estelle_model.specs.declared.meaning.Senders.{Senders}
 use Rattle.estelle_model.specs.declared.meaning.Meaning.TheVariants.{Own, Exported, Ip, State, Interaction, Header, Module}
 use Rattle.estelle_model.specs.Meant.{Meanings}
 use Rattle.estelle_model.specs.Denoted.{Declaration, Declarations, declare, numbered, types_declare, sections_declare, section_types, count_names}
-use Rattle.estelle_model.specs.Definitions.{const_def, type_def, local, parameter_sections, inter_declares, channel_declares, domains_of, clause_declares, block_declares}
-use Rattle.estelle_model.specs.Bodies.{Way, ways, Brought, Standing, ip_names, ips_common, export_sections, header_declares, stateset_declares, decl_layer, headed, body_layer, parts_layer, standings, default_of, bodies, heading, variables_in, module_variables_in, states_in, ips_in, own_from, ways_of, attribute_of, clauses_in, name_declares, body_declares, bodies_declare}
+use Rattle.estelle_model.specs.Definitions.{const_def, type_def, local, parameter_sections, senders, inter_declares, group_declares, channel_declares, domains_of, clause_declares, block_declares}
+use Rattle.estelle_model.specs.Bodies.{Way, ways, Contribution, BodyAlone, ip_names, interaction_points, export_sections, header_declares, stateset_declares, decl_layer, headed, body_layer, parts_layer, standings, default_of, bodies, heading, variables_in, module_variables_in, states_in, ips_in, own_from, ways_of, attribute_of, clauses_in, name_declares, body_declares, bodies_declare}
 use Rattle.estelle_model.specs.Names.{none_yet}
 use Rattle.estelle_model.specs.Transitions.{Choice, Transition, choices, names_of_domain, flat_one, flat_way}
 use Rattle.estelle_model.specs.Subject.{Subject, declared_in, meant, body, transitions_of, transitions, numbered_one, transition, of_init, nothing_to_do, no_statements}
@@ -34,12 +35,21 @@ each_of_all test (x ∷ xs) h = (both_left (test x) (list_all test xs) h, each_o
 
 -- ---- declarations of bodies
 
-inter_plain : (x : Inter) → AllPlain (inter_declares x)
-inter_plain x = each_append SaysPlain (sections_declare local 0 (parameter_sections x.params)) (declare x.name (λ known. Interaction (section_types known (parameter_sections x.params))) ∷ [])
+inter_plain : (channel : ℕ) (by : Senders) (x : Inter) → AllPlain (inter_declares channel by x)
+inter_plain channel by x = each_append SaysPlain (sections_declare local 0 (parameter_sections x.params)) (declare x.name (λ known. Interaction (record { channel = channel; senders = by; parameters = section_types known (parameter_sections x.params) })) ∷ [])
     (sections_plain local (λ known n t. tt) 0 (parameter_sections x.params)) ((λ known. (tt, tt)), tt)
 
 channel_plain : (c : Channel) → AllPlain (channel_declares c)
-channel_plain c = flat_all SaysPlain (λ g. flat_map inter_declares g.inters) (λ g. flat_all SaysPlain inter_declares inter_plain g.inters) c.groups
+channel_plain c = (
+  (λ known. (tt, tt)),
+  (
+    (λ known. (tt, tt)),
+    (
+      (λ known. (tt, tt)),
+      flat_all SaysPlain (group_declares c) (λ g. flat_all SaysPlain (inter_declares c.name.span.start (senders c g)) (inter_plain c.name.span.start (senders c g)) g.inters) c.groups,
+    ),
+  ),
+)
 
 header_plain : (by_default : Bool) (h : HeaderTree) → AllPlain (header_declares by_default h)
 header_plain by_default h =
@@ -47,7 +57,7 @@ header_plain by_default h =
     let parameters : Declarations = sections_declare (λ known n t. Own n t) 0 (parameter_sections h.params) in
     let exports : Declarations = sections_declare (λ known n t. Exported n t) (count_names (parameter_sections h.params)) (export_sections h) in
     let ips : Declarations = numbered (λ n known. Ip n) 0 (ip_names h.ips) in
-    let itself : Declaration = declare h.name (λ known. Header (record { attribute = option_map attribute_of h.attr; parameters = section_types known (parameter_sections h.params); exports = section_types known (export_sections h); ips = ips_common by_default h.ips })) in
+    let itself : Declaration = declare h.name (λ known. Header (record { at = h.name.span.start; attribute = option_map attribute_of h.attr; parameters = section_types known (parameter_sections h.params); exports = section_types known (export_sections h); ips = interaction_points known by_default true h.ips })) in
     each_append SaysPlain (types ++ parameters ++ exports ++ ips) (itself ∷ [])
     (each_append SaysPlain (types ++ parameters ++ exports) ips
     (each_append SaysPlain (types ++ parameters) exports
@@ -62,41 +72,41 @@ sets_plain (x ∷ xs) = ((λ known. (tt, tt)), sets_plain xs)
 
 -- ---- bodies as they stand
 
-record PlainStanding (b : Standing) : Type 0 where
-  pub brought : Each (λ (x : Brought). AllPlain x.names) b.brought
+record PlainStanding (b : BodyAlone) : Type 0 where
+  pub brought : Each (λ (x : Contribution). AllPlain x.names) b.brought
   pub init : IsTrue (is_plain_init b.init)
   pub trans : IsTrue (list_all is_plain_trans b.trans)
 
 module _ (d : Bool) where
   abbrev Found : Type 0
-  Found = Brought × List Standing
+  Found = Contribution × List BodyAlone
 
   abbrev decl_of : Decl → Found
-  decl_of = fold-Decl Found (List Standing) (List Standing) (decl_layer d) (body_layer d) (parts_layer d)
+  decl_of = fold-Decl Found (List BodyAlone) (List BodyAlone) (decl_layer d) (body_layer d) (parts_layer d)
 
-  abbrev body_of : Body → List Standing
-  body_of = fold-Body Found (List Standing) (List Standing) (decl_layer d) (body_layer d) (parts_layer d)
+  abbrev body_of : Body → List BodyAlone
+  body_of = fold-Body Found (List BodyAlone) (List BodyAlone) (decl_layer d) (body_layer d) (parts_layer d)
 
   abbrev decl_at : Decl-F Decl Body Parts → Found
-  decl_at l = decl_layer d (map-Decl Decl Body Parts Found (List Standing) (List Standing) decl_of body_of (standings d) l)
+  decl_at l = decl_layer d (map-Decl Decl Body Parts Found (List BodyAlone) (List BodyAlone) decl_of body_of (standings d) l)
 
-  abbrev body_at : Body-F Decl Body Parts → List Standing
-  body_at l = body_layer d (map-Body Decl Body Parts Found (List Standing) (List Standing) decl_of body_of (standings d) l)
+  abbrev body_at : Body-F Decl Body Parts → List BodyAlone
+  body_at l = body_layer d (map-Body Decl Body Parts Found (List BodyAlone) (List BodyAlone) decl_of body_of (standings d) l)
 
-  abbrev parts_at : Parts-F Decl Body Parts → List Standing
-  parts_at l = parts_layer d (map-Parts Decl Body Parts Found (List Standing) (List Standing) decl_of body_of (standings d) l)
+  abbrev parts_at : Parts-F Decl Body Parts → List BodyAlone
+  parts_at l = parts_layer d (map-Parts Decl Body Parts Found (List BodyAlone) (List BodyAlone) decl_of body_of (standings d) l)
 
   decl_made : (l : Decl-F Decl Body Parts) → decl_of (roll-Decl l) ≡ decl_at l
   unfolding standings
-  decl_made l = fold-roll-Decl Found (List Standing) (List Standing) (decl_layer d) (body_layer d) (parts_layer d) l
+  decl_made l = fold-roll-Decl Found (List BodyAlone) (List BodyAlone) (decl_layer d) (body_layer d) (parts_layer d) l
 
   body_made : (l : Body-F Decl Body Parts) → body_of (roll-Body l) ≡ body_at l
   unfolding standings
-  body_made l = fold-roll-Body Found (List Standing) (List Standing) (decl_layer d) (body_layer d) (parts_layer d) l
+  body_made l = fold-roll-Body Found (List BodyAlone) (List BodyAlone) (decl_layer d) (body_layer d) (parts_layer d) l
 
   parts_made : (l : Parts-F Decl Body Parts) → standings d (roll-Parts l) ≡ parts_at l
   unfolding standings
-  parts_made l = fold-roll-Parts Found (List Standing) (List Standing) (decl_layer d) (body_layer d) (parts_layer d) l
+  parts_made l = fold-roll-Parts Found (List BodyAlone) (List BodyAlone) (decl_layer d) (body_layer d) (parts_layer d) l
 
   abbrev plain_decl_at : Decl-F Decl Body Parts → Bool
   plain_decl_at l = plain_decl_layer (map-Decl Decl Body Parts Bool Bool Bool is_plain_decl is_plain_body is_plain_parts l)
@@ -156,7 +166,7 @@ module _ (d : Bool) where
   decl_shown : (x : Decl-F Decl Body Parts) (y : Decl-F ShownDecl ShownBody ShownParts) → opened_decl y ≡ x → DeclPlain (roll-Decl x)
   decl_shown x y is = subst (λ (z : Decl-F Decl Body Parts). DeclPlain (roll-Decl z)) is (λ h. subst PlainFound (sym (decl_made (opened_decl y))) (decl_go y (sym (plain_decl_made (opened_decl y)) ∙ h)))
 
-  headed_plain : (x h : Name) (bs : List Standing) → Each PlainStanding bs → Each PlainStanding (headed d x h bs)
+  headed_plain : (x h : Name) (bs : List BodyAlone) → Each PlainStanding bs → Each PlainStanding (headed d x h bs)
   headed_plain x h [] k = tt
   headed_plain x h (b ∷ bs) k = (record { brought = k.0.brought; init = k.0.init; trans = k.0.trans }, k.1)
 
@@ -180,7 +190,7 @@ module _ (d : Bool) where
       let plain : Each PlainFound founds = decls_shown y.decls (both_left _ (is_plain_init y.init && list_all is_plain_trans y.trans) h) in
       let rest : IsTrue (is_plain_init y.init && list_all is_plain_trans y.trans) = both_right (list_all (λ b. b) (map is_plain_decl (map (λ e. e.0) y.decls))) _ h in (
         record {
-          brought = each_map PlainFound (λ (x : Brought). AllPlain x.names) (λ x. x.0) (λ x k. k.0) founds plain;
+          brought = each_map PlainFound (λ (x : Contribution). AllPlain x.names) (λ x. x.0) (λ x k. k.0) founds plain;
           init = both_left (is_plain_init y.init) (list_all is_plain_trans y.trans) rest;
           trans = both_right (is_plain_init y.init) (list_all is_plain_trans y.trans) rest;
         },
@@ -199,7 +209,7 @@ name_plain : (k : ℕ) (x : Option Name) → AllPlain (name_declares k x)
 name_plain k None = tt
 name_plain k (Some x) = ((λ known. (tt, tt)), tt)
 
-body_plain : (k : ℕ) (b : Standing) → PlainStanding b → AllPlain (body_declares k b)
+body_plain : (k : ℕ) (b : BodyAlone) → PlainStanding b → AllPlain (body_declares k b)
 body_plain k b h =
     let states : Declarations = numbered (λ n known. State n) 0 (states_in b) in
     let brought : Declarations = flat_map (λ x. x.names) b.brought in
@@ -216,7 +226,7 @@ body_plain k b h =
     (each_append SaysPlain (states ++ brought ++ variables ++ children) ips
     (each_append SaysPlain (states ++ brought ++ variables) children
     (each_append SaysPlain (states ++ brought) variables
-    (each_append SaysPlain states brought (numbered_plain (λ n known. State n) (λ n known. tt) 0 (states_in b)) (each_flat (λ (x : Brought). AllPlain x.names) SaysPlain (λ x. x.names) (λ x k. k) b.brought h.brought))
+    (each_append SaysPlain states brought (numbered_plain (λ n known. State n) (λ n known. tt) 0 (states_in b)) (each_flat (λ (x : Contribution). AllPlain x.names) SaysPlain (λ x. x.names) (λ x k. k) b.brought h.brought))
     (sections_plain (λ known n t. Own (own_from known b + n) t) (λ known n t. tt) 0 (variables_in b)))
     (numbered_plain (λ n known. Module n) (λ n known. tt) 0 (module_variables_in b)))
     (numbered_plain (λ n known. Ip (length (heading known b.header).ips + n)) (λ n known. tt) 0 (ip_names (ips_in b))))
@@ -225,7 +235,7 @@ body_plain k b h =
     (flat_all SaysPlain (λ (w : Way). block_declares w.clauses w.block) (λ w. block_plain w.clauses w.block) (ways_of b)))
     (name_plain k b.name)
 
-bodies_plain : (k : ℕ) (bs : List Standing) → Each PlainStanding bs → AllPlain (bodies_declare k bs)
+bodies_plain : (k : ℕ) (bs : List BodyAlone) → Each PlainStanding bs → AllPlain (bodies_declare k bs)
 bodies_plain k [] h = tt
 bodies_plain k (b ∷ bs) h = each_append SaysPlain (body_declares k b) (bodies_declare (suc k) bs) (body_plain k b h.0) (bodies_plain (suc k) bs h.1)
 
@@ -241,10 +251,10 @@ choices_plain known w h (c ∷ cs) = (h, choices_plain known w h cs)
 way_plain : (known : Meanings) (w : Way) → IsTrue (is_plain_way w) → Each PlainTransition (flat_way known w)
 way_plain known w h = choices_plain known w h (choices known (flat_map (names_of_domain known) (flat_map domains_of w.clauses)))
 
-ways_plain : (b : Standing) → PlainStanding b → Each (λ w. IsTrue (is_plain_way w)) (ways_of b)
+ways_plain : (b : BodyAlone) → PlainStanding b → Each (λ w. IsTrue (is_plain_way w)) (ways_of b)
 ways_plain b h = each_flat (λ (t : Trans). IsTrue (is_plain_trans t)) (λ w. IsTrue (is_plain_way w)) (λ t. ways t.body) (λ t k. each_of_all is_plain_way (ways t.body) k) b.trans (each_of_all is_plain_trans b.trans h.trans)
 
-transitions_plain : (s : Subject) (o : Option Standing) → ((b : Standing) → o ≡ Some b → PlainStanding b) → Each PlainTransition (transitions_of s o)
+transitions_plain : (s : Subject) (o : Option BodyAlone) → ((b : BodyAlone) → o ≡ Some b → PlainStanding b) → Each PlainTransition (transitions_of s o)
 transitions_plain s None h = tt
 transitions_plain s (Some b) h = each_flat (λ w. IsTrue (is_plain_way w)) PlainTransition (flat_way (meant s)) (way_plain (meant s)) (ways_of b) (ways_plain b (h b refl))
 
@@ -261,7 +271,7 @@ init_plain : (known : Meanings) (i : Option Init) → IsTrue (is_plain_init i) �
 init_plain known None h = nothing_plain
 init_plain known (Some i) h = h
 
-start_plain : (known : Meanings) (o : Option Standing) → ((b : Standing) → o ≡ Some b → PlainStanding b) → IsPlainRoutine (unwrap_or (option_and_then (λ (b : Standing). option_map (of_init known) b.init) o) nothing_to_do).block
+start_plain : (known : Meanings) (o : Option BodyAlone) → ((b : BodyAlone) → o ≡ Some b → PlainStanding b) → IsPlainRoutine (unwrap_or (option_and_then (λ (b : BodyAlone). option_map (of_init known) b.init) o) nothing_to_do).block
 start_plain known None h = nothing_plain
 start_plain known (Some b) h = init_plain known b.init (h b refl).init
 
@@ -270,7 +280,7 @@ start_plain known (Some b) h = init_plain known b.init (h b refl).init
 pub plain_specification : (s : Subject) → IsTrue (is_plain_specification s.specification) → IsPlain s
 plain_specification s h =
     let all : Each PlainStanding (bodies s.specification) = parts_plain (default_of s.specification.heads) s.specification.parts h in
-    let standing : (k : ℕ) (b : Standing) → body s k ≡ Some b → PlainStanding b = λ k b e. each_at PlainStanding (bodies s.specification) k b all e in
+    let standing : (k : ℕ) (b : BodyAlone) → body s k ≡ Some b → PlainStanding b = λ k b e. each_at PlainStanding (bodies s.specification) k b all e in
     let at : PlainAt (declared_in s) = declared_plain s.names none_yet (bodies_declare 0 (bodies s.specification)) tt (bodies_plain 0 (bodies s.specification) all) in
     let of : (k n : ℕ) (t : Transition) → transition s k n ≡ Some t → PlainTransition t = λ k n t e. numbered_one_plain (transitions s k) n t (transitions_plain s (body s k) (standing k)) e in
     record {

@@ -1,7 +1,7 @@
 -- What is kept by every change of a record is kept by a firing and by the start, where no statement of Estelle is run.
 use Rattle.std.proofs.Common.{◌≡◌, ℕ, List, [], Ok, Err, Option, Some, None}
 use Rattle.pascal_values.specs.declared.value.Value.{Value}
-use Rattle.estelle_model.specs.Paths.{Path}
+use Rattle.estelle_tree.specs.Paths.{Path}
 use Rattle.estelle_model.specs.Effects.{Change, Store, Enter}
 use Rattle.estelle_model.specs.States.{Offers}
 use Rattle.estelle_model.specs.Steps.{Running, Outcome, Step, and_then}

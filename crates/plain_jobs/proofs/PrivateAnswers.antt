@@ -12,7 +12,7 @@ use Rattle.estelle_model.specs.declared.job.Job.{Job}
 use Rattle.estelle_model.specs.declared.job.Done.{Done}
 use Rattle.estelle_model.specs.declared.job.Outcome.{Outcome as JobOutcome}
 use Rattle.estelle_model.specs.declared.job.Outcome.TheVariants as outcome
-use Rattle.estelle_model.specs.Paths.{Path, path_cmp, is_inside}
+use Rattle.estelle_tree.specs.Paths.{Path, path_cmp, is_inside}
 use Rattle.estelle_model.specs.Core.{Instance, Instances}
 use Rattle.estelle_model.specs.Effects.{Enter}
 use Rattle.estelle_model.specs.States.{Logged, on_log}
@@ -24,10 +24,10 @@ use Rattle.estelle_model.specs.Transitions.{Transition, When}
 use Rattle.estelle_model.specs.Subject.{Subject, transition, meant, meant_with, of_block}
 use Rattle.estelle_model.specs.Clauses.{fire_step}
 use Rattle.estelle_model.specs.Situation.{Situation, Acting, on_situation}
-use Rattle.estelle_model.specs.Queues.{Found, NotNeeded, Head, Absent, found}
+use Rattle.estelle_model.specs.Queues.{Found, NotNeeded, Head, Absent, received}
 use Rattle.estelle_model.specs.Firing.{Firing, Failed, begun, done, untimed, taken, fire_with, fire_found, fire_of, transition_at, fire}
 use Rattle.estelle_model.specs.Legal.{AreLegal}
-use Rattle.estelle_model.specs.Jobs.{part_of_entry, insert_part, private, Shows, overlaid, outline_of_parts, ran, IsPut, IsAnswer, IsHead, taken_by, found_by, AnswersAt, Answers}
+use Rattle.estelle_model.specs.Jobs.{part_of_entry, insert_part, private, Shows, overlaid, outline_of_parts, ran, IsPut, IsAnswer, IsHead, taken_by, received_by, AnswersAt, Answers}
 use Rattle.estelle_model.proofs.Alike.{Same, RunningAlike, OutcomeAlike, DoAlike, then_same, pure_alike}
 use Rattle.plain_jobs.specs.Plain.{is_plain, HasPlainRoutines}
 use Rattle.plain_jobs.specs.Computed.{IsPlain, core_of, log_from, values_of, IsMade, job_run, IsMadeOf, IsComputed}
@@ -150,11 +150,11 @@ module _ (s : Subject) (plain : IsPlain s) (job : Job) (n : ℕ) (out : JobOutco
     in_taken None i t is made = fired_in g legal (core_private s g job.path job.image shows) i t is made
     in_taken (Some w) i t is made = fired_in (taken s g job.path (Some w)) legal (core_private s g job.path job.image shows) i t is made
 
-    by_transition : (i : Instance) (o : Option Transition) → transition s i.body n ≡ o → IsHead (found_by s g job.path o) job.head → IsMadeOf s job o out left → IsAnswer s job.path n (taken_by s g job.path o) out left (untimed job.path n (fire_of s job.budget g job.path o))
+    by_transition : (i : Instance) (o : Option Transition) → transition s i.body n ≡ o → IsHead (received_by s g job.path o) job.head → IsMadeOf s job o out left → IsAnswer s job.path n (taken_by s g job.path o) out left (untimed job.path n (fire_of s job.budget g job.path o))
     by_transition i None is h made = absurd h
-    by_transition i (Some t) is h made = subst (λ (f : Firing). IsAnswer s job.path n (taken s g job.path t.when) out left (untimed job.path n f)) (sym (by_found t (found s g job.path t.when) h)) (in_taken t.when i t is made)
+    by_transition i (Some t) is h made = subst (λ (f : Firing). IsAnswer s job.path n (taken s g job.path t.when) out left (untimed job.path n f)) (sym (by_found t (received s g job.path t.when) h)) (in_taken t.when i t is made)
 
-    by_instance : (o : Option Instance) → IsHead (found_by s g job.path (transition_at s n o)) job.head → IsMadeOf s job (transition_at s n o) out left
+    by_instance : (o : Option Instance) → IsHead (received_by s g job.path (transition_at s n o)) job.head → IsMadeOf s job (transition_at s n o) out left
         → IsAnswer s job.path n (taken_by s g job.path (transition_at s n o)) out left (untimed job.path n (fire_of s job.budget g job.path (transition_at s n o)))
     by_instance None h made = absurd h
     by_instance (Some i) h made = by_transition i (transition s i.body n) refl h made
@@ -162,7 +162,7 @@ module _ (s : Subject) (plain : IsPlain s) (job : Job) (n : ℕ) (out : JobOutco
     same_instance : map.get (core_of job.image).instances job.path ≡ map.get g.core.instances job.path
     same_instance = ap (λ (x : Instances). map.get x job.path) (core_private s g job.path job.image shows) ∙ own_inside s g legal job.path job.image.links job.path (inside_self job.path)
 
-    pub private_fire_answers : IsHead (found_by s g job.path (transition_at s n (map.get g.core.instances job.path))) job.head → IsMadeOf s job (transition_at s n (map.get (core_of job.image).instances job.path)) out left
+    pub private_fire_answers : IsHead (received_by s g job.path (transition_at s n (map.get g.core.instances job.path))) job.head → IsMadeOf s job (transition_at s n (map.get (core_of job.image).instances job.path)) out left
         → IsAnswer s job.path n (taken_by s g job.path (transition_at s n (map.get g.core.instances job.path))) out left (fire s job.budget g job.path n)
     private_fire_answers h made = by_instance (map.get g.core.instances job.path) h (subst (λ (o : Option Instance). IsMadeOf s job (transition_at s n o) out left) same_instance made)
 

@@ -4,7 +4,7 @@ use Rattle.std.specs.Prelude.{slice_get, option_map, ◌&&◌}
 use Rattle.std.specs.FinMap as map
 use Rattle.std.specs.Ordering.{eq_by_cmp}
 use Rattle.estelle_tree.specs.declared.link.Link.{Link}
-use Rattle.estelle_model.specs.Paths.{Path, path_cmp, child, is_inside}
+use Rattle.estelle_tree.specs.Paths.{Path, path_cmp, child, is_inside}
 use Rattle.estelle_model.specs.Core.{Instance, Instances}
 use Rattle.estelle_model.specs.Effects.{Change, Store, changed, put_back, changed_in}
 use Rattle.estelle_model.specs.States.{Logged, on_log}

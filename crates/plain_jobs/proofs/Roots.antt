@@ -7,7 +7,7 @@ use Rattle.std.specs.Cmp.{IsTotalOrder}
 use Rattle.std.specs.Cmp.Lexicographic.{nat_list_cmp_total}
 use Rattle.std.specs.Ordering.{eq_by_cmp}
 use Rattle.estelle_model.specs.declared.image.Part.{Part}
-use Rattle.estelle_model.specs.Paths.{Path, path_cmp, is_inside}
+use Rattle.estelle_tree.specs.Paths.{Path, path_cmp, is_inside}
 use Rattle.estelle_model.specs.Core.{Instance, Instances}
 use Rattle.estelle_model.specs.Effects.{Change, Store, Hold, Enter, changed, put_back, changed_in}
 use Rattle.estelle_model.specs.Firing.{alone}

@@ -14,13 +14,13 @@ use Rattle.estelle_tree.specs.declared.tree.statement.Case.{Case, roll-Case}
 use Rattle.estelle_tree.specs.declared.tree.statement.Stmts.{Stmts, roll-Stmts}
 use Rattle.estelle_tree.specs.declared.tree.statement.Stmt.TheOpen.{Stmt-F, Case-F, Stmts-F}
 use Rattle.estelle_tree.specs.declared.tree.statement.Stmt.TheFolds.{map-Case, map-Stmts, ind-Stmts, fold-roll-Case, fold-roll-Stmts}
-use Rattle.estelle_model.specs.Paths.{Path}
+use Rattle.estelle_tree.specs.Paths.{Path}
 use Rattle.estelle_model.specs.States.{Offers}
 use Rattle.estelle_model.specs.Steps.{Step, Do, ◌>>=◌, ◌>>◌, pure, all, spend}
 use Rattle.estelle_model.specs.declared.meaning.Routine.{Routine}
 use Rattle.estelle_model.specs.Meant.{Meanings}
-use Rattle.estelle_model.specs.declared.place.Here.{Here}
-use Rattle.estelle_model.specs.declared.place.Given.{Given}
+use Rattle.estelle_model.specs.declared.place.Environment.{Environment}
+use Rattle.estelle_model.specs.declared.place.ActualParameters.{ActualParameters}
 use Rattle.estelle_model.specs.Expressions.{Call, bool_step, ordinal_step}
 use Rattle.estelle_model.specs.Loops.{while_loop, repeat_loop}
 use Rattle.estelle_model.specs.Statements.{Action, chosen, or_nothing, value_of_expr, assign, invoke, choose, count, select, stmt, branch, stmts}
@@ -64,7 +64,7 @@ plain_stmts_made l = fold-roll-Stmts Bool Bool Bool plain_stmt_layer plain_case_
 
 -- ---- statements
 
-module _ (S : Type 0) (on : Offers S) (meant : Meanings) (act act' : Here → Action S → Do S) (call : Call S) (here : Here) where
+module _ (S : Type 0) (on : Offers S) (meant : Meanings) (act act' : Environment → Action S → Do S) (call : Call S) (here : Environment) where
   assign_free : (v : Variable) (e : Expr) → assign S on meant act call here v e ≡ assign S on meant act' call here v e
   unfolding assign
   assign_free v e = refl
@@ -157,13 +157,13 @@ module _ (S : Type 0) (on : Offers S) (meant : Meanings) (act act' : Here → Ac
 
 -- ---- calls and blocks
 
-module _ (S : Type 0) (on : Offers S) (meant : Meanings) (plain : HasPlainRoutines meant) (act act' : Enters S → Here → Action S → Do S) where
+module _ (S : Type 0) (on : Offers S) (meant : Meanings) (plain : HasPlainRoutines meant) (act act' : Enters S → Environment → Action S → Do S) where
   abbrev EnterSame : Enters S → Enters S → Type 0
-  EnterSame enters enters' = (before : Do S) (p : Path) (r : Routine) (g : Given) → IsPlainRoutine r → enters before p r g ≡ enters' before p r g
+  EnterSame enters enters' = (before : Do S) (p : Path) (r : Routine) (g : ActualParameters) → IsPlainRoutine r → enters before p r g ≡ enters' before p r g
 
-  within_same : (enters enters' : Enters S) → EnterSame enters enters' → (depth : ℕ) (p : Path) (r : Routine) (g : Given) → IsPlainRoutine r → within S on meant act enters depth p r g ≡ within S on meant act' enters' depth p r g
+  within_same : (enters enters' : Enters S) → EnterSame enters enters' → (depth : ℕ) (p : Path) (r : Routine) (g : ActualParameters) → IsPlainRoutine r → within S on meant act enters depth p r g ≡ within S on meant act' enters' depth p r g
   within_same enters enters' same depth p r g is =
-      let here : Here = record { path = p; frame = depth; references = g.references } in
+      let here : Environment = record { path = p; frame = depth; references = g.references } in
       let body : stmts S on meant (act enters) (call_by enters p) here r.body ≡ stmts S on meant (act' enters') (call_by enters' p) here r.body =
       stmts_free S on meant (act enters) (act' enters') (call_by enters p) here r.body is
       ∙ ap (λ f. f r.body) (calls_same S on meant plain (call_by enters p) (call_by enters' p) (λ q k h. same (pure tt) p q k h) here (act' enters')) in

@@ -5,7 +5,7 @@ use Rattle.estelle_model.specs.declared.image.Image.{Image}
 use Rattle.estelle_model.specs.declared.image.Interaction.{Interaction}
 use Rattle.estelle_model.specs.declared.job.Guard.{Guard}
 use Rattle.estelle_model.specs.declared.job.Guard.TheVariants.{Off}
-use Rattle.estelle_model.specs.Paths.{Path}
+use Rattle.estelle_tree.specs.Paths.{Path}
 use Rattle.estelle_model.specs.Core.{Instance}
 use Rattle.estelle_model.specs.States.{Logged, on_log}
 use Rattle.estelle_model.specs.Blocks.{fresh}
@@ -13,13 +13,13 @@ use Rattle.estelle_model.specs.Transitions.{Transition, When}
 use Rattle.estelle_model.specs.Subject.{Subject, transition}
 use Rattle.estelle_model.specs.Clauses.{guard_step, answered}
 use Rattle.estelle_model.specs.Situation.{Situation}
-use Rattle.estelle_model.specs.Queues.{Found, NotNeeded, Head, Absent}
+use Rattle.estelle_model.specs.Queues.{Found, NotNeeded, Head, Absent, is_named}
 use Rattle.estelle_model.specs.Firing.{transition_at, is_in_state, guard}
 use Rattle.estelle_model.specs.Legal.{AreLegal}
 use Rattle.estelle_model.specs.Jobs.{private, Shows, found_by}
 use Rattle.plain_jobs.specs.Computed.{core_of, log_from, values_of}
 
--- the head that a transition finds, where it needs one
+-- the head that a transition finds, where it needs one, whatever its name
 abbrev pub head_of : Found → Option Interaction
 head_of NotNeeded = None
 head_of (Head i) = Some i
@@ -38,11 +38,11 @@ pub record IsAskedIn (s : Subject) (g : Situation) (p : Path) (image : Image) (n
 abbrev pub IsGuard : Subject → Path → Image → ℕ → Option Interaction → Bool → ℕ → Guard → Type 0
 IsGuard s p image n head timed budget answer = (g : Situation) → IsAskedIn s g p image n head timed → answer ≡ guard s budget g p n
 
--- it needs no interaction, or its interaction is there
+-- it needs no interaction, or the head is the one that it names
 abbrev pub is_received : Option When → Option Interaction → Bool
 is_received None head = true
 is_received (Some w) None = false
-is_received (Some w) (Some i) = true
+is_received (Some w) (Some i) = is_named i (Some w)
 
 -- `provided` and the delay on a log
 abbrev pub guard_run : Subject → Path → Image → Option Interaction → Bool → ℕ → Transition → Guard

@@ -5,7 +5,7 @@ use Rattle.estelle_model.specs.declared.image.Image.{Image}
 use Rattle.estelle_model.specs.declared.image.Interaction.{Interaction}
 use Rattle.estelle_model.specs.declared.job.Job.{Job}
 use Rattle.estelle_model.specs.declared.job.Done.{Done}
-use Rattle.estelle_model.specs.Paths.{Path}
+use Rattle.estelle_tree.specs.Paths.{Path}
 use Rattle.estelle_model.specs.States.{Logged, on_log}
 use Rattle.estelle_model.specs.Steps.{Running}
 use Rattle.estelle_model.specs.declared.meaning.Routine.{Routine}

@@ -7,18 +7,20 @@ use Rattle.std.specs.FinMap.{nat_cmp-IsAntisymmetric, slice_cmp-IsAntisymmetric,
 use Rattle.std.specs.Ordering.{nat_cmp, ordering_then}
 use Rattle.std.specs.declared.cmp.Ordering.{Ordering}
 use Rattle.std.specs.declared.cmp.Ordering.TheVariants.{Less, Equal, Greater}
-use Rattle.estelle_model.specs.declared.event.Pair.{Pair}
+use Rattle.estelle_tree.specs.declared.transition.Pair.{Pair}
 use Rattle.estelle_model.specs.declared.image.Image.{Image}
 use Rattle.estelle_model.specs.declared.meaning.Attribute.TheVariants.{Systemprocess}
-use Rattle.estelle_model.specs.Paths.{Path, path_cmp, is_inside, child}
+use Rattle.estelle_tree.specs.Paths.{Path, path_cmp, is_inside, child}
 use Rattle.estelle_model.specs.Core.{Instance, Instances}
 use Rattle.estelle_model.specs.Bodies.{bodies}
 use Rattle.estelle_model.specs.Transitions.{Transition, Delay}
 use Rattle.estelle_model.specs.Subject.{Subject, transitions, transition}
-use Rattle.estelle_model.specs.Situation.{Situation, Timer, pair_cmp}
+use Rattle.estelle_tree.specs.Timers as timer
+use Rattle.estelle_tree.specs.Timers.{Timer, pair, pair_cmp}
+use Rattle.estelle_model.specs.Situation.{Situation}
 use Rattle.estelle_model.specs.Firing.{alone, transition_at, guard}
 use Rattle.estelle_model.specs.Attributes.{attribute, attribute_at, is_system, is_process, IsSystem, IsProcess}
-use Rattle.estelle_model.specs.Delays.{pair, is_on, is_delayed, has_delay, has_delays, may, must, delayed_of, delayed_in, with_timer, renew}
+use Rattle.estelle_model.specs.Delays.{is_on, is_delayed, has_delay, has_delays, may, must, delayed_of, delayed_in, wanted_by, renew}
 use Rattle.estelle_model.specs.Selection.{priority, is_higher, HasPriority, births_of, children}
 use Rattle.plain_jobs.proofs.Answering.{pairs_total}
 use Rattle.plain_jobs.proofs.Roots.{get_alone, get_below, retain_all, entries_alone}
@@ -118,8 +120,8 @@ module _ (s : Subject) (process : IsOneProcess s) (i : Instance) (body_is : i.bo
   -- there are no timers to renew
   pub renewed : (budget : ℕ) → renew s budget g [] 0 ≡ g
   renewed budget =
-      let renew_by : List Pair → map.FinMap pair_cmp Timer → Situation = λ ps ts. record g { timers = fold (λ timers p. with_timer 0 p (map.get g.timers p) (guard s budget g p.path p.trans) timers) ts ps } in
-      ap (λ ps. renew_by ps (map.retain_keys g.timers (λ p. not (is_inside [] p.path)))) none_delayed ∙ ap (renew_by []) none_retained
+      ap (λ (ps : List Pair). record g { timers = timer.renewed [] 0 (flat_map (λ p. wanted_by p (guard s budget g p.path p.trans)) ps) g.timers }) none_delayed
+      ∙ ap (λ (ts : timer.Timers). record g { timers = ts }) none_retained
 
   -- ---- what may and must be selected
 

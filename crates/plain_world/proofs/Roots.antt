@@ -4,7 +4,7 @@ use Rattle.std.specs.Prelude.{IsTrue, is_some, option_map, ◌&&◌, slice_get, 
 use Rattle.std.specs.FinMap as map
 use Rattle.pascal_values.specs.declared.value.Value.{Value}
 use Rattle.estelle_tree.specs.declared.link.Link.{Link}
-use Rattle.estelle_model.specs.declared.event.Pair.{Pair}
+use Rattle.estelle_tree.specs.declared.transition.Pair.{Pair}
 use Rattle.estelle_model.specs.declared.image.Part.{Part}
 use Rattle.estelle_model.specs.declared.image.Image.{Image}
 use Rattle.estelle_model.specs.declared.job.Job.{Job}
@@ -14,7 +14,7 @@ use Rattle.estelle_model.specs.declared.job.Outcome.TheVariants as outcome
 use Rattle.estelle_tree.specs.declared.tree.specification.Decl.TheFolds.{fold-roll-Parts}
 use Rattle.estelle_tree.specs.declared.tree.specification.Decl.TheViews.{roll-out-Parts}
 use Rattle.estelle_tree.specs.declared.tree.specification.Parts.{Parts, out-Parts}
-use Rattle.estelle_model.specs.Bodies.{Brought, Standing, decl_layer, body_layer, parts_layer, standings, default_of}
+use Rattle.estelle_model.specs.Bodies.{Contribution, BodyAlone, decl_layer, body_layer, parts_layer, standings, default_of}
 use Rattle.estelle_model.specs.Core.{Instance, Instances, Core}
 use Rattle.estelle_model.specs.States.{Logged, on_log}
 use Rattle.estelle_model.specs.Steps.{Outcome}
@@ -23,11 +23,12 @@ use Rattle.estelle_model.specs.Actions.{act, enter_state}
 use Rattle.estelle_model.specs.Transitions.{Transition, When}
 use Rattle.estelle_model.specs.Subject.{Subject, body, new_instance, transition, meant, meant_with, of_block}
 use Rattle.estelle_model.specs.Clauses.{fire_step, start_step, guard_step, answered}
-use Rattle.estelle_model.specs.Situation.{Acting, Timer, pair_cmp, on_situation}
+use Rattle.estelle_tree.specs.Timers.{Timer, pair_cmp}
+use Rattle.estelle_model.specs.Situation.{Acting, on_situation}
 use Rattle.estelle_model.specs.Firing.{Firing, Ran, Failed, alone, root, bare, start, begun, done, untimed, taken, fire_with, fire_found, fire_of, transition_at, fire, is_in_state, guard_with, guard_found, guard_of, guard_at, guard}
-use Rattle.estelle_model.specs.Queues.{found}
+use Rattle.estelle_model.specs.Queues.{found, received}
 use Rattle.estelle_model.specs.Delays.{is_on}
-use Rattle.estelle_model.specs.Paths.{Path}
+use Rattle.estelle_tree.specs.Paths.{Path}
 use Rattle.estelle_model.specs.Jobs.{part_of_entry, insert_part, Shows, ran}
 use Rattle.estelle_model.proofs.Alike.{Same, OutcomeAlike, DoAlike, then_same}
 use Rattle.estelle_model.proofs.AlikeActions.{inside_root}
@@ -39,7 +40,7 @@ use Rattle.plain_jobs.proofs.Answering.{remove_empty}
 use Rattle.plain_jobs.proofs.Roots.{get_alone, get_below, entries_of, entries_alone, outline_of}
 use Rattle.plain_jobs.proofs.RootRuns.{RootAlike, root_log, root_begins, shown, enter_state_alike, root_start_alike}
 use Rattle.plain_world.specs.Processes.{IsOneProcess}
-use Rattle.walker_state.specs.InOrder.{InOrder}
+use Rattle.body_walker_state.specs.InOrder.{InOrder}
 use Rattle.plain_world.specs.Worlds.{lone, IsOf, root_job, ShowsRoot, RootRan, IsFiringOf, guard_on}
 
 -- ---- the record behind an alike run
@@ -76,16 +77,16 @@ module _ (i : Instance) (pending : List Pair) (links : List Link) where
 -- ---- the start
 
 -- the specification itself stands first
-first_standing : (d : Bool) (x : Parts) → (b : Standing) × (slice_get (standings d x) 0 ≡ Some b)
+first_standing : (d : Bool) (x : Parts) → (b : BodyAlone) × (slice_get (standings d x) 0 ≡ Some b)
 unfolding standings
-first_standing d x = (_, ap (λ y. slice_get (standings d y) 0) (sym (roll-out-Parts x)) ∙ ap (λ bs. slice_get bs 0) (fold-roll-Parts (Brought × List Standing) (List Standing) (List Standing) (decl_layer d) (body_layer d) (parts_layer d) (out-Parts x)))
+first_standing d x = (_, ap (λ y. slice_get (standings d y) 0) (sym (roll-out-Parts x)) ∙ ap (λ bs. slice_get bs 0) (fold-roll-Parts (Contribution × List BodyAlone) (List BodyAlone) (List BodyAlone) (decl_layer d) (body_layer d) (parts_layer d) (out-Parts x)))
 
-there : (s : Subject) → (b : Standing) × (body s 0 ≡ Some b)
+there : (s : Subject) → (b : BodyAlone) × (body s 0 ≡ Some b)
 there s = first_standing (default_of s.specification.heads) s.specification.parts
 
 -- the record of the root as it is made
 pub new_root : (s : Subject) → (i : Instance) × (root s ≡ Some i) × (i.body ≡ 0)
-new_root s = let b = there s in (new_instance s 0 b.0 [], ap (option_map (λ (x : Standing). new_instance s 0 x [])) b.1, refl)
+new_root s = let b = there s in (new_instance s 0 b.0 [], ap (option_map (λ (x : BodyAlone). new_instance s 0 x [])) b.1, refl)
 
 start_ran : (s : Subject) → IsPlain s → (budget : ℕ) (out : JobOutcome) (left : ℕ) → IsMade (start_run s budget) out left → RootRan [] out (start s budget)
 start_ran s plain budget out left made =
@@ -137,7 +138,7 @@ module _ (s : Subject) (process : IsOneProcess s) (i : Instance) (body_is : i.bo
         (subst (λ (o : Option Transition). RootRan pending out (untimed [] n (fire_of s budget (lone i pending) [] o))) (sym is)
         (untimed_ran n pending out _ (by_found t.when (process.simple i.body n t is).when (by_when n t is t.when (process.simple i.body n t is).when out left made))))
       where
-        by_found : (w : Option When) → w ≡ None → RootRan pending out (fire_with s budget (lone i pending) [] t []) → RootRan pending out (fire_found s budget (lone i pending) [] t (found s (lone i pending) [] w))
+        by_found : (w : Option When) → w ≡ None → RootRan pending out (fire_with s budget (lone i pending) [] t []) → RootRan pending out (fire_found s budget (lone i pending) [] t (received s (lone i pending) [] w))
         by_found None e h = h
         by_found (Some w) e h = absurd (cc)
 

@@ -4,16 +4,17 @@ use Rattle.std.specs.Prelude.{Contains, IsTrue, flat_map}
 use Rattle.std.specs.Cmp.{ranked}
 use Rattle.std.specs.declared.cmp.Ordering.TheVariants.{Less}
 use Rattle.pascal_values.specs.declared.fault.Fault.{Fault}
-use Rattle.estelle_model.specs.declared.event.Pair.{Pair}
+use Rattle.estelle_tree.specs.declared.transition.Pair.{Pair}
 use Rattle.estelle_model.specs.declared.image.Image.{Image}
 use Rattle.estelle_model.specs.declared.job.Guard.{Guard}
 use Rattle.estelle_model.specs.declared.job.Guard.TheVariants.{Off, Faulted}
-use Rattle.estelle_model.specs.Paths.{Path, is_inside}
+use Rattle.estelle_tree.specs.Paths.{Path, is_inside}
 use Rattle.estelle_model.specs.Core.{Instance}
 use Rattle.estelle_model.specs.Subject.{Subject}
-use Rattle.estelle_model.specs.Situation.{Situation, pair_cmp}
+use Rattle.estelle_tree.specs.Timers.{pair, pair_cmp}
+use Rattle.estelle_model.specs.Situation.{Situation}
 use Rattle.estelle_model.specs.Firing.{guard}
-use Rattle.estelle_model.specs.Delays.{pair, is_on}
+use Rattle.estelle_model.specs.Delays.{is_on}
 use Rattle.estelle_model.specs.Selection.{May, Must, Selects, own, process, children}
 use Rattle.estelle_model.specs.Runs.{NoGuardFaults, IsFirstFault}
 use Rattle.estelle_model.specs.Schedule.{Chosen, IsFirstOffer}

@@ -4,19 +4,20 @@ use Rattle.std.specs.Prelude.{Contains, IsTrue, ◌||◌}
 use Rattle.std.specs.declared.cmp.Ordering.TheVariants.{Less}
 use Rattle.pascal_values.specs.declared.fault.Fault as fault
 use Rattle.estelle_model.specs.declared.effect.Effect.{Effect}
-use Rattle.estelle_model.specs.declared.event.Pair.{Pair}
+use Rattle.estelle_tree.specs.declared.transition.Pair.{Pair}
 use Rattle.estelle_model.specs.declared.event.Event.{Event}
 use Rattle.estelle_model.specs.declared.event.Event.TheVariants.{Start, Select, Fire, Fault}
 use Rattle.estelle_model.specs.declared.event.End.TheVariants as end
 use Rattle.estelle_model.specs.declared.image.Image.{Image}
 use Rattle.estelle_model.specs.declared.job.Guard.TheVariants.{Off, Faulted}
 use Rattle.estelle_model.specs.declared.job.Outcome.TheVariants as outcome
-use Rattle.estelle_model.specs.Paths.{Path, path_cmp}
+use Rattle.estelle_tree.specs.Paths.{Path, path_cmp}
 use Rattle.estelle_model.specs.Core.{Instance}
 use Rattle.estelle_model.specs.Subject.{Subject}
 use Rattle.estelle_model.specs.Situation.{Situation}
 use Rattle.estelle_model.specs.Firing.{Firing, Ran, Failed, start, fire, guard}
-use Rattle.estelle_model.specs.Delays.{pair, is_on, renew}
+use Rattle.estelle_tree.specs.Timers.{pair}
+use Rattle.estelle_model.specs.Delays.{is_on, renew}
 use Rattle.estelle_model.specs.Attributes.{IsSystem}
 use Rattle.estelle_model.specs.Selection.{Selects}
 use Rattle.estelle_model.specs.Runs.{IsRun, Begins, situation, started, next, fired, without, Applies, IsIdle, IsFirstFault, HasRun, HasFailed}

@@ -2,7 +2,7 @@
 use Rattle.std.specs.Prelude.{◌≡◌, ℕ, ◌+◌, ◌-◌, ◌*◌, ◌<◌, ◌≤◌, Bool, true, false, IsTrue, if◌then◌else◌, List, [], ◌∷◌, Option, Some, None}
 use Rattle.std.specs.FinMap as map
 use Rattle.pascal_values.specs.declared.fault.Fault.{Fault}
-use Rattle.estelle_model.specs.declared.event.Pair.{Pair}
+use Rattle.estelle_tree.specs.declared.transition.Pair.{Pair}
 use Rattle.estelle_model.specs.declared.event.Event.{Event}
 use Rattle.estelle_model.specs.declared.event.End.{End}
 use Rattle.estelle_model.specs.declared.event.End.TheVariants.{Clock}
@@ -17,7 +17,8 @@ use Rattle.estelle_model.specs.Subject.{Subject}
 use Rattle.estelle_model.specs.Situation.{Situation}
 use Rattle.estelle_model.specs.Firing.{Firing, Ran, Failed, alone, fire}
 use Rattle.estelle_model.specs.Jobs.{part_of_entry}
-use Rattle.estelle_model.specs.Delays.{pair, is_on}
+use Rattle.estelle_tree.specs.Timers.{pair}
+use Rattle.estelle_model.specs.Delays.{is_on}
 use Rattle.estelle_model.specs.Runs.{IsRun, situation}
 use Rattle.estelle_model.specs.Ends.{Stops, IsNoFault, last_event, fires}
 use Rattle.estelle_model.specs.Schedule.{Kept, Reaches, IsScheduled, awaits}

@@ -8,7 +8,7 @@ ghost use Rattle.plain_world.specs.Worlds.{root_job, ShowsRoot, RootRan, IsFirin
 
 use body_walker::{Program, fire_plain};
 use estelle_model::{Image, Job, Outcome};
-use estelle_tree::{Items, Path, Sequence};
+use estelle_tree::{Items, Path};
 use std::alloc::{AllocError, Global};
 
 /// An image of nothing.
@@ -16,8 +16,8 @@ pub fn no_image(alloc: Global) -> Image
     ensures { result ≡ record { parts = []; links = [] } }
 {
     Image {
-        parts: Items::none(alloc),
-        links: Items::none(alloc),
+        parts: Items::new(alloc),
+        links: Items::new(alloc),
     }
 }
 

@@ -11,7 +11,7 @@ use crate::root::{fire, no_image, start};
 use crate::survey::{Survey, ask_guards};
 use body_walker::Program;
 use estelle_model::{End, Event, Image, Outcome, Pair, Run};
-use estelle_tree::{Items, Names, Path, Sequence, Spec};
+use estelle_tree::{Items, Names, Path, Spec};
 use pascal_values::Fault;
 use std::alloc::{AllocError, Global};
 
@@ -43,7 +43,7 @@ struct World<'a> {
 fn selection(alloc: Global, takes: Option<u32>) -> Result<Event, AllocError>
     ensures { IfOk result (λ e. e ≡ Event.Select [] 0 (taken takes)) }
 {
-    let mut pairs = Items::none(alloc);
+    let mut pairs = Items::new(alloc);
     if let Some(trans) = takes {
         pairs.push(Pair {
             path: Path::root(alloc),
@@ -61,8 +61,8 @@ fn begin(alloc: Global) -> Event
     ensures { result ≡ Event.Start [] [] }
 {
     Event::Start {
-        outs: Items::none(alloc),
-        drops: Items::none(alloc),
+        outs: Items::new(alloc),
+        drops: Items::new(alloc),
     }
 }
 
@@ -72,8 +72,8 @@ fn firing(alloc: Global, trans: u32) -> Event
     Event::Fire {
         path: Path::root(alloc),
         trans,
-        outs: Items::none(alloc),
-        drops: Items::none(alloc),
+        outs: Items::new(alloc),
+        drops: Items::new(alloc),
     }
 }
 

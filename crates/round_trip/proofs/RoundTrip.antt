@@ -9,9 +9,9 @@ use Rattle.estelle_printer.proofs.SpecificationLaws.{one_list}
 use Rattle.estelle_lexer.proofs.Answers as lexing
 use Rattle.estelle_parser.proofs.Whole.{one_tree}
 use Rattle.estelle_tree.specs.Spells.{Spells}
-use Rattle.respelling.specs.Same.{unplaced, Same}
-use Rattle.respelling.specs.Specification.{bare_spec}
-use Rattle.respelling.proofs.Respelled.{respelled, bare_unplaced, bare_is_spelled}
+use Rattle.round_trip.specs.Same.{unplaced, Same}
+use Rattle.round_trip.specs.Specification.{bare_spec}
+use Rattle.round_trip.proofs.RespelledLaws.{respelled, bare_unplaced, bare_is_spelled}
 use Rattle.round_trip.specs.ReadBack.{IsPrinted, PrintedIsLexed, PrintedIsReadBack, OnlyTheTreeIsReadBack, SameTreesSpellTheSame}
 
 read_as : (spec : Spec) (text : List ℕ) (p : IsPrinted spec text) → IsReadAs text p.tokens

@@ -1,1 +1,8 @@
+pub mod Types
+pub mod Expressions
+pub mod Statements
+pub mod Declarations
+pub mod Clauses
+pub mod Specification
+pub mod Same
 pub mod ReadBack

@@ -5,7 +5,7 @@ use Rattle.estelle_tree.specs.declared.tree.specification.Spec.{Spec}
 use Rattle.estelle_tree.specs.Lexed.{IsLexed, IsBlankFrom}
 use Rattle.estelle_tree.specs.Spells.{Spells}
 use Rattle.estelle_printer.specs.Canonical.{bare, IsCanonicalText}
-use Rattle.respelling.specs.Same.{Same}
+use Rattle.round_trip.specs.Same.{Same}
 
 -- A tree that is the same as the given one, spans aside, spells the tokens that the text is cut into, behind
 -- which only blanks stand, and the text is its canonical text too.

@@ -24,7 +24,7 @@ use Rattle.estelle_tree.specs.declared.tree.specification.Spec.{Spec}
 use Rattle.estelle_tree.specs.Spans.{DeclLayer}
 use Rattle.estelle_model.specs.Meant.{Meanings}
 use Rattle.estelle_model.specs.Definitions.{types_received, interaction_of, domains_of}
-use Rattle.estelle_model.specs.Bodies.{Way, behind, ways, trans_body_layer, group_layer, Brought, Standing, decl_layer, body_layer, parts_layer, standings, default_of, ways_of}
+use Rattle.estelle_model.specs.Bodies.{Way, behind, ways, trans_body_layer, group_layer, Contribution, BodyAlone, decl_layer, body_layer, parts_layer, standings, default_of, ways_of}
 use Rattle.estelle_model.specs.Transitions.{Transition, or_first, said, when_of, priority_of, delay_of, names_of_domain, choices, flat_one, flat_way}
 use Rattle.estelle_model.specs.Subject.{Subject, meant, body, transitions_of, transitions, numbered_one, transition}
 use Rattle.plain_jobs.specs.Specifications.{is_plain_specification}
@@ -78,30 +78,30 @@ built_process x h = systemprocess_is x.attr (asked x h).process
 
 module _ (by_default : Bool) where
   abbrev Found : Type 0
-  Found = Brought × List Standing
+  Found = Contribution × List BodyAlone
 
   abbrev decl_of : Decl → Found
-  decl_of = fold-Decl Found (List Standing) (List Standing) (decl_layer by_default) (body_layer by_default) (parts_layer by_default)
+  decl_of = fold-Decl Found (List BodyAlone) (List BodyAlone) (decl_layer by_default) (body_layer by_default) (parts_layer by_default)
 
-  abbrev body_of : Body → List Standing
-  body_of = fold-Body Found (List Standing) (List Standing) (decl_layer by_default) (body_layer by_default) (parts_layer by_default)
+  abbrev body_of : Body → List BodyAlone
+  body_of = fold-Body Found (List BodyAlone) (List BodyAlone) (decl_layer by_default) (body_layer by_default) (parts_layer by_default)
 
   abbrev decl_at : DeclLayer → Found
-  decl_at l = decl_layer by_default (map-Decl Decl Body Parts Found (List Standing) (List Standing) decl_of body_of (standings by_default) l)
+  decl_at l = decl_layer by_default (map-Decl Decl Body Parts Found (List BodyAlone) (List BodyAlone) decl_of body_of (standings by_default) l)
 
   decl_is : (x : Decl) → decl_of x ≡ decl_at (out-Decl x)
   unfolding standings
-  decl_is x = fold_out-Decl Found (List Standing) (List Standing) (decl_layer by_default) (body_layer by_default) (parts_layer by_default) x
+  decl_is x = fold_out-Decl Found (List BodyAlone) (List BodyAlone) (decl_layer by_default) (body_layer by_default) (parts_layer by_default) x
 
   abbrev found_in : List Decl → List Found
   found_in ds = map decl_of ds
 
-  abbrev itself : Parts → Standing
+  abbrev itself : Parts → BodyAlone
   itself x = record { name = None; header = None; brought = map (λ d. d.0) (found_in (out-Parts x).decls); init = (out-Parts x).init; trans = (out-Parts x).trans }
 
   parts_are : (x : Parts) → standings by_default x ≡ itself x ∷ flat_map (λ d. d.1) (found_in (out-Parts x).decls)
   unfolding standings
-  parts_are x = fold_out-Parts Found (List Standing) (List Standing) (decl_layer by_default) (body_layer by_default) (parts_layer by_default) x
+  parts_are x = fold_out-Parts Found (List BodyAlone) (List BodyAlone) (decl_layer by_default) (body_layer by_default) (parts_layer by_default) x
 
   -- it brings no body, no module variable and no interaction point
   record BringsNone (f : Found) : Type 0 where
@@ -130,8 +130,8 @@ module _ (by_default : Bool) where
   none_of f x xs h k = ap (λ ys. ys ++ flat_map f xs) h ∙ k
 
   record BringNone (ds : List Decl) : Type 0 where
-    pub module_variables : flat_map (λ (b : Brought). b.module_variables) (map (λ d. d.0) (found_in ds)) ≡ []
-    pub ips : flat_map (λ (b : Brought). b.ips) (map (λ d. d.0) (found_in ds)) ≡ []
+    pub module_variables : flat_map (λ (b : Contribution). b.module_variables) (map (λ d. d.0) (found_in ds)) ≡ []
+    pub ips : flat_map (λ (b : Contribution). b.ips) (map (λ d. d.0) (found_in ds)) ≡ []
     pub bodies : flat_map (λ (d : Found). d.1) (found_in ds) ≡ []
 
   decls_bring : (ds : List Decl) → IsTrue (list_all is_built_decl ds) → BringNone ds
@@ -140,12 +140,12 @@ module _ (by_default : Bool) where
       let one = decl_brings x (both_left (is_built_decl x) (list_all is_built_decl xs) h) in
       let more = decls_bring xs (both_right (is_built_decl x) (list_all is_built_decl xs) h) in
       record {
-        module_variables = none_of (λ (b : Brought). b.module_variables) (decl_of x).0 (map (λ d. d.0) (found_in xs)) one.module_variables more.module_variables;
-        ips = none_of (λ (b : Brought). b.ips) (decl_of x).0 (map (λ d. d.0) (found_in xs)) one.ips more.ips;
+        module_variables = none_of (λ (b : Contribution). b.module_variables) (decl_of x).0 (map (λ d. d.0) (found_in xs)) one.module_variables more.module_variables;
+        ips = none_of (λ (b : Contribution). b.ips) (decl_of x).0 (map (λ d. d.0) (found_in xs)) one.ips more.ips;
         bodies = none_of (λ (d : Found). d.1) (decl_of x) (found_in xs) one.bodies more.bodies;
       }
 
-pub built_alone : (x : Spec) → IsTrue (is_built x) → (b : Standing) × StandsAlone x b
+pub built_alone : (x : Spec) → IsTrue (is_built x) → (b : BodyAlone) × StandsAlone x b
 built_alone x h =
     let d = default_of x.heads in
     let none = decls_bring d (out-Parts x.parts).decls (asked x h).decls in (
@@ -322,11 +322,11 @@ module _ (known : Meanings) where
   }
 
 -- the body with a number is the specification, or there is none
-record Stands (x : Spec) (o : Option Standing) : Type 0 where
-  pub trans : (b : Standing) → o ≡ Some b → b.trans ≡ (out-Parts x.parts).trans
+record Stands (x : Spec) (o : Option BodyAlone) : Type 0 where
+  pub trans : (b : BodyAlone) → o ≡ Some b → b.trans ≡ (out-Parts x.parts).trans
 
-slice_stands : (x : Spec) (b : Standing) → b.trans ≡ (out-Parts x.parts).trans → (k : ℕ) → Stands x (slice_get (b ∷ []) k)
-slice_stands x b is zero = record { trans = λ c e. let same : b ≡ c = cc in subst (λ (d : Standing). d.trans ≡ (out-Parts x.parts).trans) same is }
+slice_stands : (x : Spec) (b : BodyAlone) → b.trans ≡ (out-Parts x.parts).trans → (k : ℕ) → Stands x (slice_get (b ∷ []) k)
+slice_stands x b is zero = record { trans = λ c e. let same : b ≡ c = cc in subst (λ (d : BodyAlone). d.trans ≡ (out-Parts x.parts).trans) same is }
 slice_stands x b is (suc k) = record { trans = λ c e. absurd (cc) }
 
 body_stands : (s : Subject) → IsTrue (is_built s.specification) → (k : ℕ) → Stands s.specification (body s k)
@@ -334,7 +334,7 @@ body_stands s h k =
     let a = built_alone s.specification h in
     subst (λ bs. Stands s.specification (slice_get bs k)) (sym a.1.only) (slice_stands s.specification a.0 a.1.trans k)
 
-each_simple : (s : Subject) → IsTrue (is_built s.specification) → (o : Option Standing) → Stands s.specification o → Each IsSimple (transitions_of s o)
+each_simple : (s : Subject) → IsTrue (is_built s.specification) → (o : Option BodyAlone) → Stands s.specification o → Each IsSimple (transitions_of s o)
 each_simple s h None is = tt
 each_simple s h (Some b) is =
     let ws : Each BuiltWay (ways_of b) = subst (λ ts. Each BuiltWay (ways_in ts)) (sym (is.trans b refl)) (ways_built (out-Parts s.specification.parts).trans (asked s.specification h).trans) in
@@ -350,7 +350,7 @@ built_simple s h k n t e = at_number IsSimple (transitions s k) n t (each_simple
 at_most : (n : ℕ) → IsTrue (nat_le n transition_limit) → n ≤ transition_limit
 at_most n h = grind (arith, leb_tells)
 
-few_of : (s : Subject) → IsTrue (is_built s.specification) → (o : Option Standing) → Stands s.specification o → length (transitions_of s o) ≤ transition_limit
+few_of : (s : Subject) → IsTrue (is_built s.specification) → (o : Option BodyAlone) → Stands s.specification o → length (transitions_of s o) ≤ transition_limit
 few_of s h None is = lit≤ tt
 few_of s h (Some b) is =
     let ts = (out-Parts s.specification.parts).trans in

@@ -4,7 +4,7 @@ use Rattle.estelle_tree.specs.declared.span.Span.{Span}
 use Rattle.estelle_tree.specs.declared.tree.specification.SysAttr.TheVariants as sys_attr
 use Rattle.estelle_tree.specs.declared.tree.specification.Parts.{out-Parts}
 use Rattle.estelle_tree.specs.declared.tree.specification.Spec.{Spec}
-use Rattle.estelle_model.specs.Bodies.{Standing, bodies, module_variables_in, ips_in}
+use Rattle.estelle_model.specs.Bodies.{BodyAlone, bodies, module_variables_in, ips_in}
 use Rattle.estelle_model.specs.Transitions.{Transition}
 use Rattle.estelle_model.specs.Subject.{Subject, transition, transitions}
 use Rattle.plain_jobs.specs.Specifications.{is_plain_specification}
@@ -15,7 +15,7 @@ abbrev pub BuiltArePlain : Type 0
 BuiltArePlain = (spec : Spec) → IsTrue (is_built spec) → IsTrue (is_plain_specification spec)
 
 -- the specification is its only body, and has no header, no module variables and no interaction points
-pub record StandsAlone (spec : Spec) (b : Standing) : Type 0 where
+pub record StandsAlone (spec : Spec) (b : BodyAlone) : Type 0 where
   pub only : bodies spec ≡ b ∷ []
   pub name : b.name ≡ None
   pub header : b.header ≡ None
@@ -25,7 +25,7 @@ pub record StandsAlone (spec : Spec) (b : Standing) : Type 0 where
   pub trans : b.trans ≡ (out-Parts spec.parts).trans
 
 abbrev pub BuiltStandAlone : Type 0
-BuiltStandAlone = (spec : Spec) → IsTrue (is_built spec) → (b : Standing) × StandsAlone spec b
+BuiltStandAlone = (spec : Spec) → IsTrue (is_built spec) → (b : BodyAlone) × StandsAlone spec b
 
 -- a transition that receives nothing and has no priority, no delay and no values chosen
 pub record IsSimple (t : Transition) : Type 0 where

@@ -19,7 +19,7 @@ use Rattle.scope_rules.specs.TypeEvents.{Events}
 use Rattle.scope_rules.specs.Scopes.{Scopes, Scope, Level, Word, start, after, after_one, in_scope, in_scope_of, in_level, in_names, kept_at, or_else, is_further, meaning, received, inside_of, declare_one, Sought, sought}
 use Rattle.scope_rules.specs.NameRules.{IsOne, Somewhere, later, SecondOf, SecondParameter, DeclaredTwice, NotVisible, OfOtherKind, StatesAtFault, OfOtherHeader, Broken, Breaks}
 use Rattle.scope_rules.proofs.First.{before_self, first_noted, first_same, first_of_none}
-use Rattle.scope_table.specs.Common.{shares, shares_level, shares_scope}
+use Rattle.scope_names.specs.Common.{shares, shares_level, shares_scope}
 use Rattle.scope_names.specs.Noted.{breach, twice, twices, only_if, is_second, listed_twice, parameter_twice, misused_as, misused, misuses, states_fault, header_fault, breach_at, least}
 
 made : (b : Breach) (n : ℕ) (at : Span) → b.number ≡ n → b.span ≡ at → b ≡ breach n at

@@ -1,2 +1,4 @@
+pub mod Entries
+pub mod Symmetry
 pub mod Lists
 pub mod First

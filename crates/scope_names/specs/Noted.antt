@@ -14,7 +14,7 @@ use Rattle.scope_rules.specs.Kinds.{may_be}
 use Rattle.scope_rules.specs.TypeEvents.{Events}
 use Rattle.scope_rules.specs.Scopes.{Scopes, in_scope, in_names, kept_at, meaning, received, inside_of, declare_one, after_one, Sought, sought}
 use Rattle.scope_rules.specs.NameRules.{later}
-use Rattle.scope_table.specs.Common.{shares_scope}
+use Rattle.scope_names.specs.Common.{shares_scope}
 
 abbrev pub breach : ℕ → Span → Breach
 breach number span = record { number = number; span = span }

@@ -7,9 +7,9 @@ ghost use Rattle.scope_rules.specs.Scopes as spec;
 ghost use Rattle.scope_rules.specs.NameRules.{used, used_at, later};
 ghost use Rattle.scope_names.specs.Noted as noting;
 
+use crate::table::Table;
 use estelle_tree::{Items, Name, Sequence, Span, Use};
 use scope_rules::{Breach, Declared, Denotes, Event, Inside, Need, Step, may_be, noted};
-use scope_table::Table;
 use std::alloc::{AllocError, Global};
 
 /// The place for which the names behind a dot are kept, where a name means what its place needs.

@@ -8,10 +8,10 @@ ghost use Rattle.scope_rules.specs.NameRules as rules;
 ghost use Rattle.scope_names.specs.Noted.{least};
 
 use crate::judge::judge;
+use crate::table::Table;
 use estelle_tree::{Items, Names, Sequence, Spec, Use};
-use scope_events::events;
+use scope_names_events::events;
 use scope_rules::{Breach, Event, Refusal, noted};
-use scope_table::Table;
 use std::alloc::{AllocError, Global};
 
 /// What all events break, and what their names mean.

@@ -17,6 +17,3 @@ mod refusal;
 pub use declaration::{Declared, Denotes, Inside, Need, may_be};
 pub use event::{Event, ScopeForm, Step};
 pub use refusal::{Breach, Refusal, noted};
-
-#[cfg(test)]
-mod tests;

@@ -3,7 +3,7 @@
 ghost use Rattle.std.specs.Prelude.{◌≡◌, false, IsTrue};
 ghost use Rattle.scope_rules.specs.declared.refusal.Breach.{Breach};
 ghost use Rattle.scope_rules.specs.NameRules.{names_of};
-ghost use Rattle.flat_list.specs.FlatList.{is_without_any, flat_list, nothing};
+ghost use Rattle.flat_transitions.specs.FlatList.{is_without_any, flat_list, nothing};
 ghost use Rattle.spec_accept.specs.Rules.{RuleBroken};
 
 use estelle_tree::{Flat, Names, Spec};

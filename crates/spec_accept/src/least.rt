@@ -6,7 +6,7 @@ ghost use Rattle.spec_accept.specs.Rules.{RuleBroken};
 
 use crate::checked::Checked;
 use estelle_tree::Spec;
-use flat_list::flat_list;
+use flat_transitions::flat_list;
 use pascal_check::check;
 use scope_names::resolve;
 use scope_rules::Refusal;

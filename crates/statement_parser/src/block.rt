@@ -6,7 +6,7 @@ ghost use Rattle.statement_parser.specs.Routine as spec;
 
 use crate::sequence::{Below, stmt_below};
 use crate::structured::{open_level, stmts_over};
-use estelle_tree::{BlockDecl, Items, Kind, Routine, RoutineForm, Sequence, Stmts};
+use estelle_tree::{BlockDecl, Items, Kind, Routine, RoutineForm, Stmts};
 use std::alloc::Global;
 use token_reader::{Begins, Cursor, Optional, Read, ReadError, repeated};
 use type_parser::{BlockDeclForm, FormalsForm};
@@ -105,23 +105,7 @@ pub fn block_decls(
     ensures { Reads (spec.block_decls room tokens.old) result tokens.new }
 {
     let decl = BlockDeclForm { room };
-    repeated(alloc, tokens, Items::none(alloc), &Optional { item: &decl })
-}
-
-/// `{BlockDecl}`, in which at most so many levels of nesting open.
-#[derive(Clone, Copy, Debug, PartialEq, Eq)]
-pub struct BlockDeclsAt {
-    pub room: u8,
-}
-
-impl Read<Items<BlockDecl>> for BlockDeclsAt {
-    ghost parser = { λ s. spec.block_decls s.room };
-
-    ghost can = { λ _. ⊤ };
-
-    fn read(&self, alloc: Global, tokens: &mut Cursor<'_>) -> Result<Items<BlockDecl>, ReadError> {
-        block_decls(alloc, tokens, self.room)
-    }
+    repeated(alloc, tokens, Items::new(alloc), &Optional { item: &decl })
 }
 
 /// Reads a procedure or function (ISO 7185, 6.6.1 and 6.6.2), in which at most so many levels of nesting

@@ -10,9 +10,6 @@ mod sequence;
 mod simple;
 mod structured;
 
-pub use block::{BlockDeclsAt, RoutineAt, StatementPartAt, block_decls, routine, statement_part};
+pub use block::{RoutineAt, StatementPartAt, block_decls, routine, statement_part};
 pub use laws::{block_decls_laws, routine_laws, statement_part_laws, stmt_laws, stmts_laws};
-pub use sequence::{StmtAt, StmtsAt, stmt, stmts};
-
-#[cfg(test)]
-mod tests;
+pub use sequence::{StmtsAt, stmt, stmts};

@@ -12,7 +12,4 @@ mod read;
 pub use cursor::Cursor;
 pub use error::ReadError;
 pub use lists::{repeated, separated, separated_if, several};
-pub use read::{Begins, Behind, BehindIf, Ended, Optional, Read};
-
-#[cfg(test)]
-mod tests;
+pub use read::{Begins, Behind, Ended, Optional, Read};

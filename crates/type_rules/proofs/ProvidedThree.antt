@@ -26,7 +26,7 @@ use Rattle.type_rules.specs.declared.sites.Wanted.TheVariants.{ABoolean}
 use Rattle.type_rules.specs.declared.sites.Access.TheVariants.{NoVariable}
 use Rattle.type_rules.specs.declared.sites.Site.TheVariants.{Wants}
 use Rattle.type_rules.specs.declared.sites.PlacedSite.{PlacedSite}
-use Rattle.type_rules.specs.SpecificationSites.{Part, Standing, trans_body_layer, group_layer, trans_body, group, decl_layer, body_layer, parts_layer, decl, body, parts, all_of, placed, in_body, env, sites}
+use Rattle.type_rules.specs.SpecificationSites.{Part, PlacedPart, trans_body_layer, group_layer, trans_body, group, decl_layer, body_layer, parts_layer, decl, body, parts, all_of, placed, in_body, env, sites}
 use Rattle.type_rules.specs.ExpressionSites.{Judged}
 use Rattle.type_rules.specs.PascalRules.{PascalRuleBroken}
 use Rattle.type_rules.proofs.Examples.{at, number, number_is}
@@ -61,9 +61,9 @@ group_is : (x : Group) → group x ≡ group_layer (map-Group TransBody Group Pa
 unfolding trans_body group
 group_is x = fold_out-Group Part Part trans_body_layer group_layer x
 
-parts_is : (x : Parts) → parts x ≡ parts_layer (map-Parts Decl Body Parts Standing Standing Standing decl body parts (out-Parts x))
+parts_is : (x : Parts) → parts x ≡ parts_layer (map-Parts Decl Body Parts PlacedPart PlacedPart PlacedPart decl body parts (out-Parts x))
 unfolding decl body parts
-parts_is x = fold_out-Parts Standing Standing Standing decl_layer body_layer parts_layer x
+parts_is x = fold_out-Parts PlacedPart PlacedPart PlacedPart decl_layer body_layer parts_layer x
 
 group_out : group when_three ≡ group_layer (record { clause = clause_node.Provided (number (pos 3) (at 46 47)) (at 37 47); body = trans_body (body_node.Block block); span = at 37 58 })
 group_out = group_is when_three ∙ ap (λ l. group_layer (map-Group TransBody Group Part Part trans_body group l)) (out-roll-Group (record { clause = clause_node.Provided (number (pos 3) (at 46 47)) (at 37 47); body = body_node.Block block; span = at 37 58 }))
@@ -72,14 +72,14 @@ groups_out : trans_body behind_trans ≡ all_of (group when_three ∷ [])
 groups_out = trans_body_is behind_trans ∙ ap (λ l. trans_body_layer (map-TransBody TransBody Group Part Part trans_body group l)) (body_node.outs-Groups (when_three ∷ []) (at 37 58))
 
 parts_out : parts inside ≡ parts_layer (record { decls = []; init = None; trans = record { body = behind_trans; span = at 31 58 } ∷ []; span = at 31 58 })
-parts_out = parts_is inside ∙ ap (λ l. parts_layer (map-Parts Decl Body Parts Standing Standing Standing decl body parts l)) (out-roll-Parts (record { decls = []; init = None; trans = record { body = behind_trans; span = at 31 58 } ∷ []; span = at 31 58 }))
+parts_out = parts_is inside ∙ ap (λ l. parts_layer (map-Parts Decl Body Parts PlacedPart PlacedPart PlacedPart decl body parts l)) (out-roll-Parts (record { decls = []; init = None; trans = record { body = behind_trans; span = at 31 58 } ∷ []; span = at 31 58 }))
 
 abbrev there : PlacedSite
 there = record { place = in_body 0; site = Wants ABoolean (record { at = at 46 47; type_ = Some integer; access = NoVariable }) }
 
 at_place : (e : Env) → IsOne there ((parts inside).sites e 0)
 at_place e =
-    subst (λ (x : Standing). IsOne there (x.sites e 0)) (sym parts_out)
+    subst (λ (x : PlacedPart). IsOne there (x.sites e 0)) (sym parts_out)
     (subst (λ (x : Part). IsOne there (placed (in_body 0) (x.sites e) ++ [])) (sym groups_out)
     (subst (λ (x : Part). IsOne there (placed (in_body 0) (x.sites e ++ []) ++ [])) (sym group_out)
     (subst (λ (j : Judged). IsOne there (placed (in_body 0) (((j.sites ++ Wants ABoolean j.typed ∷ []) ++ (trans_body (body_node.Block block)).sites e) ++ []) ++ [])) (sym (number_is e (pos 3) (at 46 47))) (inl refl))))
@@ -98,8 +98,8 @@ abbrev empty : Spec
 empty = record { name = record { word = codes "s"; span = at 14 15 }; attr = None; heads = []; parts = empty_inside; span = at 0 21 }
 
 empty_out : parts empty_inside ≡ parts_layer (record { decls = []; init = None; trans = []; span = at 0 0 })
-empty_out = parts_is empty_inside ∙ ap (λ l. parts_layer (map-Parts Decl Body Parts Standing Standing Standing decl body parts l)) (out-roll-Parts (record { decls = []; init = None; trans = []; span = at 0 0 }))
+empty_out = parts_is empty_inside ∙ ap (λ l. parts_layer (map-Parts Decl Body Parts PlacedPart PlacedPart PlacedPart decl body parts l)) (out-roll-Parts (record { decls = []; init = None; trans = []; span = at 0 0 }))
 
 kept : (names : Names) (b : Breach) → PascalRuleBroken empty names b → ⊥
 unfolding sites
-kept names b h = subst (λ (x : Standing). IsOne h.0 (x.sites (env empty names) 0)) empty_out h.1.0
+kept names b h = subst (λ (x : PlacedPart). IsOne h.0 (x.sites (env empty names) 0)) empty_out h.1.0

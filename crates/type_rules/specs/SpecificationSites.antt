@@ -241,7 +241,7 @@ abbrev pub body_name : Name → Name → Declaration
 body_name name header = declare_as (body_meaning header) name
 
 -- the parts of a specification or body, by where it begins: what they declare, and where rules speak of them
-pub record Standing : Type 0 where
+pub record PlacedPart : Type 0 where
   pub declares : ℕ → Declarations
   pub sites : Env → ℕ → List PlacedSite
 
@@ -263,16 +263,16 @@ placed_one place s = record { place = place; site = s }
 abbrev pub placed : Place → Sites → List PlacedSite
 placed place = map (placed_one place)
 
-abbrev pub standing : Part → Standing
+abbrev pub standing : Part → PlacedPart
 standing p = record { declares = λ at. p.declares; sites = λ env at. placed (in_body at) (p.sites env) }
 
-abbrev pub declaring : Declarations → Standing
+abbrev pub declaring : Declarations → PlacedPart
 declaring ds = record { declares = λ at. ds; sites = λ env at. [] }
 
-abbrev pub routine_standing : Routine → Standing
+abbrev pub routine_standing : Routine → PlacedPart
 routine_standing r = record { declares = λ at. (routine at r).declares; sites = λ env at. placed (in_routine at r) ((routine at r).sites env) }
 
-abbrev pub decl_layer : Decl-F Standing Standing Standing → Standing
+abbrev pub decl_layer : Decl-F PlacedPart PlacedPart PlacedPart → PlacedPart
 decl_layer (Decl-F.Const defs span) = standing (all_of (map const_def defs))
 decl_layer (Decl-F.Types defs span) = standing (all_of (map type_def defs))
 decl_layer (Decl-F.Channel c) = declaring (channel c)
@@ -286,7 +286,7 @@ decl_layer (Decl-F.Stateset sets span) = declaring []
 decl_layer (Decl-F.Routine r) = routine_standing r
 
 -- a body is one of those in which it stands, and what stands in it begins anew
-abbrev pub body_layer : Body-F Standing Standing Standing → Standing
+abbrev pub body_layer : Body-F PlacedPart PlacedPart PlacedPart → PlacedPart
 body_layer b = record {
   declares = λ at. body_name b.name b.header ∷ b.parts.declares b.span.start;
   sites = λ env at. b.parts.sites env b.span.start;
@@ -296,20 +296,20 @@ abbrev pub init_part : Option Init → Part
 init_part None = nothing
 init_part (Some x) = block x.block
 
-abbrev pub parts_layer : Parts-F Standing Standing Standing → Standing
+abbrev pub parts_layer : Parts-F PlacedPart PlacedPart PlacedPart → PlacedPart
 parts_layer ps = record {
   declares = λ at. flat_map (λ d. d.declares at) ps.decls ++ ((init_part ps.init).declares ++ flat_map (λ x. (trans_body x.body).declares) ps.trans);
   sites = λ env at. flat_map (λ d. d.sites env at) ps.decls ++ (placed (in_body at) ((init_part ps.init).sites env) ++ flat_map (λ x. placed (in_body at) ((trans_body x.body).sites env)) ps.trans);
 }
 
-unfoldable pub decl : Decl → Standing
-decl = fold-Decl Standing Standing Standing decl_layer body_layer parts_layer
+unfoldable pub decl : Decl → PlacedPart
+decl = fold-Decl PlacedPart PlacedPart PlacedPart decl_layer body_layer parts_layer
 
-unfoldable pub body : Body → Standing
-body = fold-Body Standing Standing Standing decl_layer body_layer parts_layer
+unfoldable pub body : Body → PlacedPart
+body = fold-Body PlacedPart PlacedPart PlacedPart decl_layer body_layer parts_layer
 
-unfoldable pub parts : Parts → Standing
-parts = fold-Parts Standing Standing Standing decl_layer body_layer parts_layer
+unfoldable pub parts : Parts → PlacedPart
+parts = fold-Parts PlacedPart PlacedPart PlacedPart decl_layer body_layer parts_layer
 
 -- ---- the whole specification
 

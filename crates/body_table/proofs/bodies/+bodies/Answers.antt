@@ -2,7 +2,7 @@ use Rattle.std.proofs.Common.{arith}
 use Rattle.std.specs.List.{flat_map}
 use Rattle.estelle_tree.specs.declared.tree.specification.Decl.{Decl}
 use Rattle.meaning_table.proofs.Declarations.{declaring, drop_end}
-use Rattle.body_table.specs.Brought.{bodies_of}
+use Rattle.body_table.specs.Contributions.{bodies_of}
 use Rattle.body_table.specs.Standings.{body}
 use Rattle.body_table.proofs.Numbering.{items_count}
 use Rattle.body_table.proofs.BodyEquations.{bodies_step}

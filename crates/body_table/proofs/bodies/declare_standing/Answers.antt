@@ -1,5 +1,5 @@
 use Rattle.std.specs.Option.{option_copied}
-use Rattle.block_table.proofs.Parameters.{on_ok}
+use Rattle.body_table.proofs.Parameters.{on_ok}
 use Rattle.body_table.proofs.BodyEquations.{standing_known}
 use Rattle.body_table.proofs.bodies.declare_standing.Goals as goal
 

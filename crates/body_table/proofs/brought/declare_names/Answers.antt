@@ -1,6 +1,6 @@
 use Rattle.std.proofs.Common.{arith}
 use Rattle.meaning_table.proofs.Declarations.{declared_more}
-use Rattle.body_table.specs.Brought.{names_of}
+use Rattle.body_table.specs.Contributions.{names_of}
 use Rattle.body_table.proofs.brought.declare_names.Goals as goal
 
 pub loop-decl-preserved : goal.loop-decl-preserved

@@ -1,7 +1,7 @@
 use Rattle.std.proofs.Common.{◌≡◌, take}
 use Rattle.std.specs.List.{flat_map}
 use Rattle.meaning_table.specs.Known.{declare_all}
-use Rattle.body_table.specs.Brought.{names_of}
+use Rattle.body_table.specs.Contributions.{names_of}
 use Rattle.body_table.proofs.brought.declare_names.Given as goal
 
 abbrev pub invariant-loop-decl : goal.invariant-loop-decl

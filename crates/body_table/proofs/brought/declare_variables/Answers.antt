@@ -3,7 +3,7 @@ use Rattle.std.specs.Option.{option_copied}
 use Rattle.meaning_table.specs.Kinds.{numbered_behind}
 use Rattle.meaning_table.specs.declared.kinds.VariableKind.TheVariants.{Own}
 use Rattle.meaning_table.proofs.Declarations.{declaring, chain_step, drop_end}
-use Rattle.body_table.specs.Brought.{variables_of}
+use Rattle.body_table.specs.Contributions.{variables_of}
 use Rattle.body_table.specs.Standings.{header_variables}
 use Rattle.body_table.proofs.brought.declare_variables.Goals as goal
 

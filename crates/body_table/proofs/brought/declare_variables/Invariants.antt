@@ -5,7 +5,7 @@ use Rattle.estelle_model.specs.Denoted.{sections_declare}
 use Rattle.meaning_table.specs.Known.{declare_all}
 use Rattle.meaning_table.specs.Kinds.{numbered_behind}
 use Rattle.meaning_table.specs.declared.kinds.VariableKind.TheVariants.{Own}
-use Rattle.body_table.specs.Brought.{variables_of}
+use Rattle.body_table.specs.Contributions.{variables_of}
 use Rattle.body_table.specs.Standings.{header_variables}
 use Rattle.body_table.proofs.brought.declare_variables.Given as goal
 

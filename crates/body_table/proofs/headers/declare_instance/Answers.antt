@@ -1,4 +1,4 @@
-use Rattle.block_table.proofs.Parameters.{on_ok}
+use Rattle.body_table.proofs.Parameters.{on_ok}
 use Rattle.body_table.proofs.HeaderEquations.{instance_known}
 use Rattle.body_table.proofs.headers.declare_instance.Goals as goal
 

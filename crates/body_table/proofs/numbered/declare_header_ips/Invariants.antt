@@ -4,7 +4,7 @@ use Rattle.estelle_model.specs.Denoted.{numbered}
 use Rattle.meaning_table.specs.Known.{declare_all}
 use Rattle.meaning_table.specs.Kinds.{plainly}
 use Rattle.meaning_table.specs.declared.kinds.PlainKind.TheVariants.{Ip}
-use Rattle.body_table.specs.Brought.{ip_names_in}
+use Rattle.body_table.specs.Contributions.{ip_names_in}
 use Rattle.body_table.proofs.numbered.declare_header_ips.Given as goal
 
 abbrev pub invariant-loop-ip : goal.invariant-loop-ip

@@ -1,7 +1,7 @@
 use Rattle.std.proofs.Common.{arith}
 use Rattle.std.specs.Option.{option_copied}
 use Rattle.body_table.specs.Standings.{own_ip}
-use Rattle.body_table.specs.Brought.{ip_names_in}
+use Rattle.body_table.specs.Contributions.{ip_names_in}
 use Rattle.meaning_table.proofs.Declarations.{declaring, drop_end}
 use Rattle.body_table.proofs.Numbering.{plainly_rising, names_step, items_count}
 use Rattle.body_table.proofs.numbered.declare_ip_decls.Goals as goal

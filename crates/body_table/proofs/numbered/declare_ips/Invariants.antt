@@ -4,7 +4,7 @@ use Rattle.std.specs.Option.{option_copied}
 use Rattle.estelle_model.specs.Denoted.{numbered}
 use Rattle.meaning_table.specs.Known.{declare_all}
 use Rattle.body_table.specs.Standings.{own_ip}
-use Rattle.body_table.specs.Brought.{ip_names_of}
+use Rattle.body_table.specs.Contributions.{ip_names_of}
 use Rattle.body_table.proofs.numbered.declare_ips.Given as goal
 
 abbrev pub invariant-loop-decl : goal.invariant-loop-decl

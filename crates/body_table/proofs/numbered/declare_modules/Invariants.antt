@@ -4,7 +4,7 @@ use Rattle.estelle_model.specs.Denoted.{numbered}
 use Rattle.meaning_table.specs.Known.{declare_all}
 use Rattle.meaning_table.specs.Kinds.{plainly}
 use Rattle.meaning_table.specs.declared.kinds.PlainKind.TheVariants.{Module}
-use Rattle.body_table.specs.Brought.{modules_of}
+use Rattle.body_table.specs.Contributions.{modules_of}
 use Rattle.body_table.proofs.numbered.declare_modules.Given as goal
 
 abbrev pub invariant-loop-decl : goal.invariant-loop-decl

@@ -1,7 +1,7 @@
 use Rattle.std.proofs.Common.{arith}
 use Rattle.meaning_table.specs.Kinds.{plainly}
 use Rattle.meaning_table.specs.declared.kinds.PlainKind.TheVariants.{Module}
-use Rattle.body_table.specs.Brought.{modvar_names}
+use Rattle.body_table.specs.Contributions.{modvar_names}
 use Rattle.meaning_table.proofs.Declarations.{declaring, drop_end}
 use Rattle.body_table.proofs.Numbering.{plainly_rising, names_step, items_count}
 use Rattle.body_table.proofs.numbered.declare_modvars.Goals as goal

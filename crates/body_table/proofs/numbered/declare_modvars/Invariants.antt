@@ -4,7 +4,7 @@ use Rattle.estelle_model.specs.Denoted.{numbered}
 use Rattle.meaning_table.specs.Known.{declare_all}
 use Rattle.meaning_table.specs.Kinds.{plainly}
 use Rattle.meaning_table.specs.declared.kinds.PlainKind.TheVariants.{Module}
-use Rattle.body_table.specs.Brought.{modvar_names}
+use Rattle.body_table.specs.Contributions.{modvar_names}
 use Rattle.body_table.proofs.numbered.declare_modvars.Given as goal
 
 abbrev pub invariant-loop-modvar : goal.invariant-loop-modvar

@@ -4,7 +4,7 @@ use Rattle.estelle_model.specs.Denoted.{numbered}
 use Rattle.meaning_table.specs.Known.{declare_all}
 use Rattle.meaning_table.specs.Kinds.{plainly}
 use Rattle.meaning_table.specs.declared.kinds.PlainKind.TheVariants.{State}
-use Rattle.body_table.specs.Brought.{states_of}
+use Rattle.body_table.specs.Contributions.{states_of}
 use Rattle.body_table.proofs.numbered.declare_states.Given as goal
 
 abbrev pub invariant-loop-decl : goal.invariant-loop-decl

@@ -3,7 +3,7 @@ use Rattle.std.proofs.lemmas.Grind.{common_steps}
 use Rattle.estelle_model.specs.Denoted.{section_types}
 use Rattle.meaning_table.specs.Known.{meanings_of}
 use Rattle.meaning_table.proofs.Chains.{chain_more}
-use Rattle.body_table.specs.Brought.{variables_of}
+use Rattle.body_table.specs.Contributions.{variables_of}
 use Rattle.body_table.proofs.root.types_of.Goals as goal
 
 pub loop-decl-preserved : goal.loop-decl-preserved

@@ -2,7 +2,7 @@ use Rattle.std.proofs.Common.{◌≡◌, take}
 use Rattle.std.specs.List.{flat_map}
 use Rattle.estelle_model.specs.Denoted.{section_types}
 use Rattle.meaning_table.specs.Known.{meanings_of}
-use Rattle.body_table.specs.Brought.{variables_of}
+use Rattle.body_table.specs.Contributions.{variables_of}
 use Rattle.body_table.proofs.root.types_of.Given as goal
 
 abbrev pub invariant-loop-decl : goal.invariant-loop-decl

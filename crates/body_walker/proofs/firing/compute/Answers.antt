@@ -4,7 +4,7 @@ use Rattle.std.proofs.lemmas.Bool.{false≢true}
 use Rattle.estelle_model.specs.Transitions.{Transition}
 use Rattle.estelle_model.specs.Subject.{transitions}
 use Rattle.plain_jobs.specs.Computed.{IsMade, job_run, IsComputed}
-use Rattle.walker_state.specs.InOrder.{instance_in}
+use Rattle.body_walker_state.specs.InOrder.{instance_in}
 use Rattle.body_walker.specs.Programs.{job_of}
 use Rattle.body_walker.proofs.FiringLemmas.{computes, computes_result}
 use Rattle.body_walker.proofs.firing.compute.Goals as goal

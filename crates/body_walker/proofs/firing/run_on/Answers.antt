@@ -2,7 +2,7 @@ use Rattle.std.proofs.Common.{subst}
 use Rattle.estelle_model.specs.Blocks.{fresh}
 use Rattle.plain_jobs.specs.Computed.{core_of, log_from}
 use Rattle.meaning_table.specs.Known.{meanings_of}
-use Rattle.walker_state.specs.Follows.{Follows}
+use Rattle.body_walker_state.specs.Follows.{Follows}
 use Rattle.body_walker.specs.Runs.{block_and_state}
 use Rattle.body_walker.proofs.firing.run_on.Goals as goal
 

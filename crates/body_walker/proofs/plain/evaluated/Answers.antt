@@ -4,7 +4,7 @@ use Rattle.estelle_model.specs.States.{Logged, on_log}
 use Rattle.estelle_model.specs.Blocks.{fresh}
 use Rattle.estelle_model.specs.Clauses.{guard_step}
 use Rattle.plain_jobs.specs.Computed.{core_of, log_from, values_of}
-use Rattle.walker_state.specs.Follows.{Follows}
+use Rattle.body_walker_state.specs.Follows.{Follows}
 use Rattle.body_walker.proofs.plain.evaluated.Goals as goal
 
 pub returns : goal.returns

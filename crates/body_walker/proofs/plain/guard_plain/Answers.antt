@@ -3,7 +3,7 @@ use Rattle.std.specs.Option.{option_copied}
 use Rattle.estelle_model.specs.declared.job.Guard.TheVariants.{Off}
 use Rattle.estelle_model.specs.Jobs.{instance_of}
 use Rattle.plain_jobs.specs.Computed.{IsPlain}
-use Rattle.walker_state.specs.InOrder.{instance_in}
+use Rattle.body_walker_state.specs.InOrder.{instance_in}
 use Rattle.body_walker.proofs.GuardAnswers.{of_image, answers_of, computed_result, answers_result}
 use Rattle.body_walker.proofs.plain.guard_plain.Goals as goal
 

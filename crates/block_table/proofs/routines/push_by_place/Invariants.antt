@@ -1,6 +1,0 @@
-use Rattle.std.proofs.Common.{◌≡◌, ◌++◌, replicate}
-use Rattle.estelle_model.specs.declared.meaning.Passing.TheVariants.{ByPlace}
-use Rattle.block_table.proofs.routines.push_by_place.Given as goal
-
-abbrev pub invariant-loop : goal.invariant-loop
-invariant-loop l = l.out ≡ l.initial.out ++ replicate l.counter ByPlace

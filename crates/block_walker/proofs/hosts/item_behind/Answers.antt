@@ -1,5 +1,0 @@
-use Rattle.block_walker.proofs.HostSteps.{item_turn}
-use Rattle.block_walker.proofs.hosts.item_behind.Goals as goal
-
-pub loop-preserved : goal.loop-preserved
-loop-preserved c = item_turn c.loop.item.now c.item_of-item.result.now _ c.args.indices c.loop.counter c.loop-test.true c.item_of-item.ensures c.loop.invariant

@@ -1,0 +1,113 @@
+//! Flat transitions: which ones accepted texts have, with all that is said of each.
+
+use estelle_tree::{Flat, FlatTrans, Limit, Sequence, Span};
+use spec_accept::accept;
+use std::alloc::{AllocError, Global};
+use std::test::Fail;
+use test_texts::tree;
+
+/// Clauses in groups, states in a state set out of order, and constants that are negative or have names.
+const TEXT: &str =
+    "specification s systemprocess; state here, there; channel c(left, right); by left: m(n: integer); stop; \
+module h process; ip p: c(right); q: c(right); end; \
+body x for h; const low = -3; state one, two, three; stateset late = [three, two]; \
+initialize to one begin end; trans from one to two when q.m provided n > 1 priority low begin {1} end; priority 7 delay(n, *) begin {2} end; \
+trans to one from late, one delay(2) when p.stop begin {3} end; trans begin {4} end; end; \
+initialize to here begin end; trans from here to there begin {5} end; provided false begin {6} end; trans delay(1, 2) to same priority 0 begin {7} end; end.";
+
+/// What the standard says of them, one a line, the specification's before those of the body.
+const TRANSITIONS: &str = "\
+body
+1 from 0 to 1 begin {5} end;
+2 from 0 provided false begin {6} end;
+3 priority 0 delay 1, 2 begin {7} end;
+body
+1 from 0 to 1 when 1.m provided n > 1 priority -3 begin {1} end;
+2 from 0 to 1 when 1.m provided n > 1 priority 7 delay n, * begin {2} end;
+3 from 2 1 0 to 0 when 0.stop delay 2 begin {3} end;
+4 begin {4} end;
+";
+
+/// In one body a value is chosen.
+const WITH_ANY: &str =
+    "specification s; state go; module h; end; body x for h; trans any i: 1..2 do begin end; end; \
+initialize to go begin end; trans from go begin end; end.";
+
+fn piece(text: &str, span: Span) -> &str {
+    text.get(span.start as usize..span.end as usize)
+        .unwrap_or("nothing")
+}
+
+fn write_clauses(out: &mut String, text: &str, of: &FlatTrans) -> Result<(), AllocError> {
+    if let Some((ip, name)) = &of.when {
+        let name = std::str::from_utf8(name.items()).unwrap_or("nothing");
+        write!(out, " when {ip}.{name}")?;
+    }
+    if let Some(span) = of.provided {
+        write!(out, " provided {}", piece(text, span))?;
+    }
+    if let Some(priority) = of.priority {
+        write!(out, " priority {priority}")?;
+    }
+    if let Some((low, high)) = of.delay {
+        write!(out, " delay {}", piece(text, low))?;
+        match high {
+            Limit::Same => {}
+            Limit::At(high) => write!(out, ", {}", piece(text, high))?,
+            Limit::Never => write!(out, ", *")?,
+        }
+    }
+    Ok(())
+}
+
+fn write_transition(out: &mut String, text: &str, of: &FlatTrans) -> Result<(), AllocError> {
+    write!(out, "{}", of.number)?;
+    if !of.from.is_empty() {
+        write!(out, " from")?;
+        for state in of.from.items() {
+            write!(out, " {state}")?;
+        }
+    }
+    if let Some(to) = of.to {
+        write!(out, " to {to}")?;
+    }
+    write_clauses(out, text, of)?;
+    for ordinal in of.any.items() {
+        write!(out, " any {ordinal}")?;
+    }
+    writeln!(out, " {}", piece(text, of.block))
+}
+
+fn written(alloc: Global, text: &str, flat: &Flat) -> Result<String, AllocError> {
+    let mut out = String::new(alloc);
+    for body in flat.bodies.items() {
+        writeln!(&mut out, "body")?;
+        for transition in body.items() {
+            write_transition(&mut out, text, transition)?;
+        }
+    }
+    Ok(out)
+}
+
+/// The flat transitions of a text; none where it is not accepted.
+fn flat_transitions(alloc: Global, text: &str) -> Option<String> {
+    let spec = tree(alloc, text.as_bytes())?;
+    match accept(alloc, spec) {
+        Ok(checked) => written(alloc, text, &checked.flat).ok(),
+        Err(_) => None,
+    }
+}
+
+// The definition of flat transitions, by a text: what clauses say, how groups nest, and where nodes stand. Where a value
+// is to be chosen, nothing is listed.
+#[test]
+fn listed_transitions(rt: HostRuntime) -> Result<(), Fail> {
+    for (text, wanted) in [(TEXT, TRANSITIONS), (WITH_ANY, "")] {
+        let found = flat_transitions(rt.alloc(), text);
+        assert!(rt;
+            matches!(&found, Some(found) if found.as_str() == wanted),
+            "{text}"
+        );
+    }
+    Ok(())
+}

@@ -1,0 +1,103 @@
+-- Where variable accesses begin, and their components.
+use Rattle.std.specs.Prelude.{ℕ, Bool, true, false, List, [], ◌∷◌, ◌++◌, length, map, slice_get, Option, Some, None, ℤ, Result, Ok, Err}
+use Rattle.pascal_values.specs.declared.fault.Fault.{Fault}
+use Rattle.pascal_values.specs.declared.fault.Fault.TheVariants.{Unset}
+use Rattle.pascal_values.specs.Shapes.{place_of}
+use Rattle.estelle_tree.specs.declared.tree.expression.Factor.{Factor}
+use Rattle.estelle_tree.specs.declared.tree.expression.Elem.{Elem}
+use Rattle.estelle_tree.specs.declared.tree.expression.Args.{Args}
+use Rattle.estelle_tree.specs.declared.tree.expression.Expr.{Expr}
+use Rattle.estelle_tree.specs.declared.tree.expression.Simple.{Simple}
+use Rattle.estelle_tree.specs.declared.tree.expression.Term.{Term}
+use Rattle.estelle_tree.specs.declared.tree.expression.Variable.{Variable}
+use Rattle.estelle_tree.specs.declared.tree.expression.Selector.{Selector, out-Selector}
+use Rattle.estelle_tree.specs.declared.tree.expression.Factor.TheOpen.{Selector-F}
+use Rattle.estelle_model.specs.declared.denoter.Denoter.{Denoter}
+use Rattle.estelle_model.specs.declared.meaning.Meaning.{Meaning}
+use Rattle.estelle_model.specs.declared.meaning.Meaning.TheVariants.{Own, Exported, Local, Var, Module, Field}
+use Rattle.estelle_model.specs.declared.meaning.Routine.{Routine}
+use Rattle.estelle_model.specs.declared.meaning.Passing.{Passing}
+use Rattle.estelle_model.specs.declared.place.Place.{Place}
+use Rattle.estelle_model.specs.declared.place.Place.TheVariants.{Of, In}
+use Rattle.estelle_model.specs.declared.place.Environment.{Environment}
+use Rattle.estelle_model.specs.Types.{item_of, field_of, bounds_of}
+use Rattle.estelle_model.specs.Operators.{◌>>>◌}
+use Rattle.estelle_tree.specs.Paths.{Path}
+use Rattle.estelle_model.specs.States.{Logged, on_log}
+use Rattle.estelle_model.specs.Steps.{Step, ◌>>=◌, pure, fail, checked}
+use Rattle.estelle_model.specs.Meant as meant
+use Rattle.estelle_model.specs.Places.{deeper, child_step}
+use Rattle.estelle_model.specs.Expressions.{reference_at}
+use Rattle.meaning_table.specs.Known.{Known, meanings_of}
+use Rattle.body_walker_blocks.specs.Located.{Located}
+
+abbrev pub of_instance : Path → ℕ → Denoter → Located
+of_instance p k t = record { place = Of p k []; denoter = t }
+
+abbrev pub in_frame : Environment → ℕ → Denoter → Located
+in_frame h k t = record { place = In h.frame k []; denoter = t }
+
+abbrev pub referred : Environment → ℕ → Denoter → Result Located Fault
+referred h k t = reference_at (slice_get h.references k) >>> λ p. Ok (record { place = p; denoter = t })
+
+abbrev pub exported : Environment → ℕ → Meaning → Step Logged Located
+exported h m (Exported k t) = child_step Logged on_log h.path m >>= λ p. pure (of_instance p k t)
+exported h m _ = fail Unset
+
+abbrev pub of_child : Known → Environment → ℕ → Selector-F Factor Selector Args Elem Expr Simple Term Variable → Step Logged Located
+of_child known h m (Selector-F.Field x) = exported h m (meanings_of known x)
+of_child known h m (Selector-F.Index es) = fail Unset
+
+abbrev pub behind_module : Known → Environment → ℕ → List Selector → Step Logged Located
+behind_module known h m [] = fail Unset
+behind_module known h m (s ∷ ss) = of_child known h m (out-Selector s)
+
+-- where an access begins
+abbrev pub begun : Known → Environment → Meaning → List Selector → Step Logged Located
+begun known h (Own k t) ss = pure (of_instance h.path k t)
+begun known h (Exported k t) ss = pure (of_instance h.path k t)
+begun known h (Local k t) ss = pure (in_frame h k t)
+begun known h (Var k t) ss = checked (referred h k t)
+begun known h (Module m) ss = behind_module known h m ss
+begun known h _ ss = fail Unset
+
+abbrev pub rest_of : List Selector → List Selector
+rest_of [] = []
+rest_of (s ∷ ss) = ss
+
+-- the selectors behind that
+abbrev pub behind_beginning : Meaning → List Selector → List Selector
+behind_beginning (Module m) ss = rest_of ss
+behind_beginning _ ss = ss
+
+abbrev pub is_variable : Meaning → Bool
+is_variable (Own k t) = true
+is_variable (Exported k t) = true
+is_variable (Local k t) = true
+is_variable (Var k t) = true
+is_variable _ = false
+
+-- ---- components
+
+-- a name of another kind selects nothing
+abbrev pub field : Meaning → Located → Result Located Fault
+field (Field k) l = Ok (record { place = deeper l.place k; denoter = field_of l.denoter k })
+field _ l = Ok l
+
+abbrev pub item : Located → ℤ → Result Located Fault
+item l n = place_of (bounds_of l.denoter).0 (bounds_of l.denoter).1 n >>> λ k. Ok (record { place = deeper l.place k; denoter = item_of l.denoter })
+
+-- ---- a function's result
+
+abbrev pub value_count : List Passing → ℕ
+value_count ps = length (meant.value_types ps)
+
+abbrev pub result_number : Routine → ℕ
+result_number r = meant.result_number r
+
+abbrev pub result_in : Environment → Routine → Option Denoter → Result Located Fault
+result_in h r None = Err Unset
+result_in h r (Some t) = Ok (in_frame h (result_number r) t)
+
+abbrev pub result_of : Environment → Routine → Result Located Fault
+result_of h r = result_in h r r.result

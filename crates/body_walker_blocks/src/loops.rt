@@ -1,0 +1,136 @@
+//! Loops: each turn takes a unit (ISO 7185, 6.8.3.7 to 6.8.3.9).
+
+ghost use Rattle.std.specs.Prelude.{◌≡◌};
+ghost use Rattle.body_walker_state.specs.Follows.{Follows};
+ghost use Rattle.body_walker_blocks.specs.Walked as walked;
+ghost use Rattle.body_walker_blocks.specs.Turns as turns;
+
+use crate::expressions::{condition, ordinal};
+use crate::places::is_variable;
+use crate::statements::{stmt, stmts};
+use crate::variables::accessed;
+use body_walker_state::{Stop, Walk};
+use estelle_model::{Denoter, Environment, Place};
+use estelle_tree::{Direction, Expr, Name, Stmt, Stmts};
+use meaning_table::Table;
+use pascal_values::{Fault, Value};
+use std::alloc::Global;
+
+#[cycle(walk)]
+pub fn while_loop(
+    table: &Table,
+    alloc: Global,
+    here: &Environment,
+    walk: &mut Walk,
+    test: &Expr,
+    body: &Stmt,
+) -> Result<(), Stop>
+    ensures { Follows (walked.while_loop table.now here.now test.now body.now) walk.old result walk.new }
+{
+    while condition(table, alloc, here, walk, test)? {
+        walk.spend()?;
+        stmt(table, alloc, here, walk, body)?;
+    }
+    Ok(())
+}
+
+#[cycle(walk)]
+pub fn repeat_loop(
+    table: &Table,
+    alloc: Global,
+    here: &Environment,
+    walk: &mut Walk,
+    body: &Stmts,
+    test: &Expr,
+) -> Result<(), Stop>
+    ensures { Follows (walked.repeat_loop table.now here.now body.now test.now) walk.old result walk.new }
+{
+    loop {
+        walk.spend()?;
+        stmts(table, alloc, here, walk, body)?;
+        if condition(table, alloc, here, walk, test)? {
+            return Ok(());
+        }
+    }
+}
+
+/// A `for`, whose bounds are evaluated once.
+#[cycle(walk)]
+pub fn count(
+    table: &Table,
+    alloc: Global,
+    here: &Environment,
+    walk: &mut Walk,
+    variable: &Name,
+    first: &Expr,
+    direction: Direction,
+    last: &Expr,
+    body: &Stmt,
+) -> Result<(), Stop>
+    ensures { Follows (walked.count table.now here.now variable.now first.now direction last.now body.now) walk.old result walk.new }
+{
+    let meaning = table.meaning(variable);
+    if !is_variable(meaning) {
+        return Err(Stop::Fault(Fault::Unset));
+    }
+    let first = ordinal(table, alloc, here, walk, first)?;
+    let last = ordinal(table, alloc, here, walk, last)?;
+    let to = accessed(table, alloc, here, walk, meaning, &[])?;
+    count_loop(
+        table, alloc, here, walk, to.denoter, &to.place, first, direction, last, body,
+    )
+}
+
+/// The turns of a `for`: its variable is set before each, and unset at the end.
+#[cycle(walk)]
+fn count_loop(
+    table: &Table,
+    alloc: Global,
+    here: &Environment,
+    walk: &mut Walk,
+    denoter: &Denoter,
+    place: &Place,
+    first: i64,
+    direction: Direction,
+    last: i64,
+    body: &Stmt,
+) -> Result<(), Stop>
+    ensures { Follows (walked.count_loop table.now here.now denoter.now place.now first direction last body.now) walk.old result walk.new }
+{
+    let mut coming = beginning(direction, first, last);
+    while let Some(number) = coming {
+        walk.spend()?;
+        walk.store_ordinal(alloc, denoter, place, number)?;
+        stmt(table, alloc, here, walk, body)?;
+        coming = following(direction, number, last);
+    }
+    walk.put(alloc, place, Value::Unset)
+}
+
+/// The value of the first turn, if there is one.
+fn beginning(direction: Direction, first: i64, last: i64) -> Option<i64>
+    ensures { result ≡ turns.beginning direction first last }
+{
+    match direction {
+        Direction::To => if first <= last { Some(first) } else { None },
+        Direction::Downto => if last <= first { Some(first) } else { None },
+    }
+}
+
+/// The value of the turn after that with a number, if there is one.
+fn following(direction: Direction, number: i64, last: i64) -> Option<i64>
+    ensures { result ≡ turns.following direction number last }
+{
+    match direction {
+        Direction::To => if number < last {
+            Some(number + 1)
+        } else {
+            None
+        },
+        Direction::Downto => if last < number {
+            Some(number - 1)
+        } else {
+            None
+        },
+    }
+}

@@ -1,0 +1,99 @@
+-- The instances that parts in path order show, and a part that changes.
+use Rattle.std.proofs.Common.{◌≡◌, ℕ, zero, suc, Bool, true, false, List, [], ◌∷◌, map as each, Option, Some, None, refl, sym, ap, subst, cond, ◌∙◌}
+use Rattle.std.specs.Prelude.{◌&&◌, slice_get, slice_set, T, fold}
+use Rattle.std.specs.FinMap as map
+use Rattle.std.specs.FinMap.Entries.{below_all}
+use Rattle.std.specs.Cmp.{tied_itself}
+use Rattle.std.specs.Ordering.{is_lt, eq_by_cmp}
+use Rattle.std.specs.declared.cmp.Ordering.TheVariants.{Less, Equal}
+use Rattle.estelle_model.specs.declared.image.Part.{Part}
+use Rattle.estelle_tree.specs.Paths.{Path, path_cmp}
+use Rattle.estelle_model.specs.Core.{Instance, Instances}
+use Rattle.estelle_model.specs.Effects.{changed_in, put_back}
+use Rattle.estelle_model.specs.Jobs.{part_of_entry, instance_of, insert_part}
+use Rattle.plain_jobs.proofs.Maps.{total, apart, or_else, equal_of, get_inserted}
+use Rattle.body_walker_state.specs.InOrder.{entries_of, are_in_order, instance_in}
+use Rattle.body_walker_state.proofs.ValueLemmas.{same_some}
+use Rattle.body_walker_state.proofs.OrderLemmas.{left_of, right_of, below_at, found_at}
+
+-- the instances of parts
+abbrev pub instances_of : List Part → Instances
+instances_of ps = fold insert_part map.empty ps
+
+as_parts : (ps : List Part) → each part_of_entry (entries_of ps) ≡ ps
+as_parts [] = refl
+as_parts (p ∷ ps) = ap (λ qs. p ∷ qs) (as_parts ps)
+
+or_none : {A : Type 0} (o : Option A) → or_else o None ≡ o
+or_none None = refl
+or_none (Some a) = refl
+
+pub shown : (ps : List Part) → T (are_in_order ps) → (q : Path) → map.get (instances_of ps) q ≡ instance_in ps q
+shown ps h q =
+    ap (λ (rs : List Part). map.get (instances_of rs) q) (sym (as_parts ps))
+    ∙ get_inserted map.empty (entries_of ps) h q
+    ∙ ap (or_else (instance_in ps q)) (map.get-empty path_cmp q)
+    ∙ or_none (instance_in ps q)
+
+pub listed : (ps : List Part) → T (are_in_order ps) → map.entries (instances_of ps) ≡ entries_of ps
+listed ps h =
+    ap map.entries (map.same_map total apart (instances_of ps) (map.from_sorted {R = path_cmp} (entries_of ps)) (λ q. shown ps h q ∙ sym (map.get-from_sorted path_cmp (entries_of ps) q h)))
+    ∙ map.entries-from_sorted path_cmp (entries_of ps) h
+
+-- an image shows its own instances
+pub listed_parts : (ps : List Part) → T (are_in_order ps) → ps ≡ each part_of_entry (map.entries (instances_of ps))
+listed_parts ps h = sym (ap (each part_of_entry) (listed ps h) ∙ as_parts ps)
+
+-- no path is equal to two that differ
+not_both : (q x y : Path) → path_cmp x y ≡ Less → eq_by_cmp path_cmp q x ≡ true → ¬ (eq_by_cmp path_cmp q y ≡ true)
+not_both q x y less a b =
+    let same : x ≡ y = sym (apart q x (equal_of _ a)) ∙ apart q y (equal_of _ b) in
+    less_is_equal (sym (subst (λ z. path_cmp z y ≡ Less) same less) ∙ tied_itself total y)
+  where
+    less_is_equal : ¬ (Less ≡ Equal)
+    less_is_equal e = cc
+
+-- ---- a part that changes, and keeps its path
+
+module _ (new : Part) where
+  below_set : (x : Path) (ps : List Part) (k : ℕ) (part : Part) → slice_get ps k ≡ Some part → new.path ≡ part.path → below_all path_cmp x (entries_of (slice_set ps k new)) ≡ below_all path_cmp x (entries_of ps)
+  below_set x [] k part e is = refl
+  below_set x (q ∷ ps) zero part e is = ap (λ r. is_lt (path_cmp x r) && below_all path_cmp x (entries_of ps)) (is ∙ ap (λ (r : Part). r.path) (sym (same_some q part e)))
+  below_set x (q ∷ ps) (suc k) part e is = ap (λ b. is_lt (path_cmp x q.path) && b) (below_set x ps k part e is)
+
+  pub order_set : (ps : List Part) (k : ℕ) (part : Part) → slice_get ps k ≡ Some part → new.path ≡ part.path → are_in_order (slice_set ps k new) ≡ are_in_order ps
+  order_set [] k part e is = refl
+  order_set (q ∷ ps) zero part e is = ap (λ r. below_all path_cmp r (entries_of ps) && are_in_order ps) (is ∙ ap (λ (r : Part). r.path) (sym (same_some q part e)))
+  order_set (q ∷ ps) (suc k) part e is = λ i. below_set q.path ps k part e is i && order_set ps k part e is i
+
+  found_set : (ps : List Part) (k : ℕ) (part : Part) → T (are_in_order ps) → slice_get ps k ≡ Some part → new.path ≡ part.path → (q : Path) → instance_in (slice_set ps k new) q ≡ cond (eq_by_cmp path_cmp q part.path) (Some (instance_of new)) (instance_in ps q)
+  found_set [] k part h e is q = absurd (cc)
+  found_set (r ∷ ps) zero part h e is q =
+      ap (λ p. cond (eq_by_cmp path_cmp q p) (Some (instance_of new)) (instance_in ps q)) is
+      ∙ shadowed (eq_by_cmp path_cmp q part.path) (Some (instance_of new)) (Some (instance_of r)) (instance_in ps q)
+      ∙ ap (λ (s : Part). cond (eq_by_cmp path_cmp q part.path) (Some (instance_of new)) (cond (eq_by_cmp path_cmp q s.path) (Some (instance_of r)) (instance_in ps q))) (sym (same_some r part e))
+    where
+      shadowed : (b : Bool) (x y z : Option Instance) → cond b x z ≡ cond b x (cond b y z)
+      shadowed true x y z = refl
+      shadowed false x y z = refl
+  found_set (r ∷ ps) (suc k) part h e is q =
+      ap (cond (eq_by_cmp path_cmp q r.path) (Some (instance_of r))) (found_set ps k part (right_of (below_all path_cmp r.path (entries_of ps)) _ h) e is q)
+      ∙ swapped (eq_by_cmp path_cmp q r.path) (eq_by_cmp path_cmp q part.path) (Some (instance_of r)) (Some (instance_of new)) (instance_in ps q) (not_both q r.path part.path (below_at r.path ps k part (left_of _ (are_in_order ps) h) e))
+    where
+      swapped : (a b : Bool) (x y z : Option Instance) → (a ≡ true → ¬ (b ≡ true)) → cond a x (cond b y z) ≡ cond b y (cond a x z)
+      swapped true true x y z never = absurd (never refl refl)
+      swapped true false x y z never = refl
+      swapped false b x y z never = refl
+
+  -- to change an instance is to change its part
+  pub put_shown : (ps : List Part) (k : ℕ) (part : Part) (p : Path) (f : Instance → Instance) → T (are_in_order ps) → slice_get ps k ≡ Some part → part.path ≡ p → new.path ≡ p → instance_of new ≡ f (instance_of part) → changed_in p f (instances_of ps) ≡ instances_of (slice_set ps k new)
+  put_shown ps k part p f h e is stays makes =
+      let same : new.path ≡ part.path = stays ∙ sym is in
+      let found : map.get (instances_of ps) p ≡ Some (instance_of part) = shown ps h p ∙ found_at ps p k part h e is in
+      let put : changed_in p f (instances_of ps) ≡ map.insert (instances_of ps) p (f (instance_of part)) = ap (put_back (instances_of ps) p f) found in
+      let order : T (are_in_order (slice_set ps k new)) = subst T (sym (order_set ps k part e same)) h in
+      put ∙ map.same_map total apart (map.insert (instances_of ps) p (f (instance_of part))) (instances_of (slice_set ps k new)) (λ q.
+      map.get-insert total (instances_of ps) p (f (instance_of part)) q
+      ∙ (λ i. cond (eq_by_cmp path_cmp q (sym is i)) (Some (sym makes i)) (shown ps h q i))
+      ∙ sym (found_set ps k part h e same q)
+      ∙ sym (shown (slice_set ps k new) order q))

@@ -1,0 +1,10 @@
+pub mod Bools
+pub mod Ranges
+pub mod Rules
+pub mod Pairs
+pub mod Once
+pub mod Steps
+pub mod Walks
+pub mod Parses
+pub mod Meanings
+pub mod Shapes

@@ -1,2 +1,0 @@
-pub mod SiteLists
-pub mod LoopLaws

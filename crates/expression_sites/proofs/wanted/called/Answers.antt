@@ -1,7 +1,0 @@
-use Rattle.std.proofs.Common.{arith}
-use Rattle.std.proofs.lemmas.Grind.{common_steps}
-use Rattle.type_rules.proofs.ExpressionEquations.{args_is}
-use Rattle.expression_sites.proofs.wanted.called.Goals as goal
-
-pub returns-in_ok-arguments-in-Some : goal.returns-in_ok-arguments-in-Some
-returns-in_ok-arguments-in-Some c = grind (arith, common_steps, args_is)

@@ -1,4 +1,0 @@
-pub mod BodyEquations
-pub mod Numbers
-pub mod Standings
-pub mod Cases

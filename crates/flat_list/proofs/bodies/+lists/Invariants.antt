@@ -1,8 +1,0 @@
-use Rattle.std.proofs.Common.{◌≡◌, ◌++◌, take, map}
-use Rattle.std.specs.List.{flat_map}
-use Rattle.meaning_table.specs.Known.{meanings_of}
-use Rattle.flat_list.specs.Walks.{trans_list, decl_trans}
-use Rattle.flat_list.proofs.bodies.+lists.Given as goal
-
-abbrev pub invariant-decls_list-loop-decl : goal.invariant-decls_list-loop-decl
-invariant-decls_list-loop-decl l = l.out ≡ l.initial.out ++ flat_map (λ d. map (trans_list (meanings_of l.table)) (decl_trans d)) (take l.decl-index l.decls)

@@ -1,2 +1,0 @@
-pub mod FlatList
-pub mod Walks

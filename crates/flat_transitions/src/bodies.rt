@@ -1,0 +1,106 @@
+//! The bodies of a specification in text order.
+
+ghost use Rattle.std.specs.Prelude.{◌≡◌, ◌++◌, IfOk, OnOk, map};
+ghost use Rattle.std.specs.List.{list_all, flat_map};
+ghost use Rattle.flat_transitions.specs.Flat as trans;
+ghost use Rattle.flat_transitions.specs.FlatList as flat;
+ghost use Rattle.flat_transitions.specs.BodyWalks.{trans_list, decl_trans, parts_trans};
+ghost use Rattle.meaning_table.specs.Known.{meanings_of};
+
+use crate::any::is_without_any;
+use crate::entries::numbered;
+use crate::walk::transitions;
+use estelle_tree::{Decl, Flat, FlatTrans, Items, Parts, Sequence, Spec, Trans};
+use meaning_table::Table;
+use std::alloc::AllocError;
+
+#[cycle(any)]
+fn parts_without_any(parts: &Parts) -> bool
+    ensures { result ≡ list_all trans.is_without_any (parts_trans parts.now) }
+{
+    is_without_any(parts.trans.items()) && decls_without_any(parts.decls.items())
+}
+
+#[cycle(any)]
+fn decls_without_any(decls: &[Decl]) -> bool
+    ensures { result ≡ list_all (λ d. list_all trans.is_without_any (decl_trans d)) decls.now }
+{
+    for decl in decls {
+        if !decl_without_any(decl) {
+            return false;
+        }
+    }
+    true
+}
+
+#[cycle(any)]
+fn decl_without_any(decl: &Decl) -> bool
+    ensures { result ≡ list_all trans.is_without_any (decl_trans decl.now) }
+{
+    match decl {
+        Decl::Body(body) => parts_without_any(&body.parts),
+        _ => true,
+    }
+}
+
+/// The transitions of a body; nothing where an `any` stands.
+fn body_list(table: &Table, trans: &[Trans]) -> Result<Items<FlatTrans>, AllocError>
+    ensures { IfOk result (λ shown. shown ≡ trans_list (meanings_of table.now) trans.now) }
+{
+    match transitions(table, trans)? {
+        None => Ok(Items::new(table.alloc)),
+        Some(found) => numbered(table.alloc, &found),
+    }
+}
+
+#[cycle(lists)]
+fn parts_list(
+    table: &Table,
+    parts: &Parts,
+    out: &mut Items<Items<FlatTrans>>,
+) -> Result<(), AllocError>
+    ensures { OnOk result (out.new ≡ out.old ++ map (trans_list (meanings_of table.now)) (parts_trans parts.now)) }
+{
+    out.push(body_list(table, parts.trans.items())?)?;
+    decls_list(table, parts.decls.items(), out)
+}
+
+#[cycle(lists)]
+fn decls_list(
+    table: &Table,
+    decls: &[Decl],
+    out: &mut Items<Items<FlatTrans>>,
+) -> Result<(), AllocError>
+    ensures { OnOk result (out.new ≡ out.old ++ flat_map (λ d. map (trans_list (meanings_of table.now)) (decl_trans d)) decls.now) }
+{
+    for decl in decls {
+        decl_list(table, decl, out)?;
+    }
+    Ok(())
+}
+
+#[cycle(lists)]
+fn decl_list(
+    table: &Table,
+    decl: &Decl,
+    out: &mut Items<Items<FlatTrans>>,
+) -> Result<(), AllocError>
+    ensures { OnOk result (out.new ≡ out.old ++ map (trans_list (meanings_of table.now)) (decl_trans decl.now)) }
+{
+    match decl {
+        Decl::Body(body) => parts_list(table, &body.parts, out),
+        _ => Ok(()),
+    }
+}
+
+/// The list by what names mean; nothing where an `any` stands.
+pub fn listed(table: &Table, spec: &Spec) -> Result<Flat, AllocError>
+    ensures { IfOk result (λ list. list ≡ flat.listed_without_any (meanings_of table.now) spec.now) }
+{
+    let mut bodies = Items::new(table.alloc);
+    if !parts_without_any(&spec.parts) {
+        return Ok(Flat { bodies });
+    }
+    parts_list(table, &spec.parts, &mut bodies)?;
+    Ok(Flat { bodies })
+}

@@ -1,0 +1,86 @@
+//! A flat transition by where it stands in the text.
+
+ghost use Rattle.std.specs.Prelude.{◌≡◌, IfOk, option_map};
+ghost use Rattle.std.specs.Option.{option_copied};
+ghost use Rattle.flat_transitions.specs.FlatList as flat;
+
+use crate::clauses::{Delay, When};
+use crate::shared::Shared;
+use crate::transition::{Transition, Transitions};
+use estelle_tree::{DelayHigh, Expr, FlatTrans, Items, Limit, Sequence, Span, Word};
+use std::alloc::{AllocError, Global};
+
+fn states(alloc: Global, from: Option<&Shared<u32>>) -> Result<Items<u32>, AllocError>
+    ensures { IfOk result (λ states. states ≡ flat.states_of (option_copied from.entry)) }
+{
+    match from {
+        None => Ok(Items::new(alloc)),
+        Some(states) => Items::from_slice(alloc, states.items()),
+    }
+}
+
+fn received(alloc: Global, when: Option<&When>) -> Result<Option<(u32, Word)>, AllocError>
+    ensures { IfOk result (λ name. name ≡ option_map flat.received (option_copied when.entry)) }
+{
+    match when {
+        None => Ok(None),
+        Some(when) => Ok(Some((when.ip(), when.name().word.copy(alloc)?))),
+    }
+}
+
+fn condition(provided: Option<&Expr>) -> Option<Span>
+    ensures { result ≡ option_map flat.span_of (option_copied provided.entry) }
+{
+    match provided {
+        None => None,
+        Some(expr) => Some(expr.span),
+    }
+}
+
+fn limit(high: &Option<DelayHigh>) -> Limit
+    ensures { result ≡ flat.limit_of high.now }
+{
+    match high {
+        None => Limit::Same,
+        Some(DelayHigh::Expr(expr)) => Limit::At(expr.span),
+        Some(DelayHigh::Star) => Limit::Never,
+    }
+}
+
+fn bounds(delay: Option<&Delay>) -> Option<(Span, Limit)>
+    ensures { result ≡ option_map flat.delay_of (option_copied delay.entry) }
+{
+    match delay {
+        None => None,
+        Some(delay) => Some((delay.low().span, limit(delay.high()))),
+    }
+}
+
+fn flat_trans(alloc: Global, number: u32, transition: &Transition) -> Result<FlatTrans, AllocError>
+    ensures { IfOk result (λ shown. shown ≡ flat.flat_trans number transition.now) }
+{
+    Ok(FlatTrans {
+        number,
+        from: states(alloc, transition.from())?,
+        to: transition.to(),
+        when: received(alloc, transition.when())?,
+        provided: condition(transition.provided()),
+        priority: transition.priority(),
+        delay: bounds(transition.delay()),
+        any: Items::new(alloc),
+        block: transition.block().span,
+    })
+}
+
+/// Transitions with numbers from 1 on.
+pub fn numbered(alloc: Global, transitions: &Transitions) -> Result<Items<FlatTrans>, AllocError>
+    ensures { IfOk result (λ shown. shown ≡ flat.numbered_from 1 transitions.now) }
+{
+    let count = transitions.len();
+    let items = transitions.items();
+    let mut shown = Items::new(alloc);
+    for number in 0..count {
+        shown.push(flat_trans(alloc, number + 1, &items[number as usize])?)?;
+    }
+    Ok(shown)
+}

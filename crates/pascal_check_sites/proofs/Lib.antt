@@ -1,0 +1,5 @@
+pub mod SiteLists
+pub mod LoopLaws
+mod LabelSets
+mod StatementLists
+mod Walks

@@ -1,0 +1,3 @@
+pub mod TakenArguments
+pub mod LabelHash
+pub mod LabelLaws

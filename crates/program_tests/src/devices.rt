@@ -1,0 +1,199 @@
+//! The devices alone: those in memory, and the adapters of std and of the machine's clock.
+
+use outside::{
+    Clock, Failed, MachineClock, MemorySink, MemorySource, Sink, Source, StdSink, StdSource,
+    SureSink, SureSource, VirtualClock, write_all,
+};
+use std::alloc::{AllocError, Global};
+use std::cell::Cell;
+use std::io::{self, Read, Write};
+use std::test::Fail;
+use std::time::{self, Duration};
+
+/// All that a source gives in 20 calls at most, with `!` in place of a failed one.
+fn drained<S: Source>(alloc: Global, source: &mut S) -> Result<Vec<u8>, AllocError> {
+    let mut text = Vec::new(alloc);
+    for _ in 0..20 {
+        let mut buf = [0; 4];
+        match source.read(&mut buf) {
+            Ok(0) => break,
+            Ok(count) => text.extend_from_slice(&buf[..count])?,
+            Err(Failed) => text.push(b'!')?,
+        }
+    }
+    Ok(text)
+}
+
+#[test]
+fn sources(rt: HostRuntime) -> Result<(), Fail> {
+    // pieces, the failing call, what is read, and the faults
+    for (piece, failing, wanted, faults) in [
+        (9, 0, "hello world", 0),
+        (3, 2, "hel!lo world", 1),
+        (1, 12, "hello world!", 1),
+        (4, 1, "!hello world", 1),
+    ] {
+        let mut source = MemorySource {
+            bytes: b"hello world".to_vec(rt.alloc())?,
+            at: 0,
+            piece,
+            failing: vec![in rt.alloc(); failing]?,
+            calls: 0,
+            faults: 0,
+        };
+        assert_eq!(rt;
+            drained(rt.alloc(), &mut source)?.as_slice(),
+            wanted.as_bytes()
+        );
+        assert_eq!(rt; source.faults, faults);
+    }
+    let mut sure = SureSource {
+        bytes: b"hello".to_vec(rt.alloc())?,
+        at: 0,
+    };
+    assert_eq!(rt;
+        drained(rt.alloc(), &mut sure)?.as_slice(),
+        b"hello".as_slice()
+    );
+
+    let mut source = StdSource::new(b"hello".as_slice());
+    assert_eq!(rt;
+        drained(rt.alloc(), &mut source)?.as_slice(),
+        b"hello".as_slice()
+    );
+    let mut source = StdSource::new(FailsOnce {
+        bytes: b"hello",
+        failed: false,
+    });
+    assert_eq!(rt;
+        drained(rt.alloc(), &mut source)?.as_slice(),
+        b"!hello".as_slice()
+    );
+    Ok(())
+}
+
+#[test]
+fn sinks(rt: HostRuntime) -> Result<(), Fail> {
+    // pieces, the failing call, the room, what is held, and the faults
+    for (piece, failing, room, wanted, faults) in [
+        (9, 0, 11, "hello world", 0),
+        (4, 3, 11, "hello wo", 1),
+        (4, 0, 10, "hello wo", 1),
+        (1, 0, 0, "", 1),
+    ] {
+        let mut sink = MemorySink {
+            held: Vec::with_capacity(rt.alloc(), 11)?,
+            piece,
+            failing: vec![in rt.alloc(); failing]?,
+            calls: 0,
+            room,
+            faults: 0,
+        };
+        let written = write_all(&mut sink, b"hello world");
+        assert_eq!(rt; written.is_ok(), faults == 0);
+        assert_eq!(rt; sink.held.as_slice(), wanted.as_bytes());
+        assert_eq!(rt; sink.faults, faults);
+    }
+    assert_eq!(rt; write_all(&mut SureSink, b"hello"), Ok(()));
+    assert_eq!(rt; SureSink.write(b"hello"), Ok(5));
+
+    let mut held = Vec::new(rt.alloc());
+    assert_eq!(rt; write_all(&mut StdSink::new(&mut held), b"hello"), Ok(()));
+    assert_eq!(rt; held.as_slice(), b"hello".as_slice());
+
+    // A slice that is full takes nothing, without an error of its own.
+    let mut full = [0; 3];
+    assert_eq!(rt;
+        write_all(&mut StdSink::new(full.as_mut_slice()), b"hello"),
+        Err(Failed)
+    );
+    assert_eq!(rt; full.as_slice(), b"hel".as_slice());
+    Ok(())
+}
+
+/// A reader whose first call fails, and then the bytes.
+#[derive(Drop)]
+struct FailsOnce {
+    bytes: &'static [u8],
+    failed: bool,
+}
+
+impl Read for FailsOnce {
+    fn read(&mut self, buf: &mut [u8]) -> io::Result<usize> {
+        if !self.failed {
+            self.failed = true;
+            return Err(io::ErrorKind::Other.into());
+        }
+        self.bytes.read(buf)
+    }
+}
+
+/// A runtime whose clock reads what is set, or fails.
+#[derive(Drop)]
+struct Readings {
+    millis: Cell<Option<u64>>,
+}
+
+impl time::Clock for Readings {
+    fn monotonic(&self) -> io::Result<Duration> {
+        match self.millis.get() {
+            Some(millis) => Ok(Duration::from_millis(millis)),
+            None => Err(io::ErrorKind::Other.into()),
+        }
+    }
+
+    fn since_1970(&self) -> io::Result<Duration> {
+        self.monotonic()
+    }
+}
+
+/// What a thread may be given.
+fn sent<T: Send>(value: T) -> T {
+    value
+}
+
+#[test]
+fn clocks(rt: HostRuntime) {
+    let mut clock = sent(MachineClock::new(rt));
+    assert_eq!(rt; clock.now(1_000_000), Ok(1_000_000));
+    let waited = clock.wait(2_000_000).unwrap_or(0);
+    assert!(rt; waited == 2_000_000);
+    let now = clock.now(0).unwrap_or(0);
+    assert!(rt; now >= 2_000_000 && now < 2_000_060, "{now}");
+    assert_eq!(rt; clock.wait(u64::MAX), Ok(u64::MAX));
+    assert_eq!(rt; clock.faults(), 0);
+
+    let readings = Readings {
+        millis: Cell::new(None),
+    };
+    let mut clock = MachineClock::new(&readings);
+    assert_eq!(rt; clock.now(7), Err(Failed));
+    assert_eq!(rt; clock.wait(7), Err(Failed));
+    assert_eq!(rt; clock.faults(), 2);
+
+    // The first reading is at 5.9 seconds.
+    for (millis, until, wanted) in [
+        (5_900, 0, 0),
+        (6_800, 0, 0),
+        (6_900, 0, 1),
+        (7_900, 10, 10),
+        (8_900, 0, 11),
+        (8_000, 0, 11),
+        (9_900, 12, 12),
+    ] {
+        readings.millis.set(Some(millis));
+        let moment = if until > 0 {
+            clock.wait(until)
+        } else {
+            clock.now(0)
+        };
+        assert_eq!(rt; moment, Ok(wanted), "at {millis}");
+    }
+
+    let mut clock = VirtualClock { moment: 3 };
+    assert_eq!(rt; clock.now(2), Ok(3));
+    assert_eq!(rt; clock.now(4), Ok(4));
+    assert_eq!(rt; clock.wait(5), Ok(5));
+    assert_eq!(rt; clock.now(0), Ok(5));
+    assert_eq!(rt; clock.faults(), 0);
+}

@@ -1,7 +1,0 @@
-pub mod Types
-pub mod Expressions
-pub mod Statements
-pub mod Declarations
-pub mod Clauses
-pub mod Specification
-pub mod Same

@@ -1,5 +1,0 @@
-use Rattle.round_trip.proofs.RoundTrip.{same_spell_the_same}
-use Rattle.round_trip.proofs.laws.same_trees_spell_the_same.Goals as goal
-
-pub returns : goal.returns
-returns c = same_spell_the_same

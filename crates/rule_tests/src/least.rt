@@ -1,0 +1,39 @@
+//! Which breach is reported of several.
+
+use crate::marks::{told, wanted};
+use estelle_tree::Spec;
+use spec_accept::accept;
+use std::alloc::Global;
+use std::test::Fail;
+use test_texts::tree;
+
+/// Texts that break rules of several kinds, or none.
+const MIXED: [&str; 4] = [
+    "specification s; var n: integer; initialize begin n := n + 1 end; end.",
+    "specification s; var n: integer; initialize begin n := true; {02}k := 1 end; end.",
+    "specification s; var n: integer; procedure p; begin end; initialize begin p(1); n := {40}true end; end.",
+    "specification s; type t = 3..1; var n: integer; {01}n: integer; end.",
+];
+
+fn accepted(alloc: Global, spec: Spec) -> Option<(u8, usize)> {
+    match accept(alloc, spec) {
+        Ok(_) => Some((0, 0)),
+        Err(refusal) => told(refusal),
+    }
+}
+
+// Of rules of several crates the least is reported, wherever it is broken.
+#[test]
+fn least_of_all_rules(rt: HostRuntime) -> Result<(), Fail> {
+    for text in &MIXED {
+        let spec = tree(rt.alloc(), text.as_bytes());
+        assert!(rt; spec.is_some(), "{text}");
+        if let Some(spec) = spec {
+            assert!(rt;
+                accepted(rt.alloc(), spec) == Some(wanted(text.as_bytes())),
+                "{text}"
+            );
+        }
+    }
+    Ok(())
+}

@@ -1,0 +1,13 @@
+//! Tests alone, of the rules on names, types and routines: texts that keep them, and texts that break one, with the node.
+//!
+//! It stands on the crates of these rules and on the reading below them. A comment in a text tells what is wanted.
+#![tactic(auto)]
+
+#[cfg(test)]
+mod least;
+#[cfg(test)]
+mod marks;
+#[cfg(test)]
+mod names;
+#[cfg(test)]
+mod types;

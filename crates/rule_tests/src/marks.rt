@@ -1,0 +1,33 @@
+//! Texts with a comment that tells what is refused, and where.
+
+use estelle_tree::Span;
+use scope_rules::Refusal;
+
+/// The rule and the place behind the first comment that is a number alone; 0 and 0 where there is none.
+pub(crate) fn wanted(text: &[u8]) -> (u8, usize) {
+    for (at, part) in text.windows(4).enumerate() {
+        if let [b'{', digit, b'}', _] = part
+            && digit.is_ascii_digit()
+        {
+            return (*digit - b'0', at + 3);
+        }
+        if let [b'{', tens, ones, b'}'] = part
+            && tens.is_ascii_digit()
+            && ones.is_ascii_digit()
+        {
+            return ((*tens - b'0') * 10 + (*ones - b'0'), at + 4);
+        }
+    }
+    (0, 0)
+}
+
+/// What a refusal tells; none where memory was refused.
+pub(crate) fn told(refusal: Refusal) -> Option<(u8, usize)> {
+    match refusal {
+        Refusal::Rule {
+            number,
+            span: Span { start, .. },
+        } => Some((number, start as usize)),
+        Refusal::Memory => None,
+    }
+}

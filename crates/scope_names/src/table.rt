@@ -1,0 +1,336 @@
+//! Open and kept scopes.
+
+ghost use Rattle.std.specs.Prelude.{◌≡◌, ◌||◌, map, reverse, nat_eq, OnOk, IfOk, false};
+ghost use Rattle.scope_rules.specs.Kinds.{is_private};
+ghost use Rattle.scope_rules.specs.Scopes as spec;
+ghost use Rattle.scope_rules.specs.declared.event.Event.TheVariants.{Open, Close, Keep};
+ghost use Rattle.scope_names.specs.Common as common;
+ghost use Rattle.scope_names.specs.Levels.{level_of};
+
+use crate::names::NameTable;
+use indexmap::IndexMap;
+use scope_rules::{Declared, Denotes, ScopeForm};
+use std::alloc::{AllocError, Global};
+use std::marker::Model;
+
+/// An open scope.
+#[derive(Drop)]
+pub struct OpenScope {
+    form: ScopeForm,
+    names: NameTable,
+    within: u32,
+}
+
+/// What stands after some events, seen as the definitions have it.
+#[derive(Drop)]
+pub struct Table {
+    /// From the outermost to the innermost.
+    levels: Vec<OpenScope>,
+    kept: IndexMap<u32, NameTable>,
+    components: IndexMap<u32, u32>,
+}
+
+impl Model for Table {
+    ghost use Rattle.std.specs.Prelude.{map, reverse};
+    ghost use Rattle.scope_rules.specs.Scopes.{Scopes};
+    ghost use Rattle.scope_names.specs.Levels.{level_of};
+
+    ghost Value = { Scopes };
+
+    ghost view = { λ t. record { levels = reverse (map level_of t.levels.items); kept = t.kept.entries; components = t.components.entries } };
+}
+
+fn is_private(denotes: Denotes) -> bool
+    ensures { result ≡ is_private denotes }
+{
+    match denotes {
+        Denotes::Variable
+        | Denotes::Exported
+        | Denotes::ModuleVariable
+        | Denotes::Ip
+        | Denotes::State
+        | Denotes::StateSet => true,
+        _ => false,
+    }
+}
+
+fn is_further(form: ScopeForm) -> bool
+    ensures { result ≡ spec.is_further form }
+{
+    match form {
+        ScopeForm::Further => true,
+        ScopeForm::Inner | ScopeForm::Body => false,
+    }
+}
+
+fn is_body(form: ScopeForm) -> bool
+    ensures { result ≡ spec.is_body form }
+{
+    match form {
+        ScopeForm::Body => true,
+        ScopeForm::Inner | ScopeForm::Further => false,
+    }
+}
+
+/// What a name means among those that are kept for a place.
+fn in_kept(kept: &IndexMap<u32, NameTable>, at: u32, word: &[u8]) -> Option<Declared>
+    ensures { result ≡ spec.in_names word.now (spec.kept_at kept.now.entries at) }
+{
+    match kept.get(&at) {
+        None => None,
+        Some(names) => names.find(word),
+    }
+}
+
+fn in_level(kept: &IndexMap<u32, NameTable>, level: &OpenScope, word: &[u8]) -> Option<Declared>
+    ensures { result ≡ spec.in_level kept.now.entries word.now (level_of level.now) }
+{
+    match level.names.find(word) {
+        Some(found) => Some(found),
+        None => in_kept(kept, level.within, word),
+    }
+}
+
+/// What was found outside of a body, or in it, is meant or hidden.
+fn seen(outside: bool, found: Declared) -> Option<Declared>
+    ensures { result ≡ spec.seen outside found }
+{
+    if outside {
+        if is_private(found.denotes) {
+            return None;
+        }
+    }
+    Some(found)
+}
+
+fn find_meaning(
+    kept: &IndexMap<u32, NameTable>,
+    levels: &[OpenScope],
+    word: &[u8],
+) -> Option<Declared>
+    ensures { result ≡ spec.meaning_of kept.now.entries word.now false (reverse (map level_of levels.now)) }
+{
+    let mut outside = false;
+    let mut i = levels.len();
+    while 0 < i {
+        i -= 1;
+        let level = &levels[i];
+        if let Some(found) = in_level(kept, level, word) {
+            return seen(outside, found);
+        }
+        outside = outside || is_body(level.form);
+    }
+    None
+}
+
+fn find_in_scope(
+    kept: &IndexMap<u32, NameTable>,
+    levels: &[OpenScope],
+    word: &[u8],
+) -> Option<Declared>
+    ensures { result ≡ spec.in_scope_of kept.now.entries word.now (reverse (map level_of levels.now)) }
+{
+    let mut i = levels.len();
+    while 0 < i {
+        i -= 1;
+        let level = &levels[i];
+        if let Some(found) = in_level(kept, level, word) {
+            return Some(found);
+        }
+        if !is_further(level.form) {
+            return None;
+        }
+    }
+    None
+}
+
+/// Whether some name of a scope stands among these.
+fn level_shares(kept: &IndexMap<u32, NameTable>, level: &OpenScope, others: &NameTable) -> bool
+    ensures { result ≡ common.shares_level kept.now.entries others.now (level_of level.now) }
+{
+    if level.names.shares(others) {
+        return true;
+    }
+    match kept.get(&level.within) {
+        None => false,
+        Some(names) => names.shares(others),
+    }
+}
+
+fn scope_shares(kept: &IndexMap<u32, NameTable>, levels: &[OpenScope], others: &NameTable) -> bool
+    ensures { result ≡ common.shares_scope kept.now.entries others.now (reverse (map level_of levels.now)) }
+{
+    let mut i = levels.len();
+    while 0 < i {
+        i -= 1;
+        let level = &levels[i];
+        if level_shares(kept, level, others) {
+            return true;
+        }
+        if !is_further(level.form) {
+            return false;
+        }
+    }
+    false
+}
+
+impl Table {
+    pub fn new(alloc: Global) -> Table
+        ensures { result ≡ spec.start }
+    {
+        Table {
+            levels: Vec::new(alloc),
+            kept: IndexMap::new(alloc),
+            components: IndexMap::new(alloc),
+        }
+    }
+
+    pub fn open(&mut self, alloc: Global, form: ScopeForm) -> Result<(), AllocError>
+        ensures { OnOk result (self.new ≡ spec.after_one self.old (Open form)) }
+    {
+        self.levels.push(OpenScope {
+            form,
+            names: NameTable::new(alloc),
+            within: 0,
+        })?;
+        Ok(())
+    }
+
+    pub fn close(&mut self)
+        ensures { self.new ≡ spec.after_one self.old Close }
+    {
+        let _closed = self.levels.pop();
+    }
+
+    /// Closes the innermost scope, and keeps its names for a place.
+    pub fn keep(&mut self, alloc: Global, at: u32) -> Result<(), AllocError>
+        ensures { OnOk result (self.new ≡ spec.keep_at self.old at) }
+    {
+        let names = take_innermost(&mut self.levels, alloc);
+        self.kept.insert(at, names)?;
+        Ok(())
+    }
+
+    /// Makes the names that are kept for a place belong to the innermost scope too.
+    pub fn join(&mut self, at: u32) -> Result<(), AllocError>
+        ensures { OnOk result (self.new ≡ spec.join_at self.old at) }
+    {
+        match self.levels.pop() {
+            Some(level) => {
+                self.levels.push(within(level, at))?;
+                Ok(())
+            }
+            None => Ok(()),
+        }
+    }
+
+    /// Declares a name in the innermost scope.
+    pub fn declare(&mut self, alloc: Global, word: &[u8], d: Declared) -> Result<(), AllocError>
+        ensures { OnOk result (self.new ≡ spec.declare_word self.old word.now d) }
+    {
+        match self.levels.pop() {
+            Some(level) => {
+                self.levels.push(with_name(alloc, level, word, d)?)?;
+                Ok(())
+            }
+            None => Ok(()),
+        }
+    }
+
+    /// Notes for which place the names behind a dot are kept at components of an array type.
+    pub fn put_component(&mut self, at: u32, inside: u32) -> Result<(), AllocError>
+        ensures { OnOk result (self.new ≡ spec.component_at self.old at inside) }
+    {
+        self.components.insert(at, inside)?;
+        Ok(())
+    }
+
+    /// What a name is declared as in the innermost scope so far.
+    pub fn in_scope(&self, word: &[u8]) -> Option<Declared>
+        ensures { result ≡ spec.in_scope self.now word.now }
+    {
+        find_in_scope(&self.kept, self.levels.as_slice(), word)
+    }
+
+    /// What a name means.
+    pub fn meaning(&self, word: &[u8]) -> Option<Declared>
+        ensures { result ≡ spec.meaning self.now word.now }
+    {
+        find_meaning(&self.kept, self.levels.as_slice(), word)
+    }
+
+    /// What a name means among those that are kept for a place.
+    pub fn member(&self, at: u32, word: &[u8]) -> Option<Declared>
+        ensures { result ≡ spec.member self.now at word.now }
+    {
+        in_kept(&self.kept, at, word)
+    }
+
+    /// Whether some name of the innermost scope is among those that are kept for a place.
+    pub fn shares(&self, at: u32) -> bool
+        ensures { result ≡ common.shares_scope self.now.kept (spec.kept_at self.now.kept at) self.now.levels }
+    {
+        match self.kept.get(&at) {
+            None => false,
+            Some(others) => scope_shares(&self.kept, self.levels.as_slice(), others),
+        }
+    }
+
+    /// The place for the components of an array type.
+    pub fn component(&self, at: u32) -> u32
+        ensures { result ≡ spec.component self.now at }
+    {
+        match self.components.get(&at) {
+            None => 0,
+            Some(inside) => *inside,
+        }
+    }
+}
+
+/// Closes the innermost scope, and gives its names.
+fn take_innermost(levels: &mut Vec<OpenScope>, alloc: Global) -> NameTable
+    ensures names { result ≡ spec.names_of_top (reverse (map level_of levels.old.items)) }
+    ensures rest { reverse (map level_of levels.new.items) ≡ spec.below (reverse (map level_of levels.old.items)) }
+{
+    match levels.pop() {
+        Some(level) => names_of(level),
+        None => NameTable::new(alloc),
+    }
+}
+
+fn names_of(level: OpenScope) -> NameTable
+    ensures { result ≡ level.names }
+{
+    level.names
+}
+
+fn within(level: OpenScope, at: u32) -> OpenScope
+    ensures { level_of result ≡ spec.join_level at (level_of level) }
+{
+    OpenScope {
+        form: level.form,
+        names: level.names,
+        within: at,
+    }
+}
+
+fn with_name(
+    alloc: Global,
+    level: OpenScope,
+    word: &[u8],
+    d: Declared,
+) -> Result<OpenScope, AllocError>
+    ensures { IfOk result (λ more. level_of more ≡ spec.declare_level word.now d (level_of level)) }
+{
+    let OpenScope {
+        form,
+        mut names,
+        within,
+    } = level;
+    names.declare(alloc, word, d)?;
+    Ok(OpenScope {
+        form,
+        names,
+        within,
+    })
+}

@@ -1,0 +1,9 @@
+use Rattle.std.proofs.Common.{arith}
+use Rattle.scope_names_events.proofs.WritingLemmas.{writes, chain_more}
+use Rattle.scope_rules.specs.TypeEvents.{ordinal_events}
+use Rattle.scope_names_events.proofs.clauses.write_domains.Goals as goal
+
+pub loop-any-preserved : goal.loop-any-preserved
+loop-any-preserved c =
+    let e = chain_more (λ x. ordinal_events x.domain) c.args.domains.now c.loop-any.any-index c.any-item.result c.args.out.now c.loop-any-test.true c.any-item.is in
+    grind (arith, writes)

@@ -1,6 +1,0 @@
--- An open scope as the definitions have it.
-use Rattle.scope_rules.specs.Scopes.{Level}
-use Rattle.scope_table.specs.declared.table.OpenScope.{OpenScope}
-
-abbrev pub level_of : OpenScope → Level
-level_of l = record { form = l.form; names = l.names; within = l.within }

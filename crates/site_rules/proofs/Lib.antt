@@ -1,4 +1,0 @@
-pub mod Members
-pub mod Following
-pub mod Openings
-pub mod Breaches

@@ -1,7 +1,0 @@
-use Rattle.std.proofs.Common.{◌≡◌, ℕ, ◌++◌, nat_eq, drop}
-use Rattle.indexmap.specs.IndexMap.{get}
-use Rattle.site_rules.specs.Opening.{noted_callers, callers_in}
-use Rattle.site_rules.proofs.open_routines.callers_of_routines.Given as goal
-
-abbrev pub invariant-loop-placed : goal.invariant-loop-placed
-invariant-loop-placed l = (x : ℕ) → noted_callers (get nat_eq l.callers x) ++ callers_in (drop l.placed-index l.sites) x ≡ callers_in l.sites x

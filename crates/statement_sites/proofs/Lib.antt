@@ -1,2 +1,0 @@
-mod LabelSets
-mod SiteLists

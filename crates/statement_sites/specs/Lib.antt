@@ -1,2 +1,0 @@
-pub mod LabelHash
-pub mod LabelLaws

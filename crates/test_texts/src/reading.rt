@@ -1,0 +1,28 @@
+//! From texts to tokens and trees.
+
+ghost use Rattle.std.specs.Prelude.{IfSome};
+ghost use Rattle.estelle_parser.specs.Answers.{AreTokens};
+
+use estelle_lexer::{Tokens, tokens};
+use estelle_parser::parse;
+use estelle_tree::Spec;
+use std::alloc::Global;
+
+/// The tokens of a text of less than 2 GiB; none where it has none, or memory is refused.
+pub fn tokens_of(alloc: Global, text: &[u8]) -> Option<Tokens>
+    ensures { IfSome result (λ found. AreTokens found.items) }
+{
+    if text.len() >= 1 << 31 {
+        return None;
+    }
+    match tokens(alloc, text) {
+        Ok(found) => Some(found),
+        Err(_) => None,
+    }
+}
+
+/// The tree of a text; none where no specification is spelled so, or memory is refused.
+pub fn tree(alloc: Global, text: &[u8]) -> Option<Spec> {
+    let found = tokens_of(alloc, text)?;
+    parse(alloc, &found).ok()
+}

@@ -1,2 +1,0 @@
--- ---- what an operation on values gives in code
-pub mod Gives
