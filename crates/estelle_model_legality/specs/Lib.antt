@@ -1,0 +1,6 @@
+pub mod Instances
+pub mod Linked
+pub mod Mail
+pub mod Pending
+pub mod Situations
+pub mod Jobs
