@@ -1,0 +1,14 @@
+pub mod Chains
+pub mod Same
+pub mod Rooms
+pub mod Lists
+pub mod Roles
+pub mod Ties
+pub mod Writes
+pub mod Found
+pub mod Changes
+pub mod Ways
+pub mod Entries
+pub mod LawOfWays
+pub mod Proper
+pub mod Shifts

@@ -1,0 +1,4 @@
+pub mod Points
+pub mod Pairs
+pub mod Linked
+pub mod Kept

@@ -1,0 +1,8 @@
+//! The links of interaction points: connections and attachments (ISO/IEC 9074).
+#![tactic(auto)]
+
+mod links;
+mod pairs;
+mod points;
+
+pub use links::{LinkAbsent, LinkTaken, Links};

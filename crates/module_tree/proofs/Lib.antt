@@ -1,0 +1,11 @@
+pub mod Seen
+pub mod Latest
+pub mod Paths
+pub mod Updates
+pub mod Linking
+pub mod Unlinking
+pub mod Placing
+pub mod Steps
+pub mod Removing
+pub mod Chains
+pub mod Standing

@@ -1,0 +1,10 @@
+pub mod ChainLaws
+pub mod TableLaws
+pub mod RowLaws
+pub mod HomeLaws
+pub mod QueueLaws
+pub mod DeclareLaws
+pub mod MoveLaws
+pub mod MovedLaws
+pub mod DropLaws
+pub mod HoldsLaws
