@@ -8,7 +8,7 @@ use std::test::Fail;
 use test_texts::tree;
 
 /// Texts. A comment that is a digit alone stands right before the node at which that rule is reported.
-const TEXTS: [&str; 68] = [
+const TEXTS: [&str; 88] = [
     // kept
     "specification s systemprocess; var n: integer; state go; initialize to go begin n := 0 end; trans from go to go provided n < 3 name tick: begin n := n + 1 end; end.",
     "specification s; const s = 1; t = s; end.",
@@ -26,6 +26,9 @@ const TEXTS: [&str; 68] = [
     "specification s; function f(n: integer): integer; begin f := n end; var n: integer; initialize begin n := f(n) + abs(n) end; end.",
     "specification s; var f: record g: integer end; g: integer; initialize begin f.g := g end; end.",
     "specification s; timescale nothing; initialize name anything: begin end; end.",
+    "specification s; function abs(n: integer): integer; begin abs := n end; end.",
+    "specification s; type t = 1..3; channel c(t, q); by t: x(a: t; q: t); by q: y(a: t); ip p: c(t); initialize begin output p.x(1, 2) end; end.",
+    "specification s; channel c(r, q); by r: integer(a: integer); x(a: integer); ip p: c(r); initialize begin output p.integer(1) end; end.",
     // twice
     "specification s; const a = 1; type {1}a = integer; end.",
     "specification s; var a, {1}a: integer; end.",
@@ -44,6 +47,9 @@ const TEXTS: [&str; 68] = [
     "specification s; channel c(r, q); by r: x(a: integer); y; ip p: c(q); trans when p.x any {1}a: 1..2 do begin end; end.",
     "specification s; channel c(r, q); by r: x(a: integer); y; ip p: c(q); trans any a: 1..2 do when p.{1}x begin end; end.",
     "specification s; channel c(r, q); by r: x(a: integer); y; ip p: c(q); trans any a: 1..2 do when p.x({1}a) begin end; end.",
+    "specification s; channel c(r, q); by r: x(a: integer); y; ip p: c(q); trans any a: 1..2 do when p.{1}x(b) begin end; end.",
+    "specification s; channel c(r, q); by r: x(b, a: integer); ip p: c(q); trans any a: 1..2; b: 1..2 do when p.{1}x(b) begin end; end.",
+    "specification s; channel c(r, q); by r: x(b, a: integer); ip p: c(q); trans any a: 1..2 do when p.x(b, {1}a) begin end; end.",
     // not visible
     "specification count systemprocess; var n: integer; state go; initialize to go begin n := 0 end; trans from go to go provided {2}k < 3 begin n := n + k end; end.",
     "specification s; const a = {2}b; b = 1; end.",
@@ -61,7 +67,12 @@ const TEXTS: [&str; 68] = [
     "specification s; channel c(r, q); by r: x(a: integer); y; ip p: c(q); trans when p.{2}z begin end; end.",
     "specification s; channel c(r, q); by r: x(a: integer); y; ip p: {2}d(q); end.",
     "specification s; module m; end; modvar x: m; initialize begin x.{2}e := 1 end; end.",
+    "specification s; channel c(r, q); by r: x(a: {2}r); end.",
+    "specification s; channel c(r, q); by r: x(a: {2}x); end.",
     // of another kind
+    "specification s; initialize begin {3}abs := 1 end; end.",
+    "specification s; initialize begin {3}succ := 1 end; end.",
+    "specification s; initialize begin {3}chr := 'a' end; end.",
     "specification s; state go; initialize to go begin {3}go := 1 end; end.",
     "specification s; type t = integer; const a = {3}t; end.",
     "specification s; const a = 1; var n: {3}a; end.",
@@ -74,6 +85,16 @@ const TEXTS: [&str; 68] = [
     "specification s; var n: integer; trans priority {3}n begin end; end.",
     "specification s; channel c(r, q); by r: x(a: integer); y; ip p: c(q); trans when p.{3}r begin end; end.",
     "specification s; body b for {3}b; end; end.",
+    // of another kind, and what stands behind such a name is not judged
+    "specification s; var n: integer; v: {3}n; initialize begin v.f := 1 end; end.",
+    "specification s; var n: integer; v: array [1..2] of {3}n; initialize begin v[1].f := 1 end; end.",
+    "specification s; var n: integer; v: array [1..2, 1..2] of {3}n; initialize begin v[1, 1].f := v[1][2].g end; end.",
+    "specification s; var n: integer; v: record a: {3}n end; initialize begin v.a.f := 1 end; end.",
+    "specification s; var n: integer; type t = {3}n; u = array [1..2] of t; var v: u; initialize begin v[1].f := 1 end; end.",
+    "specification s; procedure f(a: integer; b: {3}a); begin b.f := 1 end; end.",
+    "specification s; const m = 1; modvar x: {3}m; initialize begin x.e := 1; connect x.p to x.q end; end.",
+    "specification s; var d: integer; ip p: {3}d(r); initialize begin output p.x end; end.",
+    "specification s; var d: integer; ip p: {3}d(r); trans when p.x begin end; end.",
     // states
     "{4}specification s; state go; initialize begin end; end.",
     "{4}specification s; state go; end.",

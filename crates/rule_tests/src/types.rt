@@ -9,7 +9,7 @@ use std::test::Fail;
 use test_texts::tree;
 
 /// Texts. A comment of two digits stands right before the node at which that rule is reported.
-const TEXTS: [&str; 117] = [
+const TEXTS: [&str; 131] = [
     // kept
     "specification s; type t = 1..3; var v: t; n: integer; initialize begin v := n; n := v; v := v + n end; end.",
     "specification s; var a, c: array [1..2] of integer; initialize begin a := c; a[1] := c[2] end; end.",
@@ -78,6 +78,19 @@ const TEXTS: [&str; 117] = [
     "specification s; trans any i: 1..2 do const c = {40}i; begin end; end.",
     "specification s; var n: integer; initialize begin case n of {40}-true: end end; end.",
     "specification s; trans priority {40}-true begin end; end.",
+    // 40: a set or array type is one whatever its base or index
+    "specification s; type r = record a: integer end; var w: set of r; initialize begin w := {40}3 end; end.",
+    "specification s; type r = record a: integer end; var w: set of r; initialize begin w := {40}[1] end; end.",
+    "specification s; type r = record a: integer end; var w: set of r; b: boolean; initialize begin b := {40}1 in w end; end.",
+    "specification s; type r = record a: integer end; var w: set of r; n: integer; initialize begin n := {40}w end; end.",
+    "specification s; var w: set of 1..true; initialize begin w := {40}3 end; end.",
+    "specification s; type r = record a: integer end; var w: array [r] of integer; initialize begin w := {40}3 end; end.",
+    "specification s; type r = record a: integer end; var w: array [r] of integer; initialize begin w[{40}1] := 3 end; end.",
+    // 40: what is broken has no type
+    "specification s; var n: integer; b: boolean; initialize begin n := ({40}b + n) + b end; end.",
+    "specification s; var n: integer; b: boolean; initialize begin n := (-{40}b) + b end; end.",
+    "specification s; var n: integer; b: boolean; initialize begin b := (not {40}n) and n end; end.",
+    "specification s; var n: integer; x: set of 1..9; initialize begin x := ([1, {40}true]) * n end; end.",
     // 41
     "specification s; procedure p(x: integer); begin end; initialize begin {41}p end; end.",
     "specification s; procedure p(x: integer); begin end; initialize begin {41}p(1, 2) end; end.",
@@ -116,11 +129,14 @@ const TEXTS: [&str; 117] = [
     "specification s; type t = array [1..300] of integer; u = {44}array [1..300] of t; end.",
     "specification s; trans any i: {44}3..1 do begin end; end.",
     "specification s; type o = 1..1; t = {44}array [o, o, o, o, o, o, o, o, o, o, o, o, o, o, o, o, o, o, o, o, o, o, o, o, o, o, o, o, o, o, o, o, o, o, o, o, o, o, o, o, o, o, o, o, o, o, o, o, o, o, o, o, o, o, o, o, o, o, o, o, o, o, o, o, o, o, o, o, o, o, o, o, o, o, o, o, o, o, o, o, o, o, o, o, o, o, o, o, o, o, o, o, o, o, o, o, o, o, o, o, o, o, o, o, o, o, o, o, o, o, o, o, o, o, o, o, o, o, o, o, o, o, o, o, o, o, o, o, o, o, o, o, o, o, o, o, o, o, o, o, o, o, o, o, o, o, o, o, o, o, o, o, o, o, o, o, o, o, o, o, o, o, o, o, o, o, o, o, o, o, o, o, o, o, o, o, o, o, o, o, o, o, o, o, o, o, o, o, o, o, o, o, o, o, o, o, o, o, o, o, o] of integer; end.",
+    "specification s; type r = record a: integer end; var w: {44}set of r; v: set of r; initialize begin w := []; w := w end; end.",
+    "specification s; var w: set of {44}1..true; b: boolean; initialize begin w := [1] + w; b := 1 in w end; end.",
     // 45
     "specification s; var n: integer; initialize begin case n of 1: ; {45}1: end end; end.",
     "specification s; const one = 1; var n: integer; initialize begin case n of 1, {45}one: end end; end.",
     "specification s; var n: integer; initialize begin case n of {45}true: end end; end.",
     "specification s; var x: set of 1..9; initialize begin case x of {45}1: end end; end.",
+    "specification s; type r = record a: integer end; var x: r; initialize begin case x of {45}1: ; 2: end end; end.",
     // 46
     "specification s; type r = record a: integer end; function f: {46}r; begin end; end.",
     "specification s; type x = set of 1..9; function f: {46}x; begin end; end.",

@@ -18,9 +18,9 @@ pub put_entry : {A : Type 0} (at : ℕ) (v : A) (es : List (ℕ × A)) → inser
 put_entry at v [] = refl
 put_entry at v (e ∷ es) = ap (λ r. if nat_eq at e.0 then (e.0, v) ∷ es else e ∷ r) (put_entry at v es)
 
-pub shares_empty : (names : Scope) → shares names [] ≡ false
-shares_empty [] = refl
-shares_empty (e ∷ es) = shares_empty es
+pub shares_empty : (names without : Scope) → shares names [] without ≡ false
+shares_empty [] without = refl
+shares_empty (e ∷ es) without = shares_empty es without
 
 neither : (b c : Bool) → b ≡ false → c ≡ false → (b || c) ≡ false
 neither b c e f = rw e f
@@ -29,9 +29,9 @@ unless : (f b : Bool) → b ≡ false → (if f then b else false) ≡ false
 unless true b e = e
 unless false b e = refl
 
-pub scope_shares_empty : (kept : List (ℕ × Scope)) (levels : List Level) → shares_scope kept [] levels ≡ false
-scope_shares_empty kept [] = refl
-scope_shares_empty kept (l ∷ outer) = neither (shares_level kept [] l) _ (neither (shares l.names []) _ (shares_empty l.names) (shares_empty (kept_at kept l.within))) (unless (is_further l.form) _ (scope_shares_empty kept outer))
+pub scope_shares_empty : (kept : List (ℕ × Scope)) (without : Scope) (levels : List Level) → shares_scope kept [] without levels ≡ false
+scope_shares_empty kept without [] = refl
+scope_shares_empty kept without (l ∷ outer) = neither (shares_level kept [] without l) _ (neither (shares l.names [] without) _ (shares_empty l.names without) (shares_empty (kept_at kept l.within) without)) (unless (is_further l.form) _ (scope_shares_empty kept without outer))
 
 -- keys that are seen as their bytes
 pub lookup_map : {K A : Type 0} (items : K → List ℕ) (w : Word) (es : List (K × A)) → lookup (λ k. bytes_eq w (items k)) es ≡ lookup (bytes_eq w) (map (λ e. (items e.0, e.1)) es)
@@ -64,18 +64,18 @@ declared_written items es new key w v d scope k f s n =
     ap (map (λ e. (items e.0, e.1))) n ∙ insert_map items key v es ∙ ap (λ t. insert_entry bytes_eq t (items key) v) (sym s) ∙ ap (λ x. insert_entry bytes_eq scope x v) k ∙ ap (insert_entry bytes_eq scope w) f ∙ inserted w d scope
 
 -- one place of a scope after another
-pub shares_hit : (names others : Scope) (i : ℕ) → at_shares names i others ≡ true → shares (drop i names) others ≡ true
-shares_hit [] others i h = absurd cc
-shares_hit (e ∷ es) others zero h = rw h refl
-shares_hit (e ∷ es) others (suc i) h = shares_hit es others i h
+pub shares_hit : (names others without : Scope) (i : ℕ) → at_shares names i others without ≡ true → shares (drop i names) others without ≡ true
+shares_hit [] others without i h = absurd cc
+shares_hit (e ∷ es) others without zero h = rw h refl
+shares_hit (e ∷ es) others without (suc i) h = shares_hit es others without i h
 
-missed : (names others : Scope) (i : ℕ) → at_shares names i others ≡ false → shares (drop i names) others ≡ shares (drop (suc i) names) others
-missed [] others zero h = refl
-missed [] others (suc i) h = refl
-missed (e ∷ es) others zero h = rw h refl
-missed (e ∷ es) others (suc i) h = missed es others i h
+missed : (names others without : Scope) (i : ℕ) → at_shares names i others without ≡ false → shares (drop i names) others without ≡ shares (drop (suc i) names) others without
+missed [] others without zero h = refl
+missed [] others without (suc i) h = refl
+missed (e ∷ es) others without zero h = rw h refl
+missed (e ∷ es) others without (suc i) h = missed es others without i h
 
-pub shares_missed : (names others : Scope) (i : ℕ) → at_shares names i others ≡ false → shares (drop i names) others ≡ shares (drop (i + 1) names) others
-shares_missed names others i h = rw add-one (missed names others i h)
+pub shares_missed : (names others without : Scope) (i : ℕ) → at_shares names i others without ≡ false → shares (drop i names) others without ≡ shares (drop (i + 1) names) others without
+shares_missed names others without i h = rw add-one (missed names others without i h)
 
 pub ruleset entries = (put_entry, shares_empty, scope_shares_empty)

@@ -1,9 +1,7 @@
 -- The breach that is noted is the one that is reported of all that is broken.
-use Rattle.std.proofs.Common.{◌≡◌, ◌≢◌, ℕ, ◌⊎◌, inl, inr, Bool, true, false, nat_eq, ◌||◌, ◌&&◌, if◌then◌else◌, List, [], ◌∷◌, ◌++◌, Option, Some, None, ap, sym, refl, subst, arith}
-use Rattle.std.specs.Prelude.{not, IsSome, cond}
+use Rattle.std.proofs.Common.{◌≡◌, ◌≢◌, ℕ, ◌⊎◌, inl, inr, Bool, true, false, nat_eq, ◌||◌, ◌&&◌, if◌then◌else◌, List, [], ◌∷◌, ◌++◌, Option, Some, None, ap, ◌∙◌, sym, refl, subst, arith}
+use Rattle.std.specs.Prelude.{not, IsSome}
 use Rattle.std.specs.Option.{is_some}
-use Rattle.std.specs.Str.{bytes_eq}
-use Rattle.std.specs.Cmp.Lexicographic.{bytes_decides, nat_list_eq_equiv}
 use Rattle.std.proofs.lemmas.Bool.Decides.{nat_tests}
 use Rattle.estelle_tree.specs.declared.span.Span.{Span}
 use Rattle.estelle_tree.specs.declared.tree.name.Name.{Name}
@@ -16,11 +14,13 @@ use Rattle.scope_rules.specs.declared.refusal.Breach.{Breach}
 use Rattle.scope_rules.specs.Least.{is_before, noted, IsFirst}
 use Rattle.scope_rules.specs.Kinds.{may_be}
 use Rattle.scope_rules.specs.TypeEvents.{Events}
-use Rattle.scope_rules.specs.Scopes.{Scopes, Scope, Level, Word, start, after, after_one, in_scope, in_scope_of, in_level, in_names, kept_at, or_else, is_further, meaning, received, inside_of, declare_one, Sought, sought}
-use Rattle.scope_rules.specs.NameRules.{IsOne, Somewhere, later, SecondOf, SecondParameter, DeclaredTwice, NotVisible, OfOtherKind, StatesAtFault, OfOtherHeader, Broken, Breaks}
+use Rattle.scope_rules.specs.Scopes.{Scopes, Scope, Level, Word, start, after, after_one, in_scope, in_scope_of, in_level, in_names, kept_at, or_else, is_further, meaning, reached, received, inside_of, declare_one, Sought, sought}
+use Rattle.scope_rules.specs.NameRules.{IsOne, Somewhere, later, is_listed, names_listed, SecondOf, UnlistedParameter, SecondParameter, DeclaredTwice, NotVisible, OfOtherKind, StatesAtFault, OfOtherHeader, Broken, Breaks}
 use Rattle.scope_rules.proofs.First.{before_self, first_noted, first_same, first_of_none}
-use Rattle.scope_names.specs.Common.{shares, shares_level, shares_scope}
-use Rattle.scope_names.specs.Noted.{breach, twice, twices, only_if, is_second, listed_twice, parameter_twice, misused_as, misused, misuses, states_fault, header_fault, breach_at, least}
+use Rattle.scope_names.proofs.Lists.{listed_found}
+use Rattle.scope_names.proofs.Symmetry.{either, or_left, or_right, shares_common, common_shares}
+use Rattle.scope_names.specs.Common.{is_among, shares, shares_level, shares_scope}
+use Rattle.scope_names.specs.Noted.{breach, twice, twices, only_if, is_second, listed_twice, listed_scope, unlisted_twice, parameter_twice, misused_as, misused, misuses, states_fault, header_fault, breach_at, least}
 
 made : (b : Breach) (n : ℕ) (at : Span) → b.number ≡ n → b.span ≡ at → b ≡ breach n at
 made b n at r s = λ i. record { number = r i; span = s i }
@@ -61,10 +61,10 @@ twice_first s x = by (in_scope s x.word) refl
       all = λ c p. let m : d ≡ p.1.0 = (let w = p.1.1.0 in cc) in (breach 1 (later d.at x.span), refl, subst (λ y. is_before y (breach 1 (later d.at x.span)) ≡ false) (sym (made c 1 (later d.at x.span) p.0 (subst (λ y. c.span ≡ later y.at x.span) (sym m) p.1.1.1))) (before_self (breach 1 (later d.at x.span))));
     }
 
-Seconds : Scopes → List Name → Denotes → ℕ → Breach → Type 0
+Seconds : Scopes → List Name → Denotes → Option ℕ → Breach → Type 0
 Seconds s xs k inside b = (b.number ≡ 1) × SecondOf s xs k inside b.span
 
-twices_first : (P : Breach → Type 0) (first : Option Breach) (s : Scopes) (xs : List Name) (k : Denotes) (inside : ℕ) → IsFirst P first → IsFirst (λ b. P b ⊎ Seconds s xs k inside b) (twices first s xs k inside)
+twices_first : (P : Breach → Type 0) (first : Option Breach) (s : Scopes) (xs : List Name) (k : Denotes) (inside : Option ℕ) → IsFirst P first → IsFirst (λ b. P b ⊎ Seconds s xs k inside b) (twices first s xs k inside)
 unfolding Seconds Second
 twices_first P first s [] k inside f = first_same P (λ b. P b ⊎ Seconds s [] k inside b) first (λ b p. inl p) (λ b h. elim h [ inl p ↦ p | inr n ↦ absurd n.1 ]) f
 twices_first P first s (x ∷ xs) k inside f =
@@ -109,46 +109,19 @@ listed_first P first s parameters (x ∷ xs) f =
     here b n y (inl e) p q a = inl (inr (both (is_some (in_names x.word (kept_at s.kept parameters))) (is_some (in_scope s x.word)) (subst (λ z. is_some (in_names z.word (kept_at s.kept parameters)) ≡ true) e p) (subst (λ z. is_some (in_scope s z.word) ≡ true) e q), (n, subst (λ z. b.span ≡ z.span) e a)))
     here b n y (inr e) p q a = inr (n, (y, (e, p, q, a)))
 
--- a name in both scopes
-Common : Scope → Scope → Type 0
-Common names others = (w : Word) × (IsSome (in_names w others) × IsSome (in_names w names))
+negated : (b : Bool) → not b ≡ true → b ≡ false
+negated true e = absurd cc
+negated false e = refl
 
-either : (a b : Bool) → (a || b) ≡ true → (a ≡ true) ⊎ (b ≡ true)
-either true b e = inl refl
-either false b e = inr e
+-- a name among others, which is not left out
+among : (w : Word) (others : Scope) (xs : List Name) → IsSome (in_names w others) → is_listed w xs ≡ false → is_among w others (listed_scope [] xs) ≡ true
+among w others xs p q = rw (p, listed_found w xs, q) refl
 
-or_left : (a b : Bool) → a ≡ true → (a || b) ≡ true
-or_left a b e = rw e refl
+of_others : (w : Word) (others : Scope) (xs : List Name) → is_among w others (listed_scope [] xs) ≡ true → IsSome (in_names w others)
+of_others w others xs h = left_of (is_some (in_names w others)) _ h
 
-or_right : (a b : Bool) → b ≡ true → (a || b) ≡ true
-or_right true b e = refl
-or_right false b e = e
-
-same_word : (w : Word) → bytes_eq w w ≡ true
-same_word w = nat_list_eq_equiv.refl w
-
-shares_common : (names others : Scope) → shares names others ≡ true → Common names others
-unfolding Common
-shares_common [] others h = absurd cc
-shares_common (e ∷ es) others h = elim (either (is_some (in_names e.0 others)) (shares es others) h) [
-  | inl p ↦ (e.0, (p, rw (same_word e.0) refl))
-  | inr q ↦ (let w = shares_common es others q in (w.0, (w.1.0, more w.0 e es w.1.1)))
-]
-  where
-    more : (w : Word) (e : Word × Declared) (es : Scope) → IsSome (in_names w es) → IsSome (in_names w (e ∷ es))
-    more w e es h = by (bytes_eq w e.0)
-      where
-        by : (b : Bool) → IsSome (cond b (Some e.1) (in_names w es))
-        by true = refl
-        by false = h
-
-common_shares : (w : Word) (names others : Scope) → IsSome (in_names w others) → IsSome (in_names w names) → shares names others ≡ true
-common_shares w [] others p q = absurd cc
-common_shares w (e ∷ es) others p q = by (bytes_eq w e.0) refl q (λ h. common_shares w es others p h)
-  where
-    by : (b : Bool) → bytes_eq w e.0 ≡ b → IsSome (cond b (Some e.1) (in_names w es)) → (IsSome (in_names w es) → shares es others ≡ true) → (is_some (in_names e.0 others) || shares es others) ≡ true
-    by true t h rest = or_left (is_some (in_names e.0 others)) (shares es others) (subst (λ z. is_some (in_names z others) ≡ true) ((bytes_decides w e.0).0 t) p)
-    by false t h rest = or_right (is_some (in_names e.0 others)) (shares es others) (rest h)
+not_listed : (w : Word) (others : Scope) (xs : List Name) → is_among w others (listed_scope [] xs) ≡ true → is_listed w xs ≡ false
+not_listed w others xs h = sym (listed_found w xs) ∙ negated (is_some (in_names w (listed_scope [] xs))) (right_of (is_some (in_names w others)) _ h)
 
 some_else : (a b : Option Declared) → IsSome (or_else a b) → IsSome a ⊎ IsSome b
 some_else None b h = inr h
@@ -162,47 +135,64 @@ else_right : (a b : Option Declared) → IsSome b → IsSome (or_else a b)
 else_right None b h = h
 else_right (Some d) b h = refl
 
-scope_common : (kept : List (ℕ × Scope)) (others : Scope) (levels : List Level) → shares_scope kept others levels ≡ true → (w : Word) × (IsSome (in_names w others) × IsSome (in_scope_of kept w levels))
-unfolding Common
-scope_common kept others [] h = absurd cc
-scope_common kept others (l ∷ outer) h = elim (either (shares_level kept others l) (if is_further l.form then shares_scope kept others outer else false) h) [
-  | inl p ↦ (elim (either (shares l.names others) (shares (kept_at kept l.within) others) p) [
-    | inl q ↦ (let w = shares_common l.names others q in (w.0, (w.1.0, else_left _ _ (else_left _ (in_names w.0 (kept_at kept l.within)) w.1.1))))
-    | inr q ↦ (let w = shares_common (kept_at kept l.within) others q in (w.0, (w.1.0, else_left _ _ (else_right (in_names w.0 l.names) _ w.1.1))))
+-- a name of these others, which is not left out, in the innermost scope
+InScope : List (ℕ × Scope) → Scope → Scope → List Level → Type 0
+InScope kept others without levels = (w : Word) × ((is_among w others without ≡ true) × IsSome (in_scope_of kept w levels))
+
+scope_common : (kept : List (ℕ × Scope)) (others without : Scope) (levels : List Level) → shares_scope kept others without levels ≡ true → InScope kept others without levels
+unfolding InScope
+scope_common kept others without [] h = absurd cc
+scope_common kept others without (l ∷ outer) h = elim (either (shares_level kept others without l) (if is_further l.form then shares_scope kept others without outer else false) h) [
+  | inl p ↦ (elim (either (shares l.names others without) (shares (kept_at kept l.within) others without) p) [
+    | inl q ↦ (let w = shares_common l.names others without q in (w.0, (w.1.0, else_left _ _ (else_left _ (in_names w.0 (kept_at kept l.within)) w.1.1))))
+    | inr q ↦ (let w = shares_common (kept_at kept l.within) others without q in (w.0, (w.1.0, else_left _ _ (else_right (in_names w.0 l.names) _ w.1.1))))
   ])
-  | inr q ↦ further (is_further l.form) q (λ r. scope_common kept others outer r)
+  | inr q ↦ further (is_further l.form) q (λ r. scope_common kept others without outer r)
 ]
   where
-    further : (b : Bool) → (if b then shares_scope kept others outer else false) ≡ true → (shares_scope kept others outer ≡ true → (w : Word) × (IsSome (in_names w others) × IsSome (in_scope_of kept w outer))) → (w : Word) × (IsSome (in_names w others) × IsSome (or_else (in_level kept w l) (if b then in_scope_of kept w outer else None)))
+    further : (b : Bool) → (if b then shares_scope kept others without outer else false) ≡ true → (shares_scope kept others without outer ≡ true → (w : Word) × ((is_among w others without ≡ true) × IsSome (in_scope_of kept w outer))) → (w : Word) × ((is_among w others without ≡ true) × IsSome (or_else (in_level kept w l) (if b then in_scope_of kept w outer else None)))
     further true q rest = let w = rest q in (w.0, (w.1.0, else_right (in_level kept w.0 l) _ w.1.1))
     further false q rest = absurd cc
 
-common_scope : (kept : List (ℕ × Scope)) (others : Scope) (levels : List Level) (w : Word) → IsSome (in_names w others) → IsSome (in_scope_of kept w levels) → shares_scope kept others levels ≡ true
-common_scope kept others [] w p q = absurd cc
-common_scope kept others (l ∷ outer) w p q = elim (some_else (in_level kept w l) (if is_further l.form then in_scope_of kept w outer else None) q) [
-  | inl a ↦ or_left (shares_level kept others l) _ (elim (some_else (in_names w l.names) (in_names w (kept_at kept l.within)) a) [
-    | inl b ↦ or_left (shares l.names others) (shares (kept_at kept l.within) others) (common_shares w l.names others p b)
-    | inr b ↦ or_right (shares l.names others) (shares (kept_at kept l.within) others) (common_shares w (kept_at kept l.within) others p b)
+common_scope : (kept : List (ℕ × Scope)) (others without : Scope) (levels : List Level) (w : Word) → is_among w others without ≡ true → IsSome (in_scope_of kept w levels) → shares_scope kept others without levels ≡ true
+common_scope kept others without [] w p q = absurd cc
+common_scope kept others without (l ∷ outer) w p q = elim (some_else (in_level kept w l) (if is_further l.form then in_scope_of kept w outer else None) q) [
+  | inl a ↦ or_left (shares_level kept others without l) _ (elim (some_else (in_names w l.names) (in_names w (kept_at kept l.within)) a) [
+    | inl b ↦ or_left (shares l.names others without) (shares (kept_at kept l.within) others without) (common_shares w l.names others without p b)
+    | inr b ↦ or_right (shares l.names others without) (shares (kept_at kept l.within) others without) (common_shares w (kept_at kept l.within) others without p b)
   ])
-  | inr a ↦ or_right (shares_level kept others l) _ (further (is_further l.form) a (λ r. common_scope kept others outer w p r))
+  | inr a ↦ or_right (shares_level kept others without l) _ (further (is_further l.form) a (λ r. common_scope kept others without outer w p r))
 ]
   where
-    further : (b : Bool) → IsSome (if b then in_scope_of kept w outer else None) → (IsSome (in_scope_of kept w outer) → shares_scope kept others outer ≡ true) → (if b then shares_scope kept others outer else false) ≡ true
+    further : (b : Bool) → IsSome (if b then in_scope_of kept w outer else None) → (IsSome (in_scope_of kept w outer) → shares_scope kept others without outer ≡ true) → (if b then shares_scope kept others without outer else false) ≡ true
     further true h rest = rest h
     further false h rest = absurd cc
 
-Parameter : Scopes → ℕ → Name → Option (List Name) → Breach → Type 0
+Unlisted : Scopes → ℕ → Name → List Name → Breach → Type 0
+Unlisted s parameters interaction listed b = (b.number ≡ 1) × (UnlistedParameter s parameters listed × (b.span ≡ interaction.span))
+
+unlisted_first : (s : Scopes) (parameters : ℕ) (interaction : Name) (listed : List Name) → IsFirst (Unlisted s parameters interaction listed) (unlisted_twice s parameters interaction (listed_scope [] listed))
+unfolding Unlisted InScope
+unlisted_first s parameters interaction listed =
+    let others = kept_at s.kept parameters in
+    let without = listed_scope [] listed in
+    first_same (λ b. (shares_scope s.kept others without s.levels ≡ true) × ((b.number ≡ 1) × (b.span ≡ interaction.span))) (Unlisted s parameters interaction listed) (unlisted_twice s parameters interaction (listed_scope [] listed))
+    (λ b w. (w.1.0, (let n = scope_common s.kept others without s.levels w.0 in (n.0, (of_others n.0 others listed n.1.0, n.1.1, not_listed n.0 others listed n.1.0)), w.1.1)))
+    (λ b w. (common_scope s.kept others without s.levels w.1.0.0 (among w.1.0.0 others listed w.1.0.1.0 w.1.0.1.2) w.1.0.1.1, (w.0, w.1.1)))
+    (first_if (shares_scope s.kept others without s.levels) 1 interaction.span)
+
+Parameter : Scopes → ℕ → Name → List Name → Breach → Type 0
 Parameter s parameters interaction listed b = (b.number ≡ 1) × SecondParameter s parameters interaction listed b.span
 
-parameter_first : (s : Scopes) (parameters : ℕ) (interaction : Name) (listed : Option (List Name)) → IsFirst (Parameter s parameters interaction listed) (parameter_twice s parameters interaction listed)
-unfolding Parameter Listed nothing
-parameter_first s parameters interaction (Some xs) = first_only (Listed s parameters xs) (listed_twice None s parameters xs) (listed_first nothing None s parameters xs first_nothing)
-parameter_first s parameters interaction None =
-    let others = kept_at s.kept parameters in
-    first_same (λ b. (shares_scope s.kept others s.levels ≡ true) × ((b.number ≡ 1) × (b.span ≡ interaction.span))) (Parameter s parameters interaction None) (parameter_twice s parameters interaction None)
-    (λ b w. (w.1.0, (scope_common s.kept others s.levels w.0, w.1.1)))
-    (λ b w. (common_scope s.kept others s.levels w.1.0.0 w.1.0.1.0 w.1.0.1.1, (w.0, w.1.1)))
-    (first_if (shares_scope s.kept others s.levels) 1 interaction.span)
+parameter_first : (s : Scopes) (parameters : ℕ) (interaction : Name) (listed : List Name) → IsFirst (Parameter s parameters interaction listed) (parameter_twice s parameters interaction listed)
+unfolding Parameter Listed Unlisted nothing
+parameter_first s parameters interaction listed =
+    first_same (λ b. Listed s parameters listed b ⊎ Unlisted s parameters interaction listed b) (Parameter s parameters interaction listed) (parameter_twice s parameters interaction listed)
+    (λ b h. elim h [ inl w ↦ (w.0, inl w.1) | inr w ↦ (w.0, inr w.1) ])
+    (λ b w. elim w.1 as (λ _. Listed s parameters listed b ⊎ Unlisted s parameters interaction listed b) [ inl v ↦ inl (w.0, v) | inr v ↦ inr (w.0, v) ])
+    (first_noted (Listed s parameters listed) (Unlisted s parameters interaction listed) (listed_twice None s parameters listed) (unlisted_twice s parameters interaction (listed_scope [] listed))
+    (first_only (Listed s parameters listed) (listed_twice None s parameters listed) (listed_first nothing None s parameters listed first_nothing))
+    (unlisted_first s parameters interaction listed))
 
 -- ---- 2 and 3: names in use
 
@@ -214,10 +204,6 @@ Other xs b = (b.number ≡ 3) × ((x : Sought) × (d : Declared) × (IsOne x xs 
 
 Misused : Sought → Breach → Type 0
 Misused x b = ((b.number ≡ 2) × ((x.found ≡ None) × (b.span ≡ x.name.span))) ⊎ ((b.number ≡ 3) × ((d : Declared) × ((x.found ≡ Some d) × (may_be x.need d.denotes ≡ false) × (b.span ≡ x.name.span))))
-
-negated : (b : Bool) → not b ≡ true → b ≡ false
-negated true e = absurd cc
-negated false e = refl
 
 negates : (b : Bool) → b ≡ false → not b ≡ true
 negates b e = rw e refl
@@ -283,8 +269,8 @@ states_first at false initial transitions = first_same (λ b. ((initial || trans
     (λ b w. (elim w.1.0 as (λ _. (initial || transitions) ≡ true) [ inl v ↦ absurd (let e = v.0 in cc) | inr v ↦ (elim v.1 as (λ _. (initial || transitions) ≡ true) [ inl i ↦ or_left initial transitions i | inr t ↦ or_right initial transitions t ]) ], (w.0, w.1.1)))
     (first_if (initial || transitions) 4 at)
 
-Other_header : Option Declared → Option Declared → Span → Breach → Type 0
-Other_header x y at e = (e.number ≡ 5) × ((v : Declared) × (b : Declared) × ((x ≡ Some v) × (may_be need.ModuleVariable v.denotes ≡ true) × (y ≡ Some b) × (may_be need.Body b.denotes ≡ true) × (v.inside ≢ b.inside) × (e.span ≡ at)))
+Other_header : Option ℕ → Option ℕ → Span → Breach → Type 0
+Other_header x y at e = (e.number ≡ 5) × ((h : ℕ) × (k : ℕ) × ((x ≡ Some h) × (y ≡ Some k) × (h ≢ k) × (e.span ≡ at)))
 
 unequal : (m n : ℕ) → not (nat_eq m n) ≡ true → m ≢ n
 unequal m n h e = grind (arith, nat_tests)
@@ -292,22 +278,14 @@ unequal m n h e = grind (arith, nat_tests)
 unequal_test : (m n : ℕ) → m ≢ n → not (nat_eq m n) ≡ true
 unequal_test m n h = grind (arith, nat_tests)
 
-abbrev other_test : Declared → Declared → Bool
-other_test v b = (may_be need.ModuleVariable v.denotes && may_be need.Body b.denotes) && not (nat_eq v.inside b.inside)
-
-passed : (v b v2 b2 : Declared) → v2 ≡ v → b2 ≡ b → may_be need.ModuleVariable v2.denotes ≡ true → may_be need.Body b2.denotes ≡ true → v2.inside ≢ b2.inside → other_test v b ≡ true
-passed v b v2 b2 m n p q r =
-    both (may_be need.ModuleVariable v.denotes && may_be need.Body b.denotes) (not (nat_eq v.inside b.inside)) (both (may_be need.ModuleVariable v.denotes) (may_be need.Body b.denotes) (subst (λ x. may_be need.ModuleVariable x.denotes ≡ true) m p) (subst (λ x. may_be need.Body x.denotes ≡ true) n q))
-    (unequal_test v.inside b.inside (subst (λ x. x.inside ≢ b.inside) m (subst (λ x. v2.inside ≢ x.inside) n r)))
-
-header_first : (x y : Option Declared) (at : Span) → IsFirst (Other_header x y at) (header_fault x y at)
+header_first : (x y : Option ℕ) (at : Span) → IsFirst (Other_header x y at) (header_fault x y at)
 unfolding Other_header
 header_first None y at = first_of_none (Other_header None y at) (λ b w. let e = w.1.2.0 in cc)
-header_first (Some v) None at = first_of_none (Other_header (Some v) None at) (λ b w. let e = w.1.2.2 in cc)
-header_first (Some v) (Some b) at = first_same (λ e. (other_test v b ≡ true) × ((e.number ≡ 5) × (e.span ≡ at))) (Other_header (Some v) (Some b) at) (only_if (other_test v b) (breach 5 at))
-    (λ e w. (w.1.0, (v, b, (refl, left_of (may_be need.ModuleVariable v.denotes) (may_be need.Body b.denotes) (left_of (may_be need.ModuleVariable v.denotes && may_be need.Body b.denotes) (not (nat_eq v.inside b.inside)) w.0), refl, right_of (may_be need.ModuleVariable v.denotes) (may_be need.Body b.denotes) (left_of (may_be need.ModuleVariable v.denotes && may_be need.Body b.denotes) (not (nat_eq v.inside b.inside)) w.0), unequal v.inside b.inside (right_of (may_be need.ModuleVariable v.denotes && may_be need.Body b.denotes) (not (nat_eq v.inside b.inside)) w.0), w.1.1))))
-    (λ e w. let m : w.1.0 ≡ v = (let q = w.1.2.0 in cc) in let n : w.1.1 ≡ b = (let q = w.1.2.2 in cc) in (passed v b w.1.0 w.1.1 m n w.1.2.1 w.1.2.3 w.1.2.4, (w.0, w.1.2.5)))
-    (first_if (other_test v b) 5 at)
+header_first (Some h) None at = first_of_none (Other_header (Some h) None at) (λ b w. let e = w.1.2.1 in cc)
+header_first (Some h) (Some k) at = first_same (λ e. (not (nat_eq h k) ≡ true) × ((e.number ≡ 5) × (e.span ≡ at))) (Other_header (Some h) (Some k) at) (only_if (not (nat_eq h k)) (breach 5 at))
+    (λ e w. (w.1.0, (h, k, (refl, refl, unequal h k w.0, w.1.1))))
+    (λ e w. let m : w.1.0 ≡ h = (let q = w.1.2.0 in cc) in let n : w.1.1 ≡ k = (let q = w.1.2.1 in cc) in (unequal_test h k (subst (λ x. x ≢ k) m (subst (λ x. w.1.0 ≢ x) n w.1.2.2)), (w.0, w.1.2.3)))
+    (first_if (not (nat_eq h k)) 5 at)
 
 -- ---- an event
 
@@ -352,20 +330,20 @@ event_first s Close = quiet s Close (λ b. still b s Close refl (λ w. w) (λ w.
 event_first s (Keep span) = quiet s (Keep span) (λ b. still b s (Keep span) refl (λ w. w) (λ w. w) (λ w. w))
 event_first s (Import h) = quiet s (Import h) (λ b. still b s (Import h) refl (λ w. w) (λ w. w) (λ w. w))
 event_first s (Array at of) = quiet s (Array at of) (λ b. still b s (Array at of) refl (λ w. w) (λ w. w) (λ w. w))
-event_first s (Receive ip interaction listed) = first_same (Parameter s (received s ip interaction) interaction listed) (λ b. Broken b s (Receive ip interaction listed)) (breach_at s (Receive ip interaction listed))
+event_first s (Receive ip interaction listed) = first_same (Parameter s (received s ip interaction) interaction (names_listed listed)) (λ b. Broken b s (Receive ip interaction listed)) (breach_at s (Receive ip interaction listed))
     (λ b w. inl w)
     (λ b w. elim (none_sought b s (Receive ip interaction listed) refl w) [ inl v ↦ v | inr v ↦ absurd (elim v as (λ _. ⊥) [ inl u ↦ u.1 | inr u ↦ u.1 ]) ])
-    (parameter_first s (received s ip interaction) interaction listed)
+    (parameter_first s (received s ip interaction) interaction (names_listed listed))
 event_first s (Declare names k inside) = first_same (Seconds s names k (inside_of s inside)) (λ b. Broken b s (Declare names k inside)) (breach_at s (Declare names k inside))
     (λ b w. inl w)
     (λ b w. elim (none_sought b s (Declare names k inside) refl w) [ inl v ↦ v | inr v ↦ absurd (elim v as (λ _. ⊥) [ inl u ↦ u.1 | inr u ↦ u.1 ]) ])
     (first_only (Seconds s names k (inside_of s inside)) (twices None s names k (inside_of s inside)) (twices_first nothing None s names k (inside_of s inside) first_nothing))
 event_first s (Use x n steps) = used_first s (Use x n steps) (λ b w. w) (λ b w. w) (λ b w. w)
 event_first s (By role) = used_first s (By role) (λ b w. w) (λ b w. w) (λ b w. w)
-event_first s (Init modvar body) = first_same (Other_header (meaning s modvar.word) (meaning s body.word) body.span) (λ b. Broken b s (Init modvar body)) (breach_at s (Init modvar body))
+event_first s (Init modvar body) = first_same (Other_header (reached need.ModuleVariable (meaning s modvar.word)) (reached need.Body (meaning s body.word)) body.span) (λ b. Broken b s (Init modvar body)) (breach_at s (Init modvar body))
     (λ b w. inr (inr (inr (inr w))))
-    (λ b w. elim (none_sought b s (Init modvar body) refl w) [ inl v ↦ absurd v.1 | inr v ↦ (elim v as (λ _. Other_header (meaning s modvar.word) (meaning s body.word) body.span b) [ inl u ↦ absurd u.1 | inr u ↦ u ]) ])
-    (header_first (meaning s modvar.word) (meaning s body.word) body.span)
+    (λ b w. elim (none_sought b s (Init modvar body) refl w) [ inl v ↦ absurd v.1 | inr v ↦ (elim v as (λ _. Other_header (reached need.ModuleVariable (meaning s modvar.word)) (reached need.Body (meaning s body.word)) body.span b) [ inl u ↦ absurd u.1 | inr u ↦ u ]) ])
+    (header_first (reached need.ModuleVariable (meaning s modvar.word)) (reached need.Body (meaning s body.word)) body.span)
 event_first s (States at declared initial transitions) = first_same (States_at at declared initial transitions) (λ b. Broken b s (States at declared initial transitions)) (breach_at s (States at declared initial transitions))
     (λ b w. inr (inr (inr (inl w))))
     (λ b w. elim (none_sought b s (States at declared initial transitions) refl w) [ inl v ↦ absurd v.1 | inr v ↦ (elim v as (λ _. States_at at declared initial transitions b) [ inl u ↦ u | inr u ↦ absurd u.1 ]) ])

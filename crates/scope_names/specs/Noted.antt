@@ -4,6 +4,7 @@ use Rattle.std.specs.Option.{is_some}
 use Rattle.estelle_tree.specs.declared.span.Span.{Span}
 use Rattle.estelle_tree.specs.declared.tree.name.Name.{Name}
 use Rattle.scope_rules.specs.declared.declaration.Denotes.{Denotes}
+use Rattle.scope_rules.specs.declared.declaration.Denotes.TheVariants as d
 use Rattle.scope_rules.specs.declared.declaration.Need.TheVariants as need
 use Rattle.scope_rules.specs.declared.declaration.Declared.{Declared}
 use Rattle.scope_rules.specs.declared.event.Event.{Event}
@@ -12,8 +13,8 @@ use Rattle.scope_rules.specs.declared.refusal.Breach.{Breach}
 use Rattle.scope_rules.specs.Least.{noted}
 use Rattle.scope_rules.specs.Kinds.{may_be}
 use Rattle.scope_rules.specs.TypeEvents.{Events}
-use Rattle.scope_rules.specs.Scopes.{Scopes, in_scope, in_names, kept_at, meaning, received, inside_of, declare_one, after_one, Sought, sought}
-use Rattle.scope_rules.specs.NameRules.{later}
+use Rattle.scope_rules.specs.Scopes.{Scopes, Scope, in_scope, in_names, kept_at, meaning, reached, received, inside_of, declared, declaration, declare_one, after_one, Sought, sought}
+use Rattle.scope_rules.specs.NameRules.{later, names_listed}
 use Rattle.scope_names.specs.Common.{shares_scope}
 
 abbrev pub breach : ℕ → Span → Breach
@@ -24,7 +25,7 @@ abbrev pub twice : Option Declared → Span → Option Breach
 twice None at = None
 twice (Some d) at = Some (breach 1 (later d.at at))
 
-abbrev pub twices : Option Breach → Scopes → List Name → Denotes → ℕ → Option Breach
+abbrev pub twices : Option Breach → Scopes → List Name → Denotes → Option ℕ → Option Breach
 twices first s [] k inside = first
 twices first s (x ∷ xs) k inside = twices (noted first (twice (in_scope s x.word) x.span)) (declare_one s x k inside) xs k inside
 
@@ -39,9 +40,16 @@ abbrev pub listed_twice : Option Breach → Scopes → ℕ → List Name → Opt
 listed_twice first s parameters [] = first
 listed_twice first s parameters (x ∷ xs) = listed_twice (noted first (only_if (is_second s parameters x) (breach 1 x.span))) s parameters xs
 
-abbrev pub parameter_twice : Scopes → ℕ → Name → Option (List Name) → Option Breach
-parameter_twice s parameters interaction (Some listed) = listed_twice None s parameters listed
-parameter_twice s parameters interaction None = only_if (shares_scope s.kept (kept_at s.kept parameters) s.levels) (breach 1 interaction.span)
+-- the names of a list, as a scope behind another
+abbrev pub listed_scope : Scope → List Name → Scope
+listed_scope names [] = names
+listed_scope names (x ∷ xs) = listed_scope (declared x.word (declaration x d.Variable (Some 0)) names) xs
+
+abbrev pub unlisted_twice : Scopes → ℕ → Name → Scope → Option Breach
+unlisted_twice s parameters interaction listed = only_if (shares_scope s.kept (kept_at s.kept parameters) listed s.levels) (breach 1 interaction.span)
+
+abbrev pub parameter_twice : Scopes → ℕ → Name → List Name → Option Breach
+parameter_twice s parameters interaction listed = noted (listed_twice None s parameters listed) (unlisted_twice s parameters interaction (listed_scope [] listed))
 
 -- 2 and 3
 abbrev pub misused_as : Sought → Option Declared → Option Breach
@@ -61,18 +69,18 @@ states_fault at true initial transitions = only_if (not initial) (breach 4 at)
 states_fault at false initial transitions = only_if (initial || transitions) (breach 4 at)
 
 -- 5
-abbrev pub header_fault : Option Declared → Option Declared → Span → Option Breach
-header_fault None b at = None
-header_fault (Some v) None at = None
-header_fault (Some v) (Some b) at = only_if ((may_be need.ModuleVariable v.denotes && may_be need.Body b.denotes) && not (nat_eq v.inside b.inside)) (breach 5 at)
+abbrev pub header_fault : Option ℕ → Option ℕ → Span → Option Breach
+header_fault None k at = None
+header_fault (Some h) None at = None
+header_fault (Some h) (Some k) at = only_if (not (nat_eq h k)) (breach 5 at)
 
 -- what an event breaks, among these scopes
 abbrev pub breach_at : Scopes → Event → Option Breach
 breach_at s (Declare names k inside) = twices None s names k (inside_of s inside)
-breach_at s (Receive ip interaction listed) = parameter_twice s (received s ip interaction) interaction listed
+breach_at s (Receive ip interaction listed) = parameter_twice s (received s ip interaction) interaction (names_listed listed)
 breach_at s (Use x n steps) = misuses None (sought s (Use x n steps))
 breach_at s (By role) = misuses None (sought s (By role))
-breach_at s (Init modvar body) = header_fault (meaning s modvar.word) (meaning s body.word) body.span
+breach_at s (Init modvar body) = header_fault (reached need.ModuleVariable (meaning s modvar.word)) (reached need.Body (meaning s body.word)) body.span
 breach_at s (States at declared initial transitions) = states_fault at declared initial transitions
 breach_at s e = None
 

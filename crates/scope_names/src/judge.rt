@@ -1,25 +1,27 @@
 //! What one event breaks, what its names mean, and the scopes behind it.
 
-ghost use Rattle.std.specs.Prelude.{◌≡◌, ◌++◌, None, IfOk, OnOk};
+ghost use Rattle.std.specs.Prelude.{◌≡◌, ◌++◌, [], None, IfOk, OnOk};
 ghost use Rattle.std.specs.List.{flat_map};
 ghost use Rattle.scope_rules.specs.declared.event.Event.TheVariants as event;
 ghost use Rattle.scope_rules.specs.Scopes as spec;
-ghost use Rattle.scope_rules.specs.NameRules.{used, used_at, later};
+ghost use Rattle.scope_rules.specs.NameRules.{used, used_at, later, names_listed};
 ghost use Rattle.scope_names.specs.Noted as noting;
 
+use crate::names::NameTable;
 use crate::table::Table;
 use estelle_tree::{Items, Name, Sequence, Span, Use};
 use scope_rules::{Breach, Declared, Denotes, Event, Inside, Need, Step, may_be, noted};
 use std::alloc::{AllocError, Global};
 
-/// The place for which the names behind a dot are kept, where a name means what its place needs.
+/// The place for which the names behind a dot are kept, where a name means what its place needs and its own declaration
+/// is not at fault.
 fn reached(need: Need, found: Option<Declared>) -> Option<u32>
     ensures { result ≡ spec.reached need found }
 {
     match found {
         None => None,
         Some(d) => if may_be(need, d.denotes) {
-            Some(d.inside)
+            d.inside
         } else {
             None
         },
@@ -35,19 +37,19 @@ fn or_nothing(at: Option<u32>) -> u32
     }
 }
 
-fn inside_named(table: &Table, name: &Name, need: Need) -> u32
+fn inside_named(table: &Table, name: &Name, need: Need) -> Option<u32>
     ensures { result ≡ spec.inside_named table.now name.now need }
 {
-    or_nothing(reached(need, table.meaning(name.word.items())))
+    reached(need, table.meaning(name.word.items()))
 }
 
-/// The place that a declaration brings.
-fn inside_of(table: &Table, inside: &Inside) -> u32
+/// The place that a declaration brings; none where what it names is at fault.
+fn inside_of(table: &Table, inside: &Inside) -> Option<u32>
     ensures { result ≡ spec.inside_of table.now inside.now }
 {
     match inside {
-        Inside::Nothing => 0,
-        Inside::At(span) => span.start,
+        Inside::Nothing => Some(0),
+        Inside::At(span) => Some(span.start),
         Inside::Named { name, need } => inside_named(table, name, *need),
     }
 }
@@ -103,7 +105,7 @@ fn declare_one(
     alloc: Global,
     name: &Name,
     denotes: Denotes,
-    inside: u32,
+    inside: Option<u32>,
 ) -> Result<Option<Breach>, AllocError>
     ensures breach { IfOk result (λ b. b ≡ noting.twice (spec.in_scope table.old name.now.word) name.now.span) }
     ensures table { OnOk result (table.new ≡ spec.declare_one table.old name.now denotes inside) }
@@ -123,7 +125,7 @@ fn declare_all(
     alloc: Global,
     names: &[Name],
     denotes: Denotes,
-    inside: u32,
+    inside: Option<u32>,
 ) -> Result<Option<Breach>, AllocError>
     ensures breach { IfOk result (λ b. b ≡ noting.twices None table.old names.now denotes inside) }
     ensures table { OnOk result (table.new ≡ spec.declare_all table.old names.now denotes inside) }
@@ -156,17 +158,49 @@ fn listed_twice(table: &Table, parameters: u32, listed: &[Name]) -> Option<Breac
     first
 }
 
+/// The names in a list.
+fn table_of(alloc: Global, listed: &[Name]) -> Result<NameTable, AllocError>
+    ensures { IfOk result (λ names. names ≡ noting.listed_scope [] listed.now) }
+{
+    let mut names = NameTable::new(alloc);
+    for name in listed {
+        let d = Declared {
+            at: name.span,
+            denotes: Denotes::Variable,
+            inside: Some(0),
+        };
+        names.declare(alloc, name.word.items(), d)?;
+    }
+    Ok(names)
+}
+
 fn parameter_twice(
     table: &Table,
+    alloc: Global,
+    parameters: u32,
+    interaction: &Name,
+    listed: &[Name],
+) -> Result<Option<Breach>, AllocError>
+    ensures { IfOk result (λ b. b ≡ noting.parameter_twice table.now parameters interaction.now listed.now) }
+{
+    let names = table_of(alloc, listed)?;
+    let unlisted = only_if(table.shares(parameters, &names), 1, interaction.span);
+    Ok(noted(listed_twice(table, parameters, listed), unlisted))
+}
+
+/// The parameters of an interaction that is received, with the list behind it where one stands.
+fn received_twice(
+    table: &Table,
+    alloc: Global,
     parameters: u32,
     interaction: &Name,
     listed: &Option<Items<Name>>,
-) -> Option<Breach>
-    ensures { result ≡ noting.parameter_twice table.now parameters interaction.now listed.now }
+) -> Result<Option<Breach>, AllocError>
+    ensures { IfOk result (λ b. b ≡ noting.parameter_twice table.now parameters interaction.now (names_listed listed.now)) }
 {
     match listed {
-        Some(names) => listed_twice(table, parameters, names.items()),
-        None => only_if(table.shares(parameters), 1, interaction.span),
+        Some(names) => parameter_twice(table, alloc, parameters, interaction, names.items()),
+        None => parameter_twice(table, alloc, parameters, interaction, &[]),
     }
 }
 
@@ -236,7 +270,7 @@ fn next_place(table: &Table, at: u32, step: &Step) -> Option<u32>
     ensures { result ≡ spec.next_place table.now at step.now }
 {
     match step {
-        Step::Index => Some(table.component(at)),
+        Step::Index => table.component(at),
         Step::Member { name, need } => reached(*need, table.member(at, name.word.items())),
         Step::Role(_) => None,
     }
@@ -282,14 +316,12 @@ fn judge_use(
     judge_steps(table, reached(need, found), steps, breach, uses)
 }
 
-fn header_fault(variable: Option<Declared>, body: Option<Declared>, at: Span) -> Option<Breach>
+/// The headers of a module variable and a body differ.
+fn header_fault(variable: Option<u32>, body: Option<u32>, at: Span) -> Option<Breach>
     ensures { result ≡ noting.header_fault variable body at }
 {
     match (variable, body) {
-        (Some(v), Some(b)) => {
-            let both = may_be(Need::ModuleVariable, v.denotes) && may_be(Need::Body, b.denotes);
-            only_if(both && v.inside != b.inside, 5, at)
-        }
+        (Some(of), Some(header)) => only_if(of != header, 5, at),
         _ => None,
     }
 }
@@ -328,7 +360,7 @@ pub fn judge(
             Ok(None)
         }
         Event::Import(header) => {
-            let at = inside_named(table, header, Need::Header);
+            let at = or_nothing(inside_named(table, header, Need::Header));
             table.join(at)?;
             Ok(None)
         }
@@ -338,7 +370,7 @@ pub fn judge(
             listed,
         } => {
             let at = received(table, ip, interaction);
-            let breach = parameter_twice(table, at, interaction, listed);
+            let breach = received_twice(table, alloc, at, interaction, listed)?;
             table.join(at)?;
             Ok(breach)
         }
@@ -361,8 +393,8 @@ pub fn judge(
             Ok(None)
         }
         Event::Init { modvar, body } => {
-            let variable = table.meaning(modvar.word.items());
-            Ok(header_fault(variable, table.meaning(body.word.items()), body.span))
+            let variable = inside_named(table, modvar, Need::ModuleVariable);
+            Ok(header_fault(variable, inside_named(table, body, Need::Body), body.span))
         }
         Event::States {
             at,

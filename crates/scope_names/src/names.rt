@@ -44,6 +44,13 @@ fn first_of(was: Option<Declared>, d: Declared) -> Declared
     }
 }
 
+/// Whether a name stands among others, and not among those that are left out.
+fn is_among(word: &[u8], others: &NameTable, without: &NameTable) -> bool
+    ensures { result ≡ common.is_among word.now others.now without.now }
+{
+    others.find(word).is_some() && !without.find(word).is_some()
+}
+
 impl NameTable {
     pub fn new(alloc: Global) -> NameTable
         ensures { result ≡ [] }
@@ -69,35 +76,35 @@ impl NameTable {
         Ok(())
     }
 
-    /// Whether the name at a place of the table stands there too.
-    fn is_in(&self, i: usize, others: &NameTable) -> bool
-        ensures { result ≡ common.at_shares self.now i others.now }
+    /// Whether the name at a place of the table stands there too, and is not left out.
+    fn is_in(&self, i: usize, others: &NameTable, without: &NameTable) -> bool
+        ensures { result ≡ common.at_shares self.now i others.now without.now }
     {
         match self.names.get_index(i) {
             None => false,
-            Some((word, _)) => others.find(word).is_some(),
+            Some((word, _)) => is_among(word, others, without),
         }
     }
 
-    fn some_is_in(&self, others: &NameTable) -> bool
-        ensures { result ≡ common.shares self.now others.now }
+    fn some_is_in(&self, others: &NameTable, without: &NameTable) -> bool
+        ensures { result ≡ common.shares self.now others.now without.now }
     {
         for i in 0..self.names.len() {
-            if self.is_in(i, others) {
+            if self.is_in(i, others, without) {
                 return true;
             }
         }
         false
     }
 
-    /// Whether some name stands here and there, in the time of the smaller of both.
+    /// Whether some name stands here and there, and is not left out, in the time of the smaller of both.
     #[tactic(auto, using(crate::proofs::Symmetry::shares_symmetric))]
-    pub fn shares(&self, others: &NameTable) -> bool
-        ensures { result ≡ common.shares self.now others.now }
+    pub fn shares(&self, others: &NameTable, without: &NameTable) -> bool
+        ensures { result ≡ common.shares self.now others.now without.now }
     {
         if others.names.len() < self.names.len() {
-            return others.some_is_in(self);
+            return others.some_is_in(self, without);
         }
-        self.some_is_in(others)
+        self.some_is_in(others, without)
     }
 }

@@ -1,7 +1,7 @@
 //! Open and kept scopes.
 
 ghost use Rattle.std.specs.Prelude.{◌≡◌, ◌||◌, map, reverse, nat_eq, OnOk, IfOk, false};
-ghost use Rattle.scope_rules.specs.Kinds.{is_private};
+ghost use Rattle.scope_rules.specs.Kinds.{is_private, is_of_channel};
 ghost use Rattle.scope_rules.specs.Scopes as spec;
 ghost use Rattle.scope_rules.specs.declared.event.Event.TheVariants.{Open, Close, Keep};
 ghost use Rattle.scope_names.specs.Common as common;
@@ -27,7 +27,7 @@ pub struct Table {
     /// From the outermost to the innermost.
     levels: Vec<OpenScope>,
     kept: IndexMap<u32, NameTable>,
-    components: IndexMap<u32, u32>,
+    components: IndexMap<u32, Option<u32>>,
 }
 
 impl Model for Table {
@@ -50,6 +50,15 @@ fn is_private(denotes: Denotes) -> bool
         | Denotes::Ip
         | Denotes::State
         | Denotes::StateSet => true,
+        _ => false,
+    }
+}
+
+fn is_of_channel(denotes: Denotes) -> bool
+    ensures { result ≡ is_of_channel denotes }
+{
+    match denotes {
+        Denotes::Role | Denotes::Interaction => true,
         _ => false,
     }
 }
@@ -91,6 +100,20 @@ fn in_level(kept: &IndexMap<u32, NameTable>, level: &OpenScope, word: &[u8]) -> 
     }
 }
 
+/// What was found, where it is a name alone.
+fn alone(found: Option<Declared>) -> Option<Declared>
+    ensures { result ≡ spec.alone found }
+{
+    match found {
+        None => None,
+        Some(d) => if is_of_channel(d.denotes) {
+            None
+        } else {
+            Some(d)
+        },
+    }
+}
+
 /// What was found outside of a body, or in it, is meant or hidden.
 fn seen(outside: bool, found: Declared) -> Option<Declared>
     ensures { result ≡ spec.seen outside found }
@@ -115,7 +138,7 @@ fn find_meaning(
     while 0 < i {
         i -= 1;
         let level = &levels[i];
-        if let Some(found) = in_level(kept, level, word) {
+        if let Some(found) = alone(in_level(kept, level, word)) {
             return seen(outside, found);
         }
         outside = outside || is_body(level.form);
@@ -144,27 +167,37 @@ fn find_in_scope(
     None
 }
 
-/// Whether some name of a scope stands among these.
-fn level_shares(kept: &IndexMap<u32, NameTable>, level: &OpenScope, others: &NameTable) -> bool
-    ensures { result ≡ common.shares_level kept.now.entries others.now (level_of level.now) }
+/// Whether some name of a scope stands among these, and is not left out.
+fn level_shares(
+    kept: &IndexMap<u32, NameTable>,
+    level: &OpenScope,
+    others: &NameTable,
+    without: &NameTable,
+) -> bool
+    ensures { result ≡ common.shares_level kept.now.entries others.now without.now (level_of level.now) }
 {
-    if level.names.shares(others) {
+    if level.names.shares(others, without) {
         return true;
     }
     match kept.get(&level.within) {
         None => false,
-        Some(names) => names.shares(others),
+        Some(names) => names.shares(others, without),
     }
 }
 
-fn scope_shares(kept: &IndexMap<u32, NameTable>, levels: &[OpenScope], others: &NameTable) -> bool
-    ensures { result ≡ common.shares_scope kept.now.entries others.now (reverse (map level_of levels.now)) }
+fn scope_shares(
+    kept: &IndexMap<u32, NameTable>,
+    levels: &[OpenScope],
+    others: &NameTable,
+    without: &NameTable,
+) -> bool
+    ensures { result ≡ common.shares_scope kept.now.entries others.now without.now (reverse (map level_of levels.now)) }
 {
     let mut i = levels.len();
     while 0 < i {
         i -= 1;
         let level = &levels[i];
-        if level_shares(kept, level, others) {
+        if level_shares(kept, level, others, without) {
             return true;
         }
         if !is_further(level.form) {
@@ -238,7 +271,7 @@ impl Table {
     }
 
     /// Notes for which place the names behind a dot are kept at components of an array type.
-    pub fn put_component(&mut self, at: u32, inside: u32) -> Result<(), AllocError>
+    pub fn put_component(&mut self, at: u32, inside: Option<u32>) -> Result<(), AllocError>
         ensures { OnOk result (self.new ≡ spec.component_at self.old at inside) }
     {
         self.components.insert(at, inside)?;
@@ -266,22 +299,22 @@ impl Table {
         in_kept(&self.kept, at, word)
     }
 
-    /// Whether some name of the innermost scope is among those that are kept for a place.
-    pub fn shares(&self, at: u32) -> bool
-        ensures { result ≡ common.shares_scope self.now.kept (spec.kept_at self.now.kept at) self.now.levels }
+    /// Whether some name of the innermost scope is among those that are kept for a place, and is not left out.
+    pub fn shares(&self, at: u32, without: &NameTable) -> bool
+        ensures { result ≡ common.shares_scope self.now.kept (spec.kept_at self.now.kept at) without.now self.now.levels }
     {
         match self.kept.get(&at) {
             None => false,
-            Some(others) => scope_shares(&self.kept, self.levels.as_slice(), others),
+            Some(others) => scope_shares(&self.kept, self.levels.as_slice(), others, without),
         }
     }
 
-    /// The place for the components of an array type.
-    pub fn component(&self, at: u32) -> u32
+    /// The place for the components of an array type; none where that is at fault.
+    pub fn component(&self, at: u32) -> Option<u32>
         ensures { result ≡ spec.component self.now at }
     {
         match self.components.get(&at) {
-            None => 0,
+            None => Some(0),
             Some(inside) => *inside,
         }
     }

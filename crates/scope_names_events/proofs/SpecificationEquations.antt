@@ -71,7 +71,7 @@ constants_are = refl
 pub functions_are : map (λ w. required (map to_ascii_lowercase w.now)) FUNCTIONS ≡ required (codes "abs") ∷ required (codes "sqr") ∷ required (codes "odd") ∷ required (codes "succ") ∷ required (codes "pred") ∷ required (codes "ord") ∷ required (codes "chr") ∷ []
 functions_are = refl
 
-pub required_written : (out : Events) → put (put (put out (Declare (map (λ w. required (map to_ascii_lowercase w.now)) TYPES) d.Type Nothing)) (Declare (map (λ w. required (map to_ascii_lowercase w.now)) CONSTANTS) d.Constant Nothing)) (Declare (map (λ w. required (map to_ascii_lowercase w.now)) FUNCTIONS) d.Function Nothing) ≡ write out required_events
+pub required_written : (out : Events) → put (put (put out (Declare (map (λ w. required (map to_ascii_lowercase w.now)) TYPES) d.Type Nothing)) (Declare (map (λ w. required (map to_ascii_lowercase w.now)) CONSTANTS) d.Constant Nothing)) (Declare (map (λ w. required (map to_ascii_lowercase w.now)) FUNCTIONS) d.RequiredFunction Nothing) ≡ write out required_events
 unfolding write
 required_written out = refl
 

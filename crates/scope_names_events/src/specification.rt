@@ -357,7 +357,7 @@ fn write_required(out: &mut Writer) -> Result<(), AllocError>
 {
     declare_required(&TYPES, Denotes::Type, out)?;
     declare_required(&CONSTANTS, Denotes::Constant, out)?;
-    declare_required(&FUNCTIONS, Denotes::Function, out)
+    declare_required(&FUNCTIONS, Denotes::RequiredFunction, out)
 }
 
 /// What a specification says of scopes and names.

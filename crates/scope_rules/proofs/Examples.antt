@@ -1,20 +1,21 @@
 -- What is visible and what is broken, worked by hand on the events of small texts.
-use Rattle.std.proofs.Common.{◌≡◌, ℕ, inl, inr, true, [], ◌∷◌, ◌++◌, Some, None, refl}
+use Rattle.std.proofs.Common.{◌≡◌, ℕ, inl, inr, true, [], ◌∷◌, ◌++◌, Some, None, ap, refl}
 use Rattle.std.specs.Prelude.{codes}
 use Rattle.std.specs.List.{flat_map}
 use Rattle.estelle_tree.specs.declared.span.Span.{Span}
 use Rattle.estelle_tree.specs.declared.names.Use.{Use as Used}
 use Rattle.estelle_tree.specs.declared.tree.name.Name.{Name}
+use Rattle.estelle_tree.specs.Spans.{nowhere}
 use Rattle.scope_rules.specs.declared.declaration.Denotes.TheVariants as d
 use Rattle.scope_rules.specs.declared.declaration.Need.TheVariants as need
 use Rattle.scope_rules.specs.declared.declaration.Inside.TheVariants.{Nothing, At, Named}
 use Rattle.scope_rules.specs.declared.event.ScopeForm.TheVariants as scope
 use Rattle.scope_rules.specs.declared.event.Step.TheVariants as step
-use Rattle.scope_rules.specs.declared.event.Event.TheVariants.{Open, Close, Keep, Import, Receive, Array, Declare, Use, States}
+use Rattle.scope_rules.specs.declared.event.Event.TheVariants.{Open, Close, Keep, Import, Receive, Array, Declare, Use, By, States}
 use Rattle.scope_rules.specs.TypeEvents.{Events, declare}
 use Rattle.scope_rules.specs.SpecificationEvents.{required_events}
 use Rattle.scope_rules.specs.Scopes.{start, after, meaning, sought}
-use Rattle.scope_rules.specs.NameRules.{Breaks, NotVisible, DeclaredTwice, names_from, used}
+use Rattle.scope_rules.specs.NameRules.{Breaks, NotVisible, DeclaredTwice, OfOtherKind, names_from, used}
 
 abbrev span : ℕ → Span
 span n = record { start = n; end = n }
@@ -60,6 +61,16 @@ k_unseen = record {
 n_seen : names_from start (counter 110) ≡ use_at 2 0 ∷ use_at 4 3 ∷ use_at 5 1 ∷ use_at 6 3 ∷ use_at 7 3 ∷ use_at 8 1 ∷ use_at 9 1 ∷ use_at 10 1 ∷ []
 n_seen = refl
 
+-- ---- a required function is called, and never assigned
+
+-- abs := 1
+abs_assigned : OfOtherKind (span 8) (after start (Open scope.Inner ∷ required_events)) (Use (record { word = codes "abs"; span = span 8 }) need.Assigned [])
+abs_assigned = (record { name = record { word = codes "abs"; span = span 8 }; need = need.Assigned; found = Some (record { at = nowhere; denotes = d.RequiredFunction; inside = Some 0 }) }, record { at = nowhere; denotes = d.RequiredFunction; inside = Some 0 }, (inl refl, refl, refl, refl))
+
+-- abs(..)
+abs_called : flat_map used (sought (after start (Open scope.Inner ∷ required_events)) (Use (record { word = codes "abs"; span = span 8 }) need.Function [])) ≡ use_at 8 0 ∷ []
+abs_called = refl
+
 -- ---- bodies inside bodies: what is private in the middle hides what is further out
 
 -- const c, d; in a body: var c; in a body in it, the name
@@ -78,7 +89,7 @@ constant_seen = refl
 
 -- const p; procedure p
 procedure_second : DeclaredTwice (span 8) (after start (Open scope.Body ∷ declare (name 112 8) d.Procedure Nothing)) (Declare (name 112 3 ∷ []) d.Constant Nothing)
-procedure_second = inl (record { at = span 8; denotes = d.Procedure; inside = 0 }, (refl, refl))
+procedure_second = inl (record { at = span 8; denotes = d.Procedure; inside = Some 0 }, (refl, refl))
 
 -- ---- names behind dots
 
@@ -115,7 +126,7 @@ inside_body = refl
 
 -- a name of the body that its header has too
 of_header_too : DeclaredTwice (span 13) (after start with_body) (Declare (name 110 13 ∷ []) d.Variable Nothing)
-of_header_too = inl (record { at = span 3; denotes = d.Variable; inside = 0 }, (refl, refl))
+of_header_too = inl (record { at = span 3; denotes = d.Variable; inside = Some 0 }, (refl, refl))
 
 -- ---- the parameters of an interaction on a way that has a name of `any` already
 
@@ -127,7 +138,53 @@ on_way =
     ∷ Open scope.Inner ∷ Open scope.Further ∷ Declare (name 105 6 ∷ []) d.Constant Nothing ∷ Open scope.Further ∷ []))))
 
 without_list : DeclaredTwice (span 8) (after start on_way) (Receive (name 112 7) (name 109 8) None)
-without_list = ((105 ∷ [], (refl, refl)), refl)
+without_list = inr ((105 ∷ [], (refl, refl, refl)), refl)
 
 with_list : DeclaredTwice (span 9) (after start on_way) (Receive (name 112 7) (name 109 8) (Some (name 105 9 ∷ [])))
-with_list = (name 105 9, (inl refl, refl, refl, refl))
+with_list = inl (name 105 9, (inl refl, refl, refl, refl))
+
+-- the list lacks the parameter
+list_lacks : DeclaredTwice (span 8) (after start on_way) (Receive (name 112 7) (name 109 8) (Some (name 113 9 ∷ [])))
+list_lacks = inr ((105 ∷ [], (refl, refl, refl)), refl)
+
+-- ---- a name whose declaration is at fault: what stands behind its dot is not judged
+
+-- var n; v: n; w: array [..] of n; with the types at 3 and 6, and the array at 5
+abbrev of_no_type : Events
+of_no_type =
+    Open scope.Body ∷ (declare (name 110 1) d.Variable Nothing ++ (declare (name 118 2) d.Variable (Named (name 110 3) need.Type)
+    ++ Array (span 5) (Named (name 110 6) need.Type) ∷ declare (name 119 4) d.Variable (At (span 5))))
+
+no_type : OfOtherKind (span 3) (after start (Open scope.Body ∷ declare (name 110 1) d.Variable Nothing)) (Use (name 110 3) need.Type [])
+no_type = (record { name = name 110 3; need = need.Type; found = Some (record { at = span 1; denotes = d.Variable; inside = Some 0 }) }, record { at = span 1; denotes = d.Variable; inside = Some 0 }, (inl refl, refl, refl, refl))
+
+-- v.f
+behind_no_type : flat_map used (sought (after start of_no_type) (Use (name 118 7) need.Selected (step.Member (name 102 9) need.Component ∷ []))) ≡ use_at 7 2 ∷ []
+behind_no_type = refl
+
+not_judged : NotVisible (span 9) (after start of_no_type) (Use (name 118 7) need.Selected (step.Member (name 102 9) need.Component ∷ [])) → ⊥
+not_judged (x, (inl e, f, h)) = let g : x.found ≡ Some (record { at = span 2; denotes = d.Variable; inside = None }) = ap (λ y. y.found) e in cc
+not_judged (x, (inr e, f, h)) = absurd e
+
+-- w[..].f
+behind_components : NotVisible (span 9) (after start of_no_type) (Use (name 119 7) need.Selected (step.Index ∷ step.Member (name 102 9) need.Component ∷ [])) → ⊥
+behind_components (x, (inl e, f, h)) = let g : x.found ≡ Some (record { at = span 4; denotes = d.Variable; inside = Some 5 }) = ap (λ y. y.found) e in cc
+behind_components (x, (inr e, f, h)) = absurd e
+
+-- ---- roles and interactions hide nothing in the types of parameters
+
+-- type t; channel c(t, q); by t: t(..
+abbrev in_channel : Events
+in_channel =
+    Open scope.Body ∷ (declare (name 116 1) d.Type Nothing ++ (declare (name 99 2) d.Channel (At (span 2)) ++ Open scope.Inner
+    ∷ Declare (name 116 3 ∷ name 113 4 ∷ []) d.Role Nothing ∷ []))
+
+type_seen : flat_map used (sought (after start (in_channel ++ declare (name 116 6) d.Interaction (At (span 6)))) (Use (name 116 8) need.Type [])) ≡ use_at 8 1 ∷ []
+type_seen = refl
+
+role_seen : flat_map used (sought (after start in_channel) (By (name 116 5))) ≡ use_at 5 3 ∷ []
+role_seen = refl
+
+-- a role is no name of a type
+role_unseen : meaning (after start in_channel) (113 ∷ []) ≡ None
+role_unseen = refl

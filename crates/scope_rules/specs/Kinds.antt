@@ -20,11 +20,13 @@ may_be need.Value d.Constant = true
 may_be need.Value d.Variable = true
 may_be need.Value d.Exported = true
 may_be need.Value d.Function = true
+may_be need.Value d.RequiredFunction = true
 may_be need.Assigned d.Variable = true
 may_be need.Assigned d.Exported = true
 may_be need.Assigned d.Function = true
 may_be need.Procedure d.Procedure = true
 may_be need.Function d.Function = true
+may_be need.Function d.RequiredFunction = true
 may_be need.Channel d.Channel = true
 may_be need.Role d.Role = true
 may_be need.Interaction d.Interaction = true
@@ -48,6 +50,12 @@ is_private d.Ip = true
 is_private d.State = true
 is_private d.StateSet = true
 is_private k = false
+
+-- what is found among the names of its channel alone: its roles and interactions
+abbrev pub is_of_channel : Denotes → Bool
+is_of_channel d.Role = true
+is_of_channel d.Interaction = true
+is_of_channel k = false
 
 abbrev pub is_role : Denotes → Bool
 is_role = may_be need.Role

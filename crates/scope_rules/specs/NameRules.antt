@@ -1,6 +1,7 @@
 -- The rules 1 to 5, on names, and which declaration each name in use means.
-use Rattle.std.specs.Prelude.{◌≡◌, ◌≢◌, ℕ, ◌⊎◌, true, false, nat_lt, if◌then◌else◌, List, [], ◌∷◌, ◌++◌, Option, Some, None, IsSome}
+use Rattle.std.specs.Prelude.{◌≡◌, ◌≢◌, ℕ, ◌⊎◌, Bool, true, false, nat_lt, ◌||◌, if◌then◌else◌, List, [], ◌∷◌, ◌++◌, Option, Some, None, IsSome}
 use Rattle.std.specs.List.{flat_map}
+use Rattle.std.specs.Str.{bytes_eq}
 use Rattle.estelle_tree.specs.declared.span.Span.{Span}
 use Rattle.estelle_tree.specs.declared.names.Use.{Use as Used}
 use Rattle.estelle_tree.specs.declared.tree.name.Name.{Name}
@@ -14,7 +15,7 @@ use Rattle.scope_rules.specs.declared.refusal.Breach.{Breach}
 use Rattle.scope_rules.specs.Kinds.{may_be}
 use Rattle.scope_rules.specs.TypeEvents.{Events}
 use Rattle.scope_rules.specs.SpecificationEvents.{events}
-use Rattle.scope_rules.specs.Scopes.{Scopes, start, after, after_one, in_scope, in_names, kept_at, meaning, received, inside_of, declare_one, Sought, sought}
+use Rattle.scope_rules.specs.Scopes.{Scopes, start, after, after_one, in_scope, in_names, kept_at, meaning, reached, received, inside_of, declare_one, Sought, sought}
 
 -- x is one of xs
 abbrev pub IsOne : {A : Type 0} → A → List A → Type 0
@@ -36,18 +37,34 @@ abbrev pub later : Span → Span → Span
 later a b = if nat_lt b.start a.start then a else b
 
 -- of names that are declared one after another, one is declared in the scope before, and this is the second of the two
-abbrev pub SecondOf : Scopes → List Name → Denotes → ℕ → Span → Type 0
+abbrev pub SecondOf : Scopes → List Name → Denotes → Option ℕ → Span → Type 0
 SecondOf s [] k inside at = ⊥
 SecondOf s (x ∷ xs) k inside at = ((d : Declared) × ((in_scope s x.word ≡ Some d) × (at ≡ later d.at x.span))) ⊎ SecondOf (declare_one s x k inside) xs k inside at
 
--- a parameter of an interaction is named as what stands on the way already: at the name in the list behind the interaction, and without a list at the interaction
-abbrev pub SecondParameter : Scopes → ℕ → Name → Option (List Name) → Span → Type 0
-SecondParameter s parameters interaction (Some listed) at = (x : Name) × (IsOne x listed × IsSome (in_names x.word (kept_at s.kept parameters)) × IsSome (in_scope s x.word) × (at ≡ x.span))
-SecondParameter s parameters interaction None at = ((w : List ℕ) × (IsSome (in_names w (kept_at s.kept parameters)) × IsSome (in_scope s w))) × (at ≡ interaction.span)
+-- the names in the list behind an interaction
+abbrev pub names_listed : Option (List Name) → List Name
+names_listed None = []
+names_listed (Some names) = names
+
+abbrev pub is_listed : List ℕ → List Name → Bool
+is_listed w [] = false
+is_listed w (x ∷ xs) = bytes_eq w x.word || is_listed w xs
+
+-- a name in the list behind an interaction is a parameter's, and named as what stands on the way already
+abbrev pub ListedParameter : Scopes → ℕ → List Name → Span → Type 0
+ListedParameter s parameters listed at = (x : Name) × (IsOne x listed × IsSome (in_names x.word (kept_at s.kept parameters)) × IsSome (in_scope s x.word) × (at ≡ x.span))
+
+-- a parameter that the list lacks is named as what stands on the way already
+abbrev pub UnlistedParameter : Scopes → ℕ → List Name → Type 0
+UnlistedParameter s parameters listed = (w : List ℕ) × (IsSome (in_names w (kept_at s.kept parameters)) × IsSome (in_scope s w) × (is_listed w listed ≡ false))
+
+-- a parameter of an interaction is named as what stands on the way already: at its name in the list behind the interaction, and where none stands there, at the interaction
+abbrev pub SecondParameter : Scopes → ℕ → Name → List Name → Span → Type 0
+SecondParameter s parameters interaction listed at = ListedParameter s parameters listed at ⊎ (UnlistedParameter s parameters listed × (at ≡ interaction.span))
 
 abbrev pub DeclaredTwice : Span → Scopes → Event → Type 0
 DeclaredTwice at s (Declare names k inside) = SecondOf s names k (inside_of s inside) at
-DeclaredTwice at s (Receive ip interaction listed) = SecondParameter s (received s ip interaction) interaction listed at
+DeclaredTwice at s (Receive ip interaction listed) = SecondParameter s (received s ip interaction) interaction (names_listed listed) at
 DeclaredTwice at s e = ⊥
 
 -- ---- 2: a name is not visible
@@ -69,7 +86,7 @@ StatesAtFault at s e = ⊥
 -- ---- 5: an `init` names a body of another header than the module variable's
 
 abbrev pub OfOtherHeader : Span → Scopes → Event → Type 0
-OfOtherHeader at s (Init modvar body) = (v : Declared) × (b : Declared) × ((meaning s modvar.word ≡ Some v) × (may_be need.ModuleVariable v.denotes ≡ true) × (meaning s body.word ≡ Some b) × (may_be need.Body b.denotes ≡ true) × (v.inside ≢ b.inside) × (at ≡ body.span))
+OfOtherHeader at s (Init modvar body) = (h : ℕ) × (k : ℕ) × ((reached need.ModuleVariable (meaning s modvar.word) ≡ Some h) × (reached need.Body (meaning s body.word) ≡ Some k) × (h ≢ k) × (at ≡ body.span))
 OfOtherHeader at s e = ⊥
 
 -- ---- the rules of a specification

@@ -15,7 +15,7 @@ use Rattle.scope_rules.specs.declared.event.Step.{Step}
 use Rattle.scope_rules.specs.declared.event.Step.TheVariants as step
 use Rattle.scope_rules.specs.declared.event.Event.{Event}
 use Rattle.scope_rules.specs.declared.event.Event.TheVariants.{Open, Close, Keep, Import, Receive, Array, Declare, Use, By, Init, States}
-use Rattle.scope_rules.specs.Kinds.{may_be, is_private, is_role}
+use Rattle.scope_rules.specs.Kinds.{may_be, is_private, is_of_channel, is_role}
 use Rattle.scope_rules.specs.TypeEvents.{Events}
 
 abbrev pub Word : Type 0
@@ -31,11 +31,11 @@ pub record Level : Type 0 where
   pub names : Scope
   pub within : ℕ
 
--- what stands after some events: the open scopes, innermost first; the scopes that are kept, by places; and for each array type, by its place, the place for which the names behind a component's dot are kept
+-- what stands after some events: the open scopes, innermost first; the scopes that are kept, by places; and for each array type, by its place, the place for which the names behind a component's dot are kept, or none where that is at fault
 pub record Scopes : Type 0 where
   pub levels : List Level
   pub kept : List (ℕ × Scope)
-  pub components : List (ℕ × ℕ)
+  pub components : List (ℕ × Option ℕ)
 
 abbrev pub start : Scopes
 start = record { levels = []; kept = []; components = [] }
@@ -95,37 +95,46 @@ abbrev pub hiding : Bool → Option Declared → Option Declared → Option Decl
 hiding outside None more = more
 hiding outside (Some d) more = seen outside d
 
+-- roles and interactions are no names alone, and hide nothing
+abbrev pub alone : Option Declared → Option Declared
+alone None = None
+alone (Some d) = if is_of_channel d.denotes then None else Some d
+
 -- what a name means: an inner scope hides the outer ones
 abbrev pub meaning_of : List (ℕ × Scope) → Word → Bool → List Level → Option Declared
 meaning_of kept w outside [] = None
-meaning_of kept w outside (l ∷ outer) = hiding outside (in_level kept w l) (meaning_of kept w (outside || is_body l.form) outer)
+meaning_of kept w outside (l ∷ outer) = hiding outside (alone (in_level kept w l)) (meaning_of kept w (outside || is_body l.form) outer)
 
 abbrev pub meaning : Scopes → Word → Option Declared
 meaning s w = meaning_of s.kept w false s.levels
 
 -- ---- what stands behind a dot
 
--- the place for which the names behind a dot are kept, where a name means what its place needs
+-- the place for which the names behind a dot are kept, where a name means what its place needs, and its own declaration is not at fault
 abbrev pub reached : Need → Option Declared → Option ℕ
 reached n None = None
-reached n (Some d) = if may_be n d.denotes then Some d.inside else None
+reached n (Some d) = if may_be n d.denotes then d.inside else None
 
 -- what a name means among those that are kept for a place
 abbrev pub member : Scopes → ℕ → Word → Option Declared
 member s at w = in_names w (kept_at s.kept at)
 
+abbrev pub or_none_kept : Option (Option ℕ) → Option ℕ
+or_none_kept None = Some 0
+or_none_kept (Some at) = at
+
 -- the place for the components of an array type; an index on what is no array reaches nothing
-abbrev pub component : Scopes → ℕ → ℕ
-component s at = or_nothing (lookup (nat_eq at) s.components)
+abbrev pub component : Scopes → ℕ → Option ℕ
+component s at = or_none_kept (lookup (nat_eq at) s.components)
 
 -- the place that a name brings, where it means what is needed
-abbrev pub inside_named : Scopes → Name → Need → ℕ
-inside_named s x n = or_nothing (reached n (meaning s x.word))
+abbrev pub inside_named : Scopes → Name → Need → Option ℕ
+inside_named s x n = reached n (meaning s x.word)
 
--- the place that a declaration brings
-abbrev pub inside_of : Scopes → Inside → ℕ
-inside_of s Nothing = 0
-inside_of s (At span) = span.start
+-- the place that a declaration brings; none where what it names is at fault
+abbrev pub inside_of : Scopes → Inside → Option ℕ
+inside_of s Nothing = Some 0
+inside_of s (At span) = Some span.start
 inside_of s (Named x n) = inside_named s x n
 
 abbrev pub through : Scopes → Option ℕ → Name → Option ℕ
@@ -147,7 +156,7 @@ abbrev pub declared : Word → Declared → Scope → Scope
 declared w d [] = (w, d) ∷ []
 declared w d (e ∷ es) = if bytes_eq w e.0 then (e.0, earlier e.1 d) ∷ es else e ∷ declared w d es
 
-abbrev pub declaration : Name → Denotes → ℕ → Declared
+abbrev pub declaration : Name → Denotes → Option ℕ → Declared
 declaration x k at = record { at = x.span; denotes = k; inside = at }
 
 -- with something done to the innermost scope
@@ -162,10 +171,10 @@ declare_level w d l = record { form = l.form; names = declared w d l.names; with
 abbrev pub declare_word : Scopes → Word → Declared → Scopes
 declare_word s w d = record { levels = innermost (declare_level w d) s.levels; kept = s.kept; components = s.components }
 
-abbrev pub declare_one : Scopes → Name → Denotes → ℕ → Scopes
+abbrev pub declare_one : Scopes → Name → Denotes → Option ℕ → Scopes
 declare_one s x k at = declare_word s x.word (declaration x k at)
 
-abbrev pub declare_all : Scopes → List Name → Denotes → ℕ → Scopes
+abbrev pub declare_all : Scopes → List Name → Denotes → Option ℕ → Scopes
 declare_all s [] k at = s
 declare_all s (x ∷ xs) k at = declare_all (declare_one s x k at) xs k at
 
@@ -189,14 +198,14 @@ abbrev pub keep_at : Scopes → ℕ → Scopes
 keep_at s at = record { levels = below s.levels; kept = put at (names_of_top s.levels) s.kept; components = s.components }
 
 -- an array type stands there, with the place that its components bring
-abbrev pub component_at : Scopes → ℕ → ℕ → Scopes
+abbrev pub component_at : Scopes → ℕ → Option ℕ → Scopes
 component_at s at inside = record { levels = s.levels; kept = s.kept; components = put at inside s.components }
 
 abbrev pub after_one : Scopes → Event → Scopes
 after_one s (Open f) = record { levels = record { form = f; names = []; within = 0 } ∷ s.levels; kept = s.kept; components = s.components }
 after_one s Close = record { levels = below s.levels; kept = s.kept; components = s.components }
 after_one s (Keep span) = keep_at s span.start
-after_one s (Import h) = join_at s (inside_named s h need.Header)
+after_one s (Import h) = join_at s (or_nothing (inside_named s h need.Header))
 after_one s (Receive ip interaction names) = join_at s (received s ip interaction)
 after_one s (Array span of) = component_at s span.start (inside_of s of)
 after_one s (Declare names k inside) = declare_all s names k (inside_of s inside)
@@ -234,7 +243,7 @@ sought_step s at (step.Role x) = sought_role x (member s at x.word)
 
 -- the place that a step leads to
 abbrev pub next_place : Scopes → ℕ → Step → Option ℕ
-next_place s at step.Index = Some (component s at)
+next_place s at step.Index = component s at
 next_place s at (step.Member x n) = reached n (member s at x.word)
 next_place s at (step.Role x) = None
 

@@ -151,7 +151,7 @@ abbrev pub required_events : Events
 required_events =
     Declare (required (codes "integer") ∷ required (codes "boolean") ∷ required (codes "char") ∷ []) d.Type Nothing
     ∷ Declare (required (codes "true") ∷ required (codes "false") ∷ required (codes "maxint") ∷ []) d.Constant Nothing
-    ∷ Declare (required (codes "abs") ∷ required (codes "sqr") ∷ required (codes "odd") ∷ required (codes "succ") ∷ required (codes "pred") ∷ required (codes "ord") ∷ required (codes "chr") ∷ []) d.Function Nothing
+    ∷ Declare (required (codes "abs") ∷ required (codes "sqr") ∷ required (codes "odd") ∷ required (codes "succ") ∷ required (codes "pred") ∷ required (codes "ord") ∷ required (codes "chr") ∷ []) d.RequiredFunction Nothing
     ∷ []
 
 -- the required identifiers are the outermost scope, and the specification is the next one; its own name is in none

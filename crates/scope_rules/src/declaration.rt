@@ -18,6 +18,8 @@ pub enum Denotes {
     Field,
     Procedure,
     Function,
+    /// A required function, which has no body in which its result could be assigned.
+    RequiredFunction,
     Channel,
     Role,
     Interaction,
@@ -78,8 +80,9 @@ pub struct Declared {
     /// The name in its declaration; 0..0 for a required identifier.
     pub at: Span,
     pub denotes: Denotes,
-    /// The place for which the names behind its dot are kept; 0 for none.
-    pub inside: u32,
+    /// The place for which the names behind its dot are kept, 0 for no names; none where its declaration names a type,
+    /// a header or a channel that is at fault.
+    pub inside: Option<u32>,
 }
 
 /// Whether a name that denotes this may stand where that is needed.
@@ -94,11 +97,15 @@ pub fn may_be(need: Need, denotes: Denotes) -> bool
         (Need::Component, Denotes::Field | Denotes::Exported) => true,
         (
             Need::Value,
-            Denotes::Constant | Denotes::Variable | Denotes::Exported | Denotes::Function,
+            Denotes::Constant
+            | Denotes::Variable
+            | Denotes::Exported
+            | Denotes::Function
+            | Denotes::RequiredFunction,
         ) => true,
         (Need::Assigned, Denotes::Variable | Denotes::Exported | Denotes::Function) => true,
         (Need::Procedure, Denotes::Procedure) => true,
-        (Need::Function, Denotes::Function) => true,
+        (Need::Function, Denotes::Function | Denotes::RequiredFunction) => true,
         (Need::Channel, Denotes::Channel) => true,
         (Need::Role, Denotes::Role) => true,
         (Need::Interaction, Denotes::Interaction) => true,

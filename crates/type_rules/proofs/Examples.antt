@@ -1,5 +1,5 @@
 -- Types and broken rules, worked by hand.
-use Rattle.std.proofs.Common.{◌≡◌, ◌∙◌, ℕ, ℤ, suc, true, false, List, [], ◌∷◌, Some, None, refl, ap, sym, subst}
+use Rattle.std.proofs.Common.{◌≡◌, ◌∙◌, ℕ, ℤ, suc, inl, true, false, List, [], ◌∷◌, Option, Some, None, refl, ap, sym, subst}
 use Rattle.std.specs.Prelude.{pos, negsuc, map}
 use Rattle.estelle_tree.specs.declared.span.Span.{Span}
 use Rattle.estelle_tree.specs.declared.names.Use.{Use}
@@ -21,17 +21,20 @@ use Rattle.estelle_tree.specs.declared.tree.expression.Args.{Args}
 use Rattle.estelle_tree.specs.declared.tree.expression.Elem.{Elem}
 use Rattle.estelle_tree.specs.declared.tree.expression.Variable.{Variable as VariableNode}
 use Rattle.type_rules.specs.declared.types.Host.TheVariants as host
+use Rattle.type_rules.specs.declared.types.Base.TheVariants as set_base
+use Rattle.type_rules.specs.declared.types.PascalType.{PascalType}
 use Rattle.type_rules.specs.declared.types.PascalType.TheVariants as t
 use Rattle.type_rules.specs.declared.types.Denoted.{Denoted}
-use Rattle.type_rules.specs.declared.sites.Operator.TheVariants.{Order}
-use Rattle.type_rules.specs.declared.sites.Wanted.TheVariants.{AnInteger, ABoolean}
-use Rattle.type_rules.specs.declared.sites.Site.TheVariants.{Wants, ConstantAt}
-use Rattle.type_rules.specs.Types.{simple, integer, fits, gives, least_integer, maxint, array_type, over_index, as_type, ordinal_count, subrange, is_no_subrange}
+use Rattle.type_rules.specs.declared.sites.Operator.TheVariants.{Arithmetic, Order}
+use Rattle.type_rules.specs.declared.sites.Wanted.TheVariants.{AnInteger, ABoolean, Fitting}
+use Rattle.type_rules.specs.declared.sites.Members.TheVariants.{NoMember}
+use Rattle.type_rules.specs.declared.sites.Site.TheVariants.{Operation, Wants, ConstantAt, LabelAt}
+use Rattle.type_rules.specs.Types.{simple, integer, boolean, fits, gives, set_type, record_type, no_fields, is_no_base, least_integer, maxint, array_type, over_index, as_type, ordinal_count, subrange, is_no_subrange}
 use Rattle.type_rules.specs.Meanings.{Env, env_of, with_entity, declare_one, declare_all, entity_at, declaration_of, known, required_meaning, const_value}
 use Rattle.type_rules.specs.TypeSites.{ordinal_type}
-use Rattle.type_rules.specs.ExpressionSites.{Judged, Selection, value, factor_layer, selector_layer, args_layer, elem_layer, expr_layer, simple_layer, term_layer, variable_layer, factor, selector, args, elem, expr, simple as simple_node, term, variable}
+use Rattle.type_rules.specs.ExpressionSites.{Judged, Selection, value, value_at, operated, signed_typed, negated_typed, with_member, set_type_of, factor_layer, selector_layer, args_layer, elem_layer, expr_layer, simple_layer, term_layer, variable_layer, factor, selector, args, elem, expr, simple as simple_node, term, variable}
 use Rattle.type_rules.specs.SpecificationSites.{const_def, all_of}
-use Rattle.type_rules.specs.PascalRules.{TypesDoNotFit}
+use Rattle.type_rules.specs.PascalRules.{TypesDoNotFit, NoLabel}
 
 abbrev pub at : ℕ → ℕ → Span
 at start end = record { start = start; end = end }
@@ -85,9 +88,73 @@ arrays_differ : fits (t.Array (at 1 5)) (t.Array (at 7 9)) ≡ false
 unfolding fits
 arrays_differ = refl
 
-sets_are_not_ordered : gives Order (t.Set host.Char (at 1 5)) t.EmptySet ≡ None
+sets_are_not_ordered : gives Order (t.Set (set_base.Ordinal host.Char) (at 1 5)) t.EmptySet ≡ None
 unfolding gives
 sets_are_not_ordered = refl
+
+abbrev of_integer : Option PascalType
+of_integer = Some integer
+
+abbrev of_boolean : Option PascalType
+of_boolean = Some boolean
+
+-- ---- a set type is one whatever its base: type r = record .. end, at 1; w: set of r, at 21
+
+abbrev of_records : Denoted
+of_records = set_type (at 21 29) (record_type (at 1 20) no_fields)
+
+-- w := 3 and w := [3] break rule 40 at what is assigned, and rule 44 is broken at the base
+three_to_records : TypesDoNotFit (at 40 41) (Wants (Fitting (t.Set (set_base.Other (at 1 20)) (at 21 29))) (value_at (at 40 41) of_integer))
+unfolding fits
+three_to_records = (refl, refl)
+
+set_of_records : of_records.type_ ≡ Some (t.Set (set_base.Other (at 1 20)) (at 21 29))
+unfolding set_type record_type
+set_of_records = refl
+
+set_of_three : fits (t.Set (set_base.Other (at 1 20)) (at 21 29)) (t.Set (set_base.Ordinal host.Integer) (at 40 43)) ≡ false
+unfolding fits
+set_of_three = refl
+
+records_no_base : is_no_base (record_type (at 1 20) no_fields) ≡ true
+unfolding is_no_base record_type
+records_no_base = refl
+
+-- a set whose base has no type is still no integer, and fits every set
+three_to_unknown : fits (t.Set set_base.Unknown (at 21 29)) integer ≡ false
+unfolding fits
+three_to_unknown = refl
+
+set_to_unknown : fits (t.Set set_base.Unknown (at 21 29)) (t.Set (set_base.Ordinal host.Integer) (at 40 43)) ≡ true
+unfolding fits
+set_to_unknown = refl
+
+-- ---- what is broken has no type, and an operation on what has none is not judged
+
+broken_sum : (operated Arithmetic (value_at (at 1 2) of_integer) (value_at (at 3 4) of_boolean)).type_ ≡ None
+unfolding operated gives
+broken_sum = refl
+
+broken_sign : (signed_typed (at 0 1) (value_at (at 1 2) of_boolean)).type_ ≡ None
+unfolding signed_typed
+broken_sign = refl
+
+broken_not : (negated_typed (at 0 4) (value_at (at 3 4) of_integer)).type_ ≡ None
+unfolding negated_typed
+broken_not = refl
+
+-- [1, true]
+broken_set : set_type_of (at 0 9) (with_member (with_member NoMember (value_at (at 1 2) of_integer)) (value_at (at 4 8) of_boolean)) ≡ None
+unfolding set_type_of with_member fits
+broken_set = refl
+
+not_judged : TypesDoNotFit (at 1 2) (Operation Arithmetic (value_at (at 1 2) None) (value_at (at 3 4) of_boolean)) → ⊥
+not_judged h = h.0
+
+-- ---- the labels of a `case` of a set: each is one of another type
+
+label_of_set : NoLabel (at 9 10) (LabelAt (at 9 10) (Some (t.Set (set_base.Ordinal host.Integer) (at 1 5))) (Some (record { host = host.Integer; ordinal = pos 1 })) false)
+label_of_set = (inl refl, refl)
 
 -- ---- provided 3
 

@@ -22,6 +22,7 @@ use Rattle.estelle_tree.specs.declared.tree.expression.Selector.{Selector}
 use Rattle.estelle_tree.specs.declared.tree.expression.Variable.{Variable as VariableNode}
 use Rattle.type_rules.specs.declared.types.Host.{Host}
 use Rattle.type_rules.specs.declared.types.Host.TheVariants as host
+use Rattle.type_rules.specs.declared.types.Base.TheVariants as set_base
 use Rattle.type_rules.specs.declared.types.PascalType.{PascalType}
 use Rattle.type_rules.specs.declared.types.PascalType.TheVariants as t
 use Rattle.type_rules.specs.declared.meanings.Required.{Required}
@@ -136,7 +137,7 @@ with_member (SomeMembers base fit) e = SomeMembers base (fit && type_passes (is_
 unfoldable pub set_type_of : Span → Members → Option PascalType
 set_type_of at NoMember = Some t.EmptySet
 set_type_of at (SomeMembers None fit) = None
-set_type_of at (SomeMembers (Some h) fit) = where_ fit (t.Set h at)
+set_type_of at (SomeMembers (Some h) fit) = where_ fit (t.Set (set_base.Ordinal h) at)
 
 abbrev pub with_all : Members → List Judged → Members
 with_all m [] = m

@@ -5,6 +5,8 @@ use Rattle.std.specs.Ordering.{int_eq}
 use Rattle.estelle_tree.specs.declared.span.Span.{Span}
 use Rattle.type_rules.specs.declared.types.Host.{Host}
 use Rattle.type_rules.specs.declared.types.Host.TheVariants as host
+use Rattle.type_rules.specs.declared.types.Base.{Base}
+use Rattle.type_rules.specs.declared.types.Base.TheVariants as set_base
 use Rattle.type_rules.specs.declared.types.PascalType.{PascalType}
 use Rattle.type_rules.specs.declared.types.PascalType.TheVariants as t
 use Rattle.type_rules.specs.declared.types.Value.{Value}
@@ -59,7 +61,7 @@ abbrev pub is_boolean : PascalType → Bool
 is_boolean = is_of host.Boolean
 
 abbrev pub is_set : PascalType → Bool
-is_set (t.Set base at) = true
+is_set (t.Set b at) = true
 is_set t.EmptySet = true
 is_set u = false
 
@@ -80,9 +82,19 @@ ordinals_fit a (t.Whole h) = is_of h a
 ordinals_fit a (t.Subrange h at) = is_of h a
 ordinals_fit a b = false
 
+-- bases fit where they are one type; of a type expression at fault that is not judged
+abbrev pub bases_fit : Base → Base → Bool
+bases_fit set_base.Unknown b = true
+bases_fit (set_base.Ordinal g) set_base.Unknown = true
+bases_fit (set_base.Ordinal g) (set_base.Ordinal h) = same_host g h
+bases_fit (set_base.Ordinal g) (set_base.Other b) = false
+bases_fit (set_base.Other a) set_base.Unknown = true
+bases_fit (set_base.Other a) (set_base.Ordinal h) = false
+bases_fit (set_base.Other a) (set_base.Other b) = same_span a b
+
 -- sets fit where their bases do, and the empty set fits every set
 abbrev pub sets_fit : PascalType → PascalType → Bool
-sets_fit (t.Set g a) (t.Set h b) = same_host g h
+sets_fit (t.Set g a) (t.Set h b) = bases_fit g h
 sets_fit (t.Set g a) t.EmptySet = true
 sets_fit t.EmptySet b = is_set b
 sets_fit a b = false
@@ -91,9 +103,15 @@ sets_fit a b = false
 unfoldable pub fits : PascalType → PascalType → Bool
 fits a b = ordinals_fit a b || (sets_fit a b || same_type a b)
 
+-- a type is ordinal, and may be the base
+abbrev pub may_be_of : PascalType → Base → Bool
+may_be_of a (set_base.Ordinal h) = is_of h a
+may_be_of a (set_base.Other at) = false
+may_be_of a set_base.Unknown = is_ordinal a
+
 -- a value of the one may be a member of the other (6.7.2.5)
 abbrev pub may_be_in : PascalType → PascalType → Bool
-may_be_in a (t.Set base at) = is_of base a
+may_be_in a (t.Set b at) = may_be_of a b
 may_be_in a t.EmptySet = is_ordinal a
 may_be_in a b = false
 
@@ -184,17 +202,26 @@ no_fields = record { type_ = None; least = pos 0; greatest = pos 0; simple_parts
 unfoldable pub record_type : Span → Denoted → Denoted
 record_type at fields = record { type_ = Some (t.Fields at); least = pos 0; greatest = pos 0; simple_parts = fields.simple_parts; depth = counted_depth (fields.depth + 1) }
 
--- a set with this base; none where the base is no ordinal type
-abbrev pub set_of : Span → Option Host → Option PascalType
-set_of at None = None
-set_of at (Some base) = Some (t.Set base at)
+-- a type as a base
+abbrev pub as_base : PascalType → Base
+as_base (t.Whole h) = set_base.Ordinal h
+as_base (t.Subrange h at) = set_base.Ordinal h
+as_base (t.Set b at) = set_base.Other at
+as_base t.EmptySet = set_base.Unknown
+as_base (t.Array at) = set_base.Other at
+as_base (t.Fields at) = set_base.Other at
+
+abbrev pub base_of : Option PascalType → Base
+base_of None = set_base.Unknown
+base_of (Some u) = as_base u
 
 abbrev pub host_in : Option PascalType → Option Host
 host_in None = None
 host_in (Some u) = host_of u
 
+-- a set with this base, whatever that is
 unfoldable pub set_type : Span → Denoted → Denoted
-set_type at base = simple (set_of at (host_in base.type_)) (pos 0) (pos 0)
+set_type at d = simple (Some (t.Set (base_of d.type_) at)) (pos 0) (pos 0)
 
 -- a subrange has one host, that of both of its bounds (6.4.2.4)
 unfoldable pub subrange : Span → Option Value → Option Value → Denoted

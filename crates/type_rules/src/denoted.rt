@@ -4,7 +4,7 @@ ghost use Rattle.std.specs.Prelude.{◌≡◌, ◌+◌};
 ghost use Rattle.type_rules.specs.Types as spec;
 
 use crate::types::{
-    Denoted, Host, PascalType, Value, host_of, is_ordinal, is_whole_integer, same_host,
+    Base, Denoted, Host, PascalType, Value, host_of, is_ordinal, is_whole_integer, same_host,
 };
 use estelle_tree::Span;
 
@@ -120,12 +120,24 @@ pub fn record_type(at: Span, fields: Denoted) -> Denoted
     }
 }
 
-fn set_of(at: Span, base: Option<Host>) -> Option<PascalType>
-    ensures { result ≡ spec.set_of at base }
+fn as_base(u: PascalType) -> Base
+    ensures { result ≡ spec.as_base u }
 {
-    match base {
-        None => None,
-        Some(base) => Some(PascalType::Set { base, at }),
+    match u {
+        PascalType::Whole(host) | PascalType::Subrange { host, .. } => Base::Ordinal(host),
+        PascalType::Set { at, .. } | PascalType::Array { at } | PascalType::Fields { at } => {
+            Base::Other { at }
+        }
+        PascalType::EmptySet => Base::Unknown,
+    }
+}
+
+fn base_of(type_: Option<PascalType>) -> Base
+    ensures { result ≡ spec.base_of type_ }
+{
+    match type_ {
+        None => Base::Unknown,
+        Some(u) => as_base(u),
     }
 }
 
@@ -138,11 +150,12 @@ pub fn host_in(type_: Option<PascalType>) -> Option<Host>
     }
 }
 
-/// A set with this base.
+/// A set with this base, whatever that is.
 pub fn set_type(at: Span, base: Denoted) -> Denoted
     ensures { result ≡ spec.set_type at base }
 {
-    simple(set_of(at, host_in(base.type_)), 0, 0)
+    let base = base_of(base.type_);
+    simple(Some(PascalType::Set { base, at }), 0, 0)
 }
 
 /// A subrange by its bounds.

@@ -39,7 +39,7 @@ pub use operations::{
 pub use required::required_meaning;
 pub use sites::{Access, Members, Operator, Place, PlacedSite, RoutineAt, Site, Typed, Wanted};
 pub use types::{
-    Denoted, Host, PascalType, Value, fits, host_of, is_array, is_boolean, is_integer, is_of,
+    Base, Denoted, Host, PascalType, Value, fits, host_of, is_array, is_boolean, is_integer, is_of,
     is_ordinal, is_whole_integer, may_be_in, ordinals_fit, same_host, same_type, same_value,
     sets_fit,
 };

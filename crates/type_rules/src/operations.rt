@@ -9,8 +9,8 @@ use crate::denoted::host_in;
 use crate::meanings::Required;
 use crate::sites::{Access, Members, Operator, Typed, Wanted};
 use crate::types::{
-    Host, PascalType, fits, is_array, is_boolean, is_integer, is_ordinal, may_be_in, ordinals_fit,
-    sets_fit,
+    Base, Host, PascalType, fits, is_array, is_boolean, is_integer, is_ordinal, may_be_in,
+    ordinals_fit, sets_fit,
 };
 use estelle_tree::{Adding, Multiplying, Relation, Span};
 
@@ -240,7 +240,13 @@ pub fn set_type_of(at: Span, members: Members) -> Option<PascalType>
         Members::SomeMembers {
             base: Some(base),
             fit,
-        } => only_where(fit, PascalType::Set { base, at }),
+        } => only_where(
+            fit,
+            PascalType::Set {
+                base: Base::Ordinal(base),
+                at,
+            },
+        ),
     }
 }
 

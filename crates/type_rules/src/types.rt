@@ -15,14 +15,25 @@ pub enum Host {
     Enumeration { at: Span },
 }
 
+/// The base of a set type. One that is no ordinal type is at fault, and the set type is a set type all the same.
+#[derive(Clone, Copy)]
+pub enum Base {
+    /// By its host.
+    Ordinal(Host),
+    /// A type that is not ordinal, by its type expression.
+    Other { at: Span },
+    /// A type expression at fault, which denotes no type.
+    Unknown,
+}
+
 /// A type. A name of a type is the type that it names, so two types are the same where they are equal.
 #[derive(Clone, Copy)]
 pub enum PascalType {
     Whole(Host),
     /// By its type expression.
     Subrange { host: Host, at: Span },
-    /// A set by the host of its base, and by its type expression or its constructor.
-    Set { base: Host, at: Span },
+    /// A set by its base, and by its type expression or its constructor.
+    Set { base: Base, at: Span },
     /// What `[]` is.
     EmptySet,
     /// By its type expression; an array inside one of several indices, by its index.
@@ -161,11 +172,23 @@ pub fn ordinals_fit(a: PascalType, b: PascalType) -> bool
     }
 }
 
+/// Whether two bases are one type; of an unknown one that is not judged.
+fn bases_fit(a: Base, b: Base) -> bool
+    ensures { result ≡ spec.bases_fit a b }
+{
+    match (a, b) {
+        (Base::Unknown, _) | (_, Base::Unknown) => true,
+        (Base::Ordinal(a), Base::Ordinal(b)) => same_host(a, b),
+        (Base::Other { at: a }, Base::Other { at: b }) => same_span(a, b),
+        _ => false,
+    }
+}
+
 pub fn sets_fit(a: PascalType, b: PascalType) -> bool
     ensures { result ≡ spec.sets_fit a b }
 {
     match (a, b) {
-        (PascalType::Set { base: a, .. }, PascalType::Set { base: b, .. }) => same_host(a, b),
+        (PascalType::Set { base: a, .. }, PascalType::Set { base: b, .. }) => bases_fit(a, b),
         (PascalType::Set { .. }, PascalType::EmptySet) => true,
         (PascalType::EmptySet, b) => is_set(b),
         _ => false,
@@ -179,12 +202,23 @@ pub fn fits(a: PascalType, b: PascalType) -> bool
     ordinals_fit(a, b) || sets_fit(a, b) || same_type(a, b)
 }
 
+/// Whether a type is ordinal, and may be the base.
+fn may_be_of(a: PascalType, base: Base) -> bool
+    ensures { result ≡ spec.may_be_of a base }
+{
+    match base {
+        Base::Ordinal(host) => is_of(host, a),
+        Base::Other { .. } => false,
+        Base::Unknown => is_ordinal(a),
+    }
+}
+
 /// Whether a value of the one type may be a member of the other.
 pub fn may_be_in(a: PascalType, b: PascalType) -> bool
     ensures { result ≡ spec.may_be_in a b }
 {
     match b {
-        PascalType::Set { base, .. } => is_of(base, a),
+        PascalType::Set { base, .. } => may_be_of(a, base),
         PascalType::EmptySet => is_ordinal(a),
         _ => false,
     }
