@@ -1,10 +1,10 @@
 -- An input that was run is none to refuse, and one that is refused has one reason.
-use Rattle.std.proofs.Common.{◌≡◌, ◌≤◌, ◌<◌, ℕ, Bool, true, false, List, [], length, drop, Option, Some, None, sym, ap, ◌∙◌, subst, refl, arith}
+use Rattle.std.proofs.Common.{◌≡◌, ℕ, Bool, true, false, List, length, drop, Option, Some, None, sym, ap, ◌∙◌, subst, refl, arith}
 use Rattle.std.specs.Prelude.{IfSome, IsNone, IsTrue}
 use Rattle.std.proofs.lemmas.Bool.Decides.{nat_tests}
 use Rattle.estelle_tree.specs.declared.token.Placed.{Placed}
 use Rattle.estelle_tree.specs.declared.tree.specification.Spec.{Spec}
-use Rattle.estelle_tree.specs.Lexed.{IsLexed, IsBlankFrom, IsFirstOther}
+use Rattle.estelle_tree.specs.Lexed.{IsBlankFrom, IsFirstOther}
 use Rattle.estelle_tree.specs.Spells.{Spells}
 use Rattle.estelle_lexer.specs.Blank.{other_from}
 use Rattle.estelle_lexer.proofs.Answers.{one_list, one_error, not_both}
@@ -13,13 +13,14 @@ use Rattle.scope_rules.specs.declared.refusal.Breach.{Breach}
 use Rattle.scope_rules.specs.Least.{is_before, IsLeast}
 use Rattle.spec_accept.specs.Rules.{RuleBroken}
 use Rattle.run_forms.specs.Forms.{is_built}
-use Rattle.estelle_model.specs.declared.event.End.{End}
-use Rattle.plain_world.specs.declared.world.Limits.{Limits}
 use Rattle.estelle_cli.specs.declared.outcome.Place.{Place}
 use Rattle.estelle_cli.specs.declared.outcome.Refusal.{Refusal}
 use Rattle.estelle_cli.specs.declared.outcome.Refusal.TheVariants.{TooLong, Bytes, TextAfterEnd, Syntax, NotBuilt, Rule}
-use Rattle.estelle_cli.specs.Input.{HasTokens, IsTextOf, Reads, HasNoTokens, HasTextAfterEnd, HasNoTree, HasOtherForm, BreaksRule, Refuses, Same, place_of}
-use Rattle.estelle_cli.specs.Answers.{IsTrace}
+use Rattle.estelle_cli.specs.Input.{HasTokens, IsTextOf, Reads, HasNoTokens, HasTextAfterEnd, HasNoTree, BreaksRule, Refuses, Same, place_of}
+use Rattle.pascal_values.specs.declared.fault.Fault.{Fault}
+use Rattle.estelle_cli.specs.declared.task.Task.{Task}
+use Rattle.estelle_cli.specs.declared.task.Task.TheVariants.{Run, Check, Show}
+use Rattle.estelle_cli.specs.Answers.{IsOutput}
 
 none_some : (r : Option ℕ) (at : ℕ) → IsNone r → r ≡ Some at → ⊥
 none_some None at none some = cc
@@ -99,6 +100,10 @@ one_rule one input n m p q a b =
     let place : p ≡ q = a.place ∙ ap (place_of input) same.1 ∙ sym b.place in
     ap (λ k. Rule k p) number ∙ ap (λ r. Rule m r) place
 
+-- what holds of the task that is asked for
+pub at_task : (o : Option Task) (task : Task) (P : Task → Type 0) → Some task ≡ o → P task → IfSome o P
+at_task o task P e h = subst (λ (u : Option Task). IfSome u P) e h
+
 -- ---- one reason
 
 module _ (one : OneTree) (input : List ℕ) where
@@ -156,8 +161,14 @@ module _ (one : OneTree) where
   at_some : (P : List ℕ → Type 0) (left : Option (List ℕ)) (input : List ℕ) → left ≡ Some input → IfSome left P → P input
   at_some P left input e h = let Q : Option (List ℕ) → Type 0 = λ o. IfSome o P in subst Q e h
 
-  pub traced_refused : (limits : Limits) (left : Option (List ℕ)) (e : End) (text : List ℕ) → IsTrace limits left e text → (r : Refusal) (input : List ℕ) → left ≡ Some input → Refuses r input → ⊥
-  traced_refused limits left e text h r input is refuses = read_or_refused r input h.specification (at_some (λ i. Reads i h.specification) left input is h.input) refuses
+  reads_refused : (left : Option (List ℕ)) (t : Spec) → IfSome left (λ bytes. Reads bytes t) → (r : Refusal) (input : List ℕ) → left ≡ Some input → Refuses r input → ⊥
+  reads_refused left t reads r input is refuses = read_or_refused r input t (at_some (λ i. Reads i t) left input is reads) refuses
+
+  -- an input of which something is written is none to refuse
+  pub output_refused : (task : Task) (left : Option (List ℕ)) (fault : Option Fault) (text : List ℕ) → IsOutput task left fault text → (r : Refusal) (input : List ℕ) → left ≡ Some input → Refuses r input → ⊥
+  output_refused (Run limits) left fault text h = reads_refused left h.2.specification h.2.input
+  output_refused Check left fault text h = reads_refused left h.1.specification h.1.input
+  output_refused Show left fault text h = reads_refused left h.1.specification h.1.input
 
   pub refused_read : (left : Option (List ℕ)) (r : Refusal) (input : List ℕ) (t : Spec) → IfSome left (Refuses r) → left ≡ Some input → Reads input t → ⊥
   refused_read left r input t h is reads = read_or_refused r input t reads (at_some (Refuses r) left input is h)

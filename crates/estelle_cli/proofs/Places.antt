@@ -1,5 +1,5 @@
 -- Where a token starts lies in the text.
-use Rattle.std.proofs.Common.{◌≡◌, ◌≤◌, ◌<◌, ℕ, zero, suc, List, [], ◌∷◌, drop, arith}
+use Rattle.std.proofs.Common.{◌≤◌, ℕ, zero, suc, List, [], ◌∷◌, drop, arith}
 use Rattle.estelle_tree.specs.declared.token.Placed.{Placed}
 use Rattle.estelle_tree.specs.Input.{first_start}
 use Rattle.estelle_tree.specs.Lexed.{FollowOneAnother}

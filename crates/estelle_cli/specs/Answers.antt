@@ -1,11 +1,12 @@
 -- What a call of the program answers, and why.
-use Rattle.std.specs.Prelude.{◌≡◌, ℕ, List, ◌++◌, Option, IfSome, codes}
+use Rattle.std.specs.Prelude.{◌≡◌, ℕ, List, ◌++◌, Option, Some, None, IfSome, codes}
 use Rattle.std.specs.Fmt.{decimal}
 use Rattle.std.specs.Io.KnownBytes.{Appends, IsAtEnd}
 use Rattle.outside.specs.Counts.{Rose}
 use Rattle.outside.specs.Bytes.{AppendsFront}
 use Rattle.pascal_values.specs.declared.fault.Fault.{Fault}
 use Rattle.estelle_tree.specs.declared.tree.specification.Spec.{Spec}
+use Rattle.estelle_printer.specs.Canonical.{IsCanonicalText}
 use Rattle.scope_rules.specs.NameRules.{names_of}
 use Rattle.estelle_model.specs.declared.event.Event.{Event}
 use Rattle.estelle_model.specs.declared.event.End.{End}
@@ -19,6 +20,8 @@ use Rattle.plain_world.specs.declared.world.Limits.{Limits}
 use Rattle.estelle_cli.specs.declared.outcome.Place.{Place}
 use Rattle.estelle_cli.specs.declared.outcome.Refusal.{Refusal}
 use Rattle.estelle_cli.specs.declared.outcome.Refusal.TheVariants.{TooLong, Bytes, TextAfterEnd, Syntax, NotBuilt, Rule}
+use Rattle.estelle_cli.specs.declared.task.Task.{Task}
+use Rattle.estelle_cli.specs.declared.task.Task.TheVariants.{Run, Check, Show}
 use Rattle.estelle_cli.specs.declared.outcome.Outcome.{Outcome}
 use Rattle.estelle_cli.specs.declared.outcome.Outcome.TheVariants as outcome
 use Rattle.estelle_cli.specs.declared.outcome.Status.{Status}
@@ -26,6 +29,10 @@ use Rattle.estelle_cli.specs.declared.outcome.Status.TheVariants as status
 use Rattle.estelle_cli.specs.Input.{Reads, Refuses}
 
 -- ---- what is written to out
+
+-- what `check` writes
+abbrev pub accepted_line : List ℕ
+accepted_line = codes "accepted" ++ line_end
 
 -- the specification, with what its names mean
 abbrev pub subject : Spec → Subject
@@ -42,25 +49,47 @@ pub record IsTrace (limits : Limits) (left : Option (List ℕ)) (e : End) (writt
   pub scheduled : (clock : Option ℕ) → IsScheduled (subject specification) limits.budget limits.turns clock events e
   pub lines : written ≡ text events e
 
--- out has grown by just such a trace
-pub record WritesTrace (limits : Limits) (left : Option (List ℕ)) (e : End) (held held' : Option (List ℕ)) : Type 0 where
-  pub written : List ℕ
-  pub trace : IsTrace limits left e written
-  pub appends : Appends held held' written
-
--- out has grown by a prefix of such a trace
-pub record WritesPrefix (limits : Limits) (left : Option (List ℕ)) (held held' : Option (List ℕ)) : Type 0 where
-  pub end : End
-  pub written : List ℕ
-  pub trace : IsTrace limits left end written
-  pub appends : AppendsFront held held' written
-
 -- an end that no fault made
 abbrev pub IsGood : End → Type 0
 IsGood end.Dead = Unit {0}
 IsGood end.Turns = Unit {0}
 IsGood end.Clock = ⊥
 IsGood (end.Faulted kind) = ⊥
+
+-- the run ended at this fault; or well, where there is none
+abbrev pub EndsWith : Option Fault → End → Type 0
+EndsWith None e = IsGood e
+EndsWith (Some kind) e = e ≡ end.Faulted kind
+
+-- the specification that the input spells keeps all rules
+pub record IsAccepted (left : Option (List ℕ)) : Type 0 where
+  pub specification : Spec
+  pub input : IfSome left (λ bytes. Reads bytes specification)
+
+-- the text is the canonical one of such a specification
+pub record IsShown (left : Option (List ℕ)) (written : List ℕ) : Type 0 where
+  pub specification : Spec
+  pub input : IfSome left (λ bytes. Reads bytes specification)
+  pub canonical : IsCanonicalText specification written
+
+-- what a task writes of an input, and the fault with which its run ended, if it did
+abbrev pub IsOutput : Task → Option (List ℕ) → Option Fault → List ℕ → Type 0
+IsOutput (Run limits) left fault written = (e : End) × EndsWith fault e × IsTrace limits left e written
+IsOutput Check left fault written = (fault ≡ None) × IsAccepted left × (written ≡ accepted_line)
+IsOutput Show left fault written = (fault ≡ None) × IsShown left written
+
+-- out has grown by just that
+pub record Writes (task : Task) (left : Option (List ℕ)) (fault : Option Fault) (held held' : Option (List ℕ)) : Type 0 where
+  pub written : List ℕ
+  pub output : IsOutput task left fault written
+  pub appends : Appends held held' written
+
+-- out has grown by a prefix of it
+pub record WritesPrefix (task : Task) (left : Option (List ℕ)) (held held' : Option (List ℕ)) : Type 0 where
+  pub fault : Option Fault
+  pub written : List ℕ
+  pub output : IsOutput task left fault written
+  pub appends : AppendsFront held held' written
 
 -- nothing went to out
 pub record IsQuiet (held held' : Option (List ℕ)) (faults faults' : ℕ) : Type 0 where
@@ -106,7 +135,7 @@ pub record Reports (held held' : Option (List ℕ)) (faults faults' : ℕ) (word
 
 -- ---- by the status
 
--- the run came to its end, and its trace was written
+-- the task was done, and its output was written
 abbrev pub IsFinished : Status → Type 0
 IsFinished status.Done = Unit {0}
 IsFinished status.PascalFault = Unit {0}
@@ -117,16 +146,16 @@ IsFinished status.WriteFault = ⊥
 IsFinished status.ClockFault = ⊥
 IsFinished status.Memory = ⊥
 
--- there was no trace to write
-abbrev pub HasNoTrace : Status → Type 0
-HasNoTrace status.Done = ⊥
-HasNoTrace status.PascalFault = ⊥
-HasNoTrace status.WriteFault = ⊥
-HasNoTrace status.Refused = Unit {0}
-HasNoTrace status.Usage = Unit {0}
-HasNoTrace status.ReadFault = Unit {0}
-HasNoTrace status.ClockFault = Unit {0}
-HasNoTrace status.Memory = Unit {0}
+-- there was nothing to write
+abbrev pub HasNoOutput : Status → Type 0
+HasNoOutput status.Done = ⊥
+HasNoOutput status.PascalFault = ⊥
+HasNoOutput status.WriteFault = ⊥
+HasNoOutput status.Refused = Unit {0}
+HasNoOutput status.Usage = Unit {0}
+HasNoOutput status.ReadFault = Unit {0}
+HasNoOutput status.ClockFault = Unit {0}
+HasNoOutput status.Memory = Unit {0}
 
 -- what may be answered where the input is to be refused: the refusal, or what comes before it
 abbrev pub MayRefuse : Status → Type 0
@@ -139,7 +168,7 @@ MayRefuse status.WriteFault = ⊥
 MayRefuse status.ClockFault = ⊥
 MayRefuse status.PascalFault = ⊥
 
--- what may be answered where nothing fails: a finished run, or want of memory
+-- what may be answered where nothing fails: the task is done, or memory is wanted
 abbrev pub MayFinish : Status → Type 0
 MayFinish status.Done = Unit {0}
 MayFinish status.PascalFault = Unit {0}
@@ -150,16 +179,27 @@ MayFinish status.ReadFault = ⊥
 MayFinish status.WriteFault = ⊥
 MayFinish status.ClockFault = ⊥
 
+-- what may be answered where nothing is asked for
+abbrev pub MayBeUsage : Status → Type 0
+MayBeUsage status.Usage = Unit {0}
+MayBeUsage status.Memory = Unit {0}
+MayBeUsage status.Done = ⊥
+MayBeUsage status.Refused = ⊥
+MayBeUsage status.ReadFault = ⊥
+MayBeUsage status.WriteFault = ⊥
+MayBeUsage status.ClockFault = ⊥
+MayBeUsage status.PascalFault = ⊥
+
 -- ---- inside
 
--- how the writing of a trace with this end came out
-abbrev pub Emits : List ℕ → End → Option (List ℕ) → Option (List ℕ) → ℕ → ℕ → Outcome → Type 0
-Emits written e held held' faults faults' outcome.Done = IsGood e × Appends held held' written
-Emits written e held held' faults faults' (outcome.PascalFault kind) = (e ≡ end.Faulted kind) × Appends held held' written
-Emits written e held held' faults faults' outcome.WriteFault = Rose faults faults' × AppendsFront held held' written
-Emits written e held held' faults faults' (outcome.Refused refusal words) = ⊥
-Emits written e held held' faults faults' outcome.ReadFault = ⊥
-Emits written e held held' faults faults' outcome.Memory = ⊥
+-- how the writing of an output came out
+abbrev pub Emits : List ℕ → Option Fault → Option (List ℕ) → Option (List ℕ) → ℕ → ℕ → Outcome → Type 0
+Emits written fault held held' faults faults' outcome.Done = (fault ≡ None) × Appends held held' written
+Emits written fault held held' faults faults' (outcome.PascalFault kind) = (fault ≡ Some kind) × Appends held held' written
+Emits written fault held held' faults faults' outcome.WriteFault = Rose faults faults' × AppendsFront held held' written
+Emits written fault held held' faults faults' (outcome.Refused refusal words) = ⊥
+Emits written fault held held' faults faults' outcome.ReadFault = ⊥
+Emits written fault held held' faults faults' outcome.Memory = ⊥
 
 -- refused with its line, unless memory ran out
 abbrev pub IsRefusedOr : Refusal → Outcome → Type 0
@@ -171,15 +211,15 @@ IsRefusedOr refusal outcome.ReadFault = ⊥
 IsRefusedOr refusal outcome.WriteFault = ⊥
 
 -- why a call ended so: by what the source had left and has, what out held and holds, and their counts
-abbrev pub Explains : Limits → Option (List ℕ) → Option (List ℕ) → ℕ → ℕ → Option (List ℕ) → Option (List ℕ) → ℕ → ℕ → Outcome → Type 0
-Explains limits left left' reads reads' held held' writes writes' outcome.Done =
-    (e : End) × IsGood e × WritesTrace limits left e held held' × IsAtEnd left'
-Explains limits left left' reads reads' held held' writes writes' (outcome.PascalFault kind) =
-    WritesTrace limits left (end.Faulted kind) held held' × IsAtEnd left'
-Explains limits left left' reads reads' held held' writes writes' (outcome.Refused refusal words) =
+abbrev pub Explains : Task → Option (List ℕ) → Option (List ℕ) → ℕ → ℕ → Option (List ℕ) → Option (List ℕ) → ℕ → ℕ → Outcome → Type 0
+Explains task left left' reads reads' held held' writes writes' outcome.Done =
+    Writes task left None held held' × IsAtEnd left'
+Explains task left left' reads reads' held held' writes writes' (outcome.PascalFault kind) =
+    Writes task left (Some kind) held held' × IsAtEnd left'
+Explains task left left' reads reads' held held' writes writes' (outcome.Refused refusal words) =
     IfSome left (Refuses refusal) × (words ≡ refusal_line refusal) × IsQuiet held held' writes writes'
-Explains limits left left' reads reads' held held' writes writes' outcome.ReadFault =
+Explains task left left' reads reads' held held' writes writes' outcome.ReadFault =
     Rose reads reads' × IsQuiet held held' writes writes'
-Explains limits left left' reads reads' held held' writes writes' outcome.WriteFault =
-    Rose writes writes' × WritesPrefix limits left held held'
-Explains limits left left' reads reads' held held' writes writes' outcome.Memory = IsQuiet held held' writes writes'
+Explains task left left' reads reads' held held' writes writes' outcome.WriteFault =
+    Rose writes writes' × WritesPrefix task left held held'
+Explains task left left' reads reads' held held' writes writes' outcome.Memory = IsQuiet held held' writes writes'

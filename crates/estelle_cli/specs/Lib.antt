@@ -1,4 +1,4 @@
-pub mod Words
+pub mod Tasks
 pub mod Statuses
 pub mod Input
 pub mod Answers

@@ -1,17 +1,17 @@
-//! The program: it reads a specification, runs it, and writes the trace of its run.
+//! The program: it reads a specification, and runs it and writes the trace of its run, or says whether it is accepted, or
+//! writes its canonical text.
 #![tactic(auto)]
 
-mod command;
 mod input;
 mod laws;
 mod lines;
 mod outcome;
 mod program;
+mod task;
 mod trace;
-mod words;
 
-pub use command::{Command, Settings};
+pub use estelle_words::{Command, Settings, settings};
 pub use laws::one_refusal;
 pub use outcome::Status;
 pub use program::estelle_plain;
-pub use words::settings;
+pub use task::{Task, asked};

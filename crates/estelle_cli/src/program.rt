@@ -1,25 +1,28 @@
 //! The program on one thread.
 
-ghost use Rattle.std.specs.Prelude.{◌≡◌, ◌≢◌, ◌≤◌, ◌+◌, ◌↔◌, List, ℕ, Some, IfSome, IsSome, IsNone, IfOk, OnOk, IfErr};
+ghost use Rattle.std.specs.Prelude.{◌≡◌, ◌≢◌, ◌≤◌, ◌+◌, List, ℕ, None, Some, IfSome, IsSome, IsNone, IfOk, OnOk, IfErr};
 ghost use Rattle.std.specs.Io.KnownBytes.{IsAtEnd};
 ghost use Rattle.outside.specs.Counts.{Rose};
 ghost use Rattle.pascal_values.specs.declared.fault.Fault.{Fault};
 ghost use Rattle.estelle_tree.specs.declared.tree.specification.Spec.{Spec};
-ghost use Rattle.estelle_model.specs.declared.event.End.{End};
-ghost use Rattle.plain_world.specs.Worlds.{IsClockless};
+ghost use Rattle.estelle_words.specs.Words.{texts};
 ghost use Rattle.estelle_cli.specs.declared.outcome.Refusal.{Refusal};
-ghost use Rattle.estelle_cli.specs.Words.{meaning, texts, limits_meant};
+ghost use Rattle.estelle_cli.specs.declared.task.Task.TheVariants as task;
+ghost use Rattle.estelle_cli.specs.Tasks.{asked};
 ghost use Rattle.estelle_cli.specs.Input.{Reads, Refuses, TakesAtMost, HasStopped, input_limit};
-ghost use Rattle.estelle_cli.specs.Answers.{IsTrace, WritesTrace, WritesPrefix, IsGood, IsQuiet, Reports, usage_line, refusal_line, read_fault_line, write_fault_line, memory_line, fault_line, IsFinished, HasNoTrace, MayRefuse, MayFinish, Emits, IsRefusedOr, Explains};
+ghost use Rattle.estelle_cli.specs.Answers.{IsTrace, IsOutput, Writes, WritesPrefix, IsQuiet, Reports, usage_line, refusal_line, read_fault_line, write_fault_line, memory_line, fault_line, IsFinished, HasNoOutput, MayRefuse, MayFinish, MayBeUsage, Emits, IsRefusedOr, Explains};
+ghost use Rattle.plain_world.specs.Worlds.{IsClockless};
 
 use crate::input::load;
 use crate::lines::{fault_line, refusal_line};
 use crate::outcome::{Outcome, Refusal, Status, Stop};
-use crate::trace::write;
-use crate::words::settings;
+use crate::task::{Task, asked};
+use crate::trace::{put, write};
 use estelle_model::End;
+use estelle_printer::spell;
 use estelle_tree::Text;
 use outside::{Clock, Sink, Source, write_all};
+use pascal_values::Fault;
 use plain_world::{Limits, execute};
 use std::alloc::Global;
 
@@ -44,17 +47,77 @@ fn traced<S: Source>(alloc: Global, limits: Limits, source: &mut S) -> Result<(T
     Ok((text, end))
 }
 
-/// Writes the trace.
-fn emit<K: Sink>(out: &mut K, text: &Text, end: End) -> Outcome
-    requires { IsClockless end }
-    ensures { Emits text.now end (K.held out.old) (K.held out.new) (K.faults out.old) (K.faults out.new) result }
+/// The same, with the fault with which the run ended, if it did.
+fn ran<S: Source>(
+    alloc: Global,
+    limits: Limits,
+    source: &mut S,
+) -> Result<(Text, Option<Fault>), Stop>
+    ensures output { IfOk result (λ x. IsOutput (task.Run limits) (S.left source.old) x.1 x.0) }
+    ensures end { OnOk result (IsAtEnd (S.left source.new)) }
+    ensures stops { TakesAtMost (input_limit + 1) (S.left source.old) (S.left source.new) }
+    ensures cause { IfErr result (HasStopped (S.left source.old) (S.faults source.old) (S.faults source.new)) }
+{
+    let (text, end) = traced(alloc, limits, source)?;
+    match end {
+        End::Faulted(kind) => Ok((text, Some(kind))),
+        End::Dead | End::Turns => Ok((text, None)),
+        End::Clock => unreachable!(),
+    }
+}
+
+/// Reads the input, and says that it is accepted.
+fn accepted<S: Source>(alloc: Global, source: &mut S) -> Result<(Text, Option<Fault>), Stop>
+    ensures output { IfOk result (λ x. IsOutput task.Check (S.left source.old) x.1 x.0) }
+    ensures end { OnOk result (IsAtEnd (S.left source.new)) }
+    ensures stops { TakesAtMost (input_limit + 1) (S.left source.old) (S.left source.new) }
+    ensures cause { IfErr result (HasStopped (S.left source.old) (S.faults source.old) (S.faults source.new)) }
+{
+    let _checked = load(alloc, source)?;
+    let mut line = Vec::new(alloc);
+    put(&mut line, b"accepted\n")?;
+    Ok((Text::of(line), None))
+}
+
+/// Reads the input, and gives its canonical text.
+fn shown<S: Source>(alloc: Global, source: &mut S) -> Result<(Text, Option<Fault>), Stop>
+    ensures output { IfOk result (λ x. IsOutput task.Show (S.left source.old) x.1 x.0) }
+    ensures end { OnOk result (IsAtEnd (S.left source.new)) }
+    ensures stops { TakesAtMost (input_limit + 1) (S.left source.old) (S.left source.new) }
+    ensures cause { IfErr result (HasStopped (S.left source.old) (S.faults source.old) (S.faults source.new)) }
+{
+    let checked = load(alloc, source)?;
+    let text = spell(alloc, &checked.spec)?;
+    Ok((text, None))
+}
+
+/// Does the task with the input, and gives what is to be written, with the fault with which a run ended, if it did.
+fn output<S: Source>(
+    alloc: Global,
+    task: Task,
+    source: &mut S,
+) -> Result<(Text, Option<Fault>), Stop>
+    ensures output { IfOk result (λ x. IsOutput task (S.left source.old) x.1 x.0) }
+    ensures end { OnOk result (IsAtEnd (S.left source.new)) }
+    ensures stops { TakesAtMost (input_limit + 1) (S.left source.old) (S.left source.new) }
+    ensures cause { IfErr result (HasStopped (S.left source.old) (S.faults source.old) (S.faults source.new)) }
+{
+    match task {
+        Task::Run(limits) => ran(alloc, limits, source),
+        Task::Check => accepted(alloc, source),
+        Task::Show => shown(alloc, source),
+    }
+}
+
+/// Writes an output.
+fn emit<K: Sink>(out: &mut K, text: &Text, fault: Option<Fault>) -> Outcome
+    ensures { Emits text.now fault (K.held out.old) (K.held out.new) (K.faults out.old) (K.faults out.new) result }
 {
     match write_all(out, text.items()) {
         Err(_) => Outcome::WriteFault,
-        Ok(()) => match end {
-            End::Faulted(kind) => Outcome::PascalFault(kind),
-            End::Dead | End::Turns => Outcome::Done,
-            End::Clock => unreachable!(),
+        Ok(()) => match fault {
+            Some(kind) => Outcome::PascalFault(kind),
+            None => Outcome::Done,
         },
     }
 }
@@ -68,27 +131,23 @@ fn refused(alloc: Global, refusal: Refusal) -> Outcome
     }
 }
 
-/// Reads, runs and writes. The line for err is left to the caller.
-fn perform<S: Source, K: Sink>(
-    alloc: Global,
-    limits: Limits,
-    source: &mut S,
-    out: &mut K,
-) -> Outcome
-    ensures explains { Explains limits (S.left source.old) (S.left source.new) (S.faults source.old) (S.faults source.new)
+/// Reads, does the task and writes. The line for err is left to the caller.
+fn perform<S: Source, K: Sink>(alloc: Global, task: Task, source: &mut S, out: &mut K) -> Outcome
+    ensures explains { Explains task (S.left source.old) (S.left source.new) (S.faults source.old) (S.faults source.new)
         (K.held out.old) (K.held out.new) (K.faults out.old) (K.faults out.new) result }
     ensures stops { TakesAtMost (input_limit + 1) (S.left source.old) (S.left source.new) }
 {
-    match traced(alloc, limits, source) {
-        Ok((text, end)) => emit(out, &text, end),
+    match output(alloc, task, source) {
+        Ok((text, fault)) => emit(out, &text, fault),
         Err(Stop::Refused(refusal)) => refused(alloc, refusal),
         Err(Stop::ReadFault) => Outcome::ReadFault,
         Err(Stop::Memory) => Outcome::Memory,
     }
 }
 
-/// The program on one thread: it reads a specification from the source, runs it, and writes the trace
-/// of its run to out, and at most one line to err. It returns on every input.
+/// The program on one thread. It does what the words ask for with the specification that the source has left: it runs it and
+/// writes the trace of its run to out, or judges its rules and writes `accepted` or its canonical text. It writes at most one
+/// line to err. It returns on every input.
 pub fn estelle_plain<S: Source, K: Sink, E: Sink, C: Clock>(
     alloc: Global,
     words: &[&str],
@@ -97,30 +156,32 @@ pub fn estelle_plain<S: Source, K: Sink, E: Sink, C: Clock>(
     err: &mut E,
     clock: C,
 ) -> (Status, C)
-    // Status 0: what was written is the trace of a run of the specification that the source had left,
-    // from its initial situation on, which ended deadlocked or at the limit of firings.
-    ensures done { result.0 ≡ Status.Done → (e : End) × IsGood e
-        × WritesTrace (limits_meant (texts words.now)) (S.left source.old) e (K.held out.old) (K.held out.new) }
+    // Status 0: what was written is what the words ask for. For `run` that is the trace of a run of the specification that the
+    // source had left, from its initial situation on, which ended deadlocked or at the limit of firings; for `check` it is the
+    // line `accepted`, and for `show` the canonical text, of a specification that keeps all rules.
+    ensures done { result.0 ≡ Status.Done → IfSome (asked (texts words.now))
+        (λ task. Writes task (S.left source.old) None (K.held out.old) (K.held out.new)) }
     ensures done_line { result.0 ≡ Status.Done → err.new ≡ err.old }
 
     // Status 7: it is the trace of such a run, which ended at the fault that its last line names.
     ensures pascal_fault { result.0 ≡ Status.PascalFault → (kind : Fault)
-        × WritesTrace (limits_meant (texts words.now)) (S.left source.old) (End.Faulted kind) (K.held out.old) (K.held out.new)
+        × IfSome (asked (texts words.now)) (λ task. Writes task (S.left source.old) (Some kind) (K.held out.old) (K.held out.new))
         × Reports (E.held err.old) (E.held err.new) (E.faults err.old) (E.faults err.new) (fault_line kind) }
     ensures read_whole { IsFinished result.0 → IsAtEnd (S.left source.new) }
 
-    // Status 2: the words have no meaning, and nothing was read.
-    ensures usage { (result.0 ≡ Status.Usage) ↔ IsNone (meaning (texts words.now)) }
+    // Status 2: the words ask for nothing that is built, and nothing was read.
+    ensures usage { result.0 ≡ Status.Usage → IsNone (asked (texts words.now)) }
+    ensures no_usage { IsNone (asked (texts words.now)) → MayBeUsage result.0 }
     ensures usage_line { result.0 ≡ Status.Usage
         → Reports (E.held err.old) (E.held err.new) (E.faults err.old) (E.faults err.new) usage_line }
-    ensures usage_reads_nothing { result.0 ≡ Status.Usage → source.new ≡ source.old }
+    ensures usage_reads_nothing { IsNone (asked (texts words.now)) → source.new ≡ source.old }
 
     // Status 1: the input is too long, or has a byte with which no token begins, or text behind `end.`, or no
     // specification spells its tokens, or that has a form that is not run yet, or breaks a static rule; and such an
     // input is refused.
     ensures refused { result.0 ≡ Status.Refused → (refusal : Refusal) × IfSome (S.left source.old) (Refuses refusal)
         × Reports (E.held err.old) (E.held err.new) (E.faults err.old) (E.faults err.new) (refusal_line refusal) }
-    ensures refuses { (refusal : Refusal) (input : List ℕ) → IsSome (meaning (texts words.now)) → S.left source.old ≡ Some input
+    ensures refuses { (refusal : Refusal) (input : List ℕ) → IsSome (asked (texts words.now)) → S.left source.old ≡ Some input
         → Refuses refusal input → MayRefuse result.0 }
 
     // Status 3: the source has failed.
@@ -128,10 +189,10 @@ pub fn estelle_plain<S: Source, K: Sink, E: Sink, C: Clock>(
     ensures read_fault_line { result.0 ≡ Status.ReadFault
         → Reports (E.held err.old) (E.held err.new) (E.faults err.old) (E.faults err.new) read_fault_line }
 
-    // Status 4: out has failed, and has taken a prefix of the trace of such a run.
+    // Status 4: out has failed, and has taken a prefix of what was to be written.
     ensures write_fault { result.0 ≡ Status.WriteFault → Rose (K.faults out.old) (K.faults out.new) }
-    ensures write_fault_prefix { result.0 ≡ Status.WriteFault
-        → WritesPrefix (limits_meant (texts words.now)) (S.left source.old) (K.held out.old) (K.held out.new) }
+    ensures write_fault_prefix { result.0 ≡ Status.WriteFault → IfSome (asked (texts words.now))
+        (λ task. WritesPrefix task (S.left source.old) (K.held out.old) (K.held out.new)) }
     ensures write_fault_line { result.0 ≡ Status.WriteFault
         → Reports (E.held err.old) (E.held err.new) (E.faults err.old) (E.faults err.new) write_fault_line }
 
@@ -139,12 +200,12 @@ pub fn estelle_plain<S: Source, K: Sink, E: Sink, C: Clock>(
     ensures memory_line { result.0 ≡ Status.Memory
         → Reports (E.held err.old) (E.held err.new) (E.faults err.old) (E.faults err.new) memory_line }
 
-    // Without a trace nothing is written to out.
-    ensures quiet { HasNoTrace result.0 → IsQuiet (K.held out.old) (K.held out.new) (K.faults out.old) (K.faults out.new) }
+    // Without an output nothing is written to out.
+    ensures quiet { HasNoOutput result.0 → IsQuiet (K.held out.old) (K.held out.new) (K.faults out.old) (K.faults out.new) }
 
-    // Where neither the source nor out fails, a specification of the forms that are run is run to its end, unless
-    // memory runs out.
-    ensures complete { (input : List ℕ) (t : Spec) → IsSome (meaning (texts words.now)) → S.left source.old ≡ Some input
+    // Where neither the source nor out fails, the task is done with a specification of the forms that are run which keeps all
+    // rules, unless memory runs out.
+    ensures complete { (input : List ℕ) (t : Spec) → IsSome (asked (texts words.now)) → S.left source.old ≡ Some input
         → Reads input t → (Rose (S.faults source.old) (S.faults source.new) → ⊥) → (Rose (K.faults out.old) (K.faults out.new) → ⊥)
         → MayFinish result.0 }
 
@@ -155,11 +216,18 @@ pub fn estelle_plain<S: Source, K: Sink, E: Sink, C: Clock>(
     ensures clock { result.1 ≡ clock }
     ensures no_clock_fault { result.0 ≢ Status.ClockFault }
 {
-    let Some(settings) = settings(words) else {
-        report(err, b"estelle: usage\n");
-        return (Status::Usage, clock);
+    let task = match asked(alloc, words) {
+        Ok(Some(task)) => task,
+        Ok(None) => {
+            report(err, b"estelle: usage\n");
+            return (Status::Usage, clock);
+        }
+        Err(_) => {
+            report(err, b"estelle: no memory\n");
+            return (Status::Memory, clock);
+        }
     };
-    match perform(alloc, settings.limits(), source, out) {
+    match perform(alloc, task, source, out) {
         Outcome::Done => (Status::Done, clock),
         Outcome::PascalFault(kind) => {
             report(err, fault_line(kind));

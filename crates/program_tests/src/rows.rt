@@ -2,7 +2,8 @@
 
 use crate::calls::{ALL_STEADY, Device, Devices, STEADY, call, run};
 use crate::traces::{COUNTER_TRACE, DEADLOCK, OVERFLOW_TRACE, OVERFLOWING, TURNS, filled, trace};
-use estelle_cli::{Command, Settings, Status, settings};
+use estelle_cli::{Status, Task, asked};
+use plain_world::Limits;
 use std::test::Fail;
 use test_texts::{COUNTER, counter_with};
 
@@ -83,7 +84,7 @@ type Row = (
     Status,
 );
 
-const ROWS: [Row; 7] = [
+const ROWS: [Row; 14] = [
     (
         "counter",
         &["run"],
@@ -126,19 +127,113 @@ const ROWS: [Row; 7] = [
         Status::Refused,
     ),
     ("empty", &["run"], "", "", NO_SYNTAX, Status::Refused),
+    (
+        "no turn",
+        &["run", "--turns=0"],
+        COUNTER,
+        NO_TURN,
+        "",
+        Status::Done,
+    ),
+    (
+        "one turn",
+        &["run", "--turns", "1"],
+        COUNTER,
+        ONE_TURN,
+        "",
+        Status::Done,
+    ),
+    (
+        "checked",
+        &["check"],
+        COUNTER,
+        "accepted\n",
+        "",
+        Status::Done,
+    ),
+    (
+        "checked, and its run would fault",
+        &["check"],
+        OVERFLOWING,
+        "accepted\n",
+        "",
+        Status::Done,
+    ),
+    ("shown", &["show"], COUNTER, SHOWN_COUNTER, "", Status::Done),
+    (
+        "shown again",
+        &["show"],
+        SHOWN_COUNTER,
+        SHOWN_COUNTER,
+        "",
+        Status::Done,
+    ),
+    (
+        "empty, shown",
+        &["show"],
+        "",
+        "",
+        NO_SYNTAX,
+        Status::Refused,
+    ),
 ];
 
-/// Words that have no meaning.
-const MEANINGLESS: [&[&str]; 8] = [
+/// Words that have no meaning, and words whose meaning is not built.
+const MEANINGLESS: [&[&str]; 12] = [
     &[],
     &[""],
     &["Run"],
     &["run "],
-    &["check"],
     &["--help"],
     &["run", "run"],
-    &["run", "--turns=1"],
+    &["run", "--turns=1", "--turns", "2"],
+    &["check", "--turns=1"],
+    &["run", "--seed=1"],
+    &["run", "--workers=2"],
+    &["replay"],
+    &["make", "--stations=2"],
 ];
+
+/// Words that ask for something, and what.
+const ASKING: [(&[&str], Task); 4] = [
+    (
+        &["run"],
+        Task::Run(Limits {
+            turns: 10_000,
+            budget: 1_000_000,
+        }),
+    ),
+    (
+        &["run", "--budget", "5", "--turns=0"],
+        Task::Run(Limits {
+            turns: 0,
+            budget: 5,
+        }),
+    ),
+    (&["check"], Task::Check),
+    (&["show"], Task::Show),
+];
+
+/// The counter, in canonical form.
+const SHOWN_COUNTER: &str = "specification count systemprocess ;
+var n : integer ;
+state go ;
+initialize to go begin n := 0 end ;
+trans from go to go provided n < 3 name tick : begin n := n + 1 end ;
+end .
+";
+
+const NO_TURN: &str = "estelle trace 1
+start
+end turns
+";
+
+const ONE_TURN: &str = "estelle trace 1
+start
+select / now 0 takes /:1
+fire / 1
+end turns
+";
 
 /// The name of a row; a text, and how long it is with blanks behind it; how many bytes of that are read; what
 /// out and err then hold, and the status.
@@ -219,15 +314,21 @@ const SPOILED: [(&str, &str, &str); 5] = [
     ("n < 3", "3", "rule 40 6:24"),
 ];
 
-// The places of refusals, by hand.
+/// The commands that read a specification.
+const READING: [&[&str]; 3] = [&["run"], &["check"], &["show"]];
+
+// The places of refusals, by hand; they are the same for each command.
 #[test]
 fn spoiled_counters(rt: HostRuntime) -> Result<(), Fail> {
     for (old, new, reason) in &SPOILED {
         let text = COUNTER.replace(rt.alloc(), *old, new)?;
-        let answer = run(rt.alloc(), ALL_STEADY, text.as_bytes())?;
         let line = format!(in rt.alloc(); "estelle: {reason}\n")?;
-        assert_eq!(rt; answer.status, Status::Refused, "{reason}");
-        assert_eq!(rt; answer.err.as_slice(), line.as_bytes(), "{reason}");
+        for words in &READING {
+            let answer = call(rt.alloc(), words, ALL_STEADY, text.as_bytes())?;
+            assert_eq!(rt; answer.status, Status::Refused, "{reason}");
+            assert_eq!(rt; answer.out.len(), 0, "{reason}");
+            assert_eq!(rt; answer.err.as_slice(), line.as_bytes(), "{reason}");
+        }
     }
     let answer = run(rt.alloc(), ALL_STEADY, b"specification $;".as_slice())?;
     assert_eq!(rt; answer.err.as_slice(), b"estelle: bytes 1:15\n".as_slice());
@@ -301,20 +402,39 @@ fn meaningless_words(rt: HostRuntime) -> Result<(), Fail> {
     Ok(())
 }
 
-// The meaning of `run`, and the numbers of the statuses.
+// What words ask for, and the numbers of the statuses.
 #[test]
-fn settings_and_codes(rt: HostRuntime) {
-    let meant = Settings {
-        command: Command::Run,
-        turns: 10_000,
-        budget: 1_000_000,
-    };
-    assert_eq!(rt; settings(&["run"]), Some(meant));
-    assert_eq!(rt; meant.limits().turns, 10_000);
-    assert_eq!(rt; meant.limits().budget, 1_000_000);
+fn tasks_and_codes(rt: HostRuntime) -> Result<(), Fail> {
+    for (words, task) in &ASKING {
+        assert_eq!(rt; asked(rt.alloc(), words)?, Some(*task));
+    }
     for (status, code) in &CODES {
         assert_eq!(rt; status.code(), *code);
     }
+    Ok(())
+}
+
+/// The units that a firing needs: a block of five turns of a loop, and one of six; the status where it has five units.
+const UNITS: [(&str, &str, Status); 2] = [
+    ("for i := 1 to 5 do n := 3", "", Status::Done),
+    (
+        "for i := 1 to 6 do n := 3",
+        "estelle: fault StepLimit\n",
+        Status::PascalFault,
+    ),
+];
+
+// The budget that the words give is that of each firing.
+#[test]
+fn budgets(rt: HostRuntime) -> Result<(), Fail> {
+    for (block, line, status) in &UNITS {
+        let text = counter_with(rt.alloc(), "var i: integer;", "n < 3", block)?;
+        let words = ["run", "--budget", "5"];
+        let answer = call(rt.alloc(), &words, ALL_STEADY, text.as_bytes())?;
+        assert_eq!(rt; answer.status, *status, "{block}");
+        assert_eq!(rt; answer.err.as_slice(), line.as_bytes(), "{block}");
+    }
+    Ok(())
 }
 
 // The longest input, to the byte; the length is looked at before the text; and no more than one byte

@@ -1,0 +1,48 @@
+//! What the words of the command line ask for.
+
+ghost use Rattle.std.specs.Prelude.{◌≡◌, IfOk};
+ghost use Rattle.estelle_words.specs.Words.{texts};
+ghost use Rattle.estelle_cli.specs.Tasks.{asked, task_of};
+
+use estelle_words::{Command, Settings, settings};
+use plain_world::Limits;
+use std::alloc::{AllocError, Global};
+
+/// What is done with the input.
+#[derive(Clone, Copy, Debug, PartialEq, Eq)]
+pub enum Task {
+    /// It is run, and the trace of its run is written.
+    Run(Limits),
+    /// Its rules are judged.
+    Check,
+    /// Its rules are judged, and its canonical text is written.
+    Show,
+}
+
+/// The task that settings stand for, if it is built.
+fn task_of(settings: Settings) -> Option<Task>
+    ensures { result ≡ task_of settings }
+{
+    match settings.command {
+        Command::Run => match (settings.seed, settings.workers) {
+            (None, 0) => Some(Task::Run(Limits {
+                turns: settings.turns,
+                budget: settings.budget,
+            })),
+            _ => None,
+        },
+        Command::Check => Some(Task::Check),
+        Command::Show => Some(Task::Show),
+        Command::Replay | Command::Make | Command::Trial => None,
+    }
+}
+
+/// What the words behind the program's name ask for, where they have a meaning and it is built.
+pub fn asked(alloc: Global, words: &[&str]) -> Result<Option<Task>, AllocError>
+    ensures { IfOk result (λ found. found ≡ asked (texts words.now)) }
+{
+    match settings(alloc, words)? {
+        Some(settings) => Ok(task_of(settings)),
+        None => Ok(None),
+    }
+}
