@@ -2,7 +2,8 @@
 
 use estelle_tree::{
     Adding, Const, Direction, Expr, Factor, Formal, Formals, Multiplying, Name, NameList, Ordinal,
-    Relation, Routine, RoutineForm, Sequence, Sign, Span, Stmt, Stmts, TypeExpr, TypedNames,
+    Relation, Routine, RoutineForm, Sequence, Sign, Simple, Span, Stmt, Stmts, Term, TypeExpr,
+    TypedNames,
 };
 use pascal_parser::{expression, routine, statements, type_expr};
 use std::alloc::Global;
@@ -76,38 +77,50 @@ fn word_of(factor: &Factor) -> &[u8] {
     }
 }
 
+/// `a * b`, behind one byte.
+fn is_product(term: &Term) -> bool {
+    term.span == Span { start: 1, end: 4 }
+        && term.first.span() == Span { start: 1, end: 2 }
+        && word_of(&term.first) == b"a".as_slice()
+        && match term.others.items() {
+            [(Multiplying::Star, factor)] => word_of(factor) == b"b".as_slice(),
+            _ => false,
+        }
+}
+
+/// `- c + d`
+fn are_terms(others: &[(Adding, Term)]) -> bool {
+    match others {
+        [(Adding::Minus, third), (Adding::Plus, fourth)] => word_of(&third.first) == b"c".as_slice()
+            && word_of(&fourth.first) == b"d".as_slice(),
+        _ => false,
+    }
+}
+
+/// `-a*b-c+d`
+fn is_sum(left: &Simple) -> bool {
+    left.span == Span { start: 0, end: 8 }
+        && matches!(left.sign, Some(Sign::Minus))
+        && is_product(&left.first)
+        && are_terms(left.others.items())
+}
+
+/// `< e`
+fn is_less(right: &Option<(Relation, Simple)>) -> bool {
+    match right {
+        Some((relation, right)) => *relation == Relation::Less
+            && word_of(&right.first.first) == b"e".as_slice(),
+        None => false,
+    }
+}
+
 // A sign belongs to the first term, and operators of one rank apply from left to right.
 #[test]
 fn operators(rt: HostRuntime) -> Result<(), Fail> {
-    let alloc = rt.alloc();
-    let whole = expression_of(alloc, "-a*b-c+d<e")?;
+    let whole = expression_of(rt.alloc(), "-a*b-c+d<e")?;
     assert_eq!(rt; whole.span, Span { start: 0, end: 10 });
-    assert_eq!(rt; whole.left.span, Span { start: 0, end: 8 });
-    assert_eq!(rt; whole.left.sign, Some(Sign::Minus));
-    let first = &whole.left.first;
-    assert_eq!(rt; first.span, Span { start: 1, end: 4 });
-    assert_eq!(rt; first.first.span(), Span { start: 1, end: 2 });
-    assert_eq!(rt; word_of(&first.first), b"a".as_slice());
-    for (operator, factor) in first.others.items() {
-        assert_eq!(rt; *operator, Multiplying::Star);
-        assert_eq!(rt; word_of(factor), b"b".as_slice());
-    }
-    let mut words = Vec::new(alloc);
-    for (operator, term) in whole.left.others.items() {
-        words.push((*operator, word_of(&term.first)))?;
-    }
-    let wanted = [
-        (Adding::Minus, b"c".as_slice()),
-        (Adding::Plus, b"d".as_slice()),
-    ];
-    assert_eq!(rt; words.as_slice(), wanted.as_slice());
-    match &whole.right {
-        Some((relation, right)) => {
-            assert_eq!(rt; *relation, Relation::Less);
-            assert_eq!(rt; word_of(&right.first.first), b"e".as_slice());
-        }
-        None => return Err(Fail::new("no relation")),
-    }
+    assert!(rt; is_sum(&whole.left));
+    assert!(rt; is_less(&whole.right));
     Ok(())
 }
 
@@ -166,30 +179,47 @@ fn is_record(found: &TypeExpr, start: u32, end: u32) -> bool {
 }
 
 #[test]
-fn types(rt: HostRuntime) -> Result<(), Fail> {
-    let alloc = rt.alloc();
-    let name = type_of(alloc, "a")?;
+fn names_of_types(rt: HostRuntime) -> Result<(), Fail> {
+    let name = type_of(rt.alloc(), "a")?;
     assert_eq!(rt; name.span(), Span { start: 0, end: 1 });
-    assert!(rt; is_enumeration(&type_of(alloc, "  ( b , c )")?, 2, 11));
-    assert!(rt; is_subrange(&type_of(alloc, "            d .. - 1")?, 12, 20));
-    let array = type_of(
-        alloc,
-        "packed array [ a , 1 .. 2 ] of record b , c : set of d ; end ;",
-    )?;
-    match &array {
+    Ok(())
+}
+
+#[test]
+fn enumerations(rt: HostRuntime) -> Result<(), Fail> {
+    assert!(rt; is_enumeration(&type_of(rt.alloc(), "  ( b , c )")?, 2, 11));
+    Ok(())
+}
+
+#[test]
+fn subranges(rt: HostRuntime) -> Result<(), Fail> {
+    assert!(rt; is_subrange(&type_of(rt.alloc(), "            d .. - 1")?, 12, 20));
+    Ok(())
+}
+
+/// A packed array with two indices, of records.
+fn is_array(found: &TypeExpr) -> bool {
+    match found {
         TypeExpr::Array {
             packed,
             indices,
             component,
             span,
-        } => {
-            assert_eq!(rt; *packed, true);
-            assert_eq!(rt; indices.items().len(), 2);
-            assert!(rt; is_record(component.get(), 31, 60));
-            assert_eq!(rt; *span, Span { start: 0, end: 60 });
-        }
-        _ => return Err(Fail::new("another form")),
+        } => *packed
+            && indices.items().len() == 2
+            && is_record(component.get(), 31, 60)
+            && *span == Span { start: 0, end: 60 },
+        _ => false,
     }
+}
+
+#[test]
+fn arrays(rt: HostRuntime) -> Result<(), Fail> {
+    let array = type_of(
+        rt.alloc(),
+        "packed array [ a , 1 .. 2 ] of record b , c : set of d ; end ;",
+    )?;
+    assert!(rt; is_array(&array));
     Ok(())
 }
 
@@ -279,18 +309,29 @@ fn are_lists(all: &Stmts) -> bool {
     }
 }
 
-// To which `if` an `else` belongs, what is told of choices, and what stands in lists.
+// To which `if` an `else` belongs.
 #[test]
-fn statement_nodes(rt: HostRuntime) -> Result<(), Fail> {
-    let alloc = rt.alloc();
-    let nested = statements_of(alloc, "if a then if b then x else y")?;
+fn nearest_else(rt: HostRuntime) -> Result<(), Fail> {
+    let nested = statements_of(rt.alloc(), "if a then if b then x else y")?;
     assert_eq!(rt; nearest(&nested), (b"x".as_slice(), b"y".as_slice()));
+    Ok(())
+}
+
+// What is told of choices.
+#[test]
+fn choices(rt: HostRuntime) -> Result<(), Fail> {
     let choices = statements_of(
-        alloc,
+        rt.alloc(),
         "for i := 1 to 2 do ; for i := 1 downto 2 do ; case a of 1 : end ; case a of 1 : ; end",
     )?;
     assert!(rt; are_choices(&choices));
-    assert!(rt; are_lists(&statements_of(alloc, "p(1,f(2,3));a.b[1,2]:=0")?));
+    Ok(())
+}
+
+// What stands in lists.
+#[test]
+fn arguments_and_indices(rt: HostRuntime) -> Result<(), Fail> {
+    assert!(rt; are_lists(&statements_of(rt.alloc(), "p(1,f(2,3));a.b[1,2]:=0")?));
     Ok(())
 }
 
@@ -319,29 +360,42 @@ fn are_formals(found: &Formals, start: u32, end: u32) -> bool {
     }
 }
 
-// Routines with the parts that may be missing.
+/// A function with all parts that may be missing.
+fn is_function(function: &Routine) -> bool {
+    let is_result = match &function.form {
+        RoutineForm::Function { result } => is(result, b"u"),
+        RoutineForm::Procedure => false,
+    };
+    is_result
+        && is(&function.name, b"f")
+        && function.formals.is_some()
+        && function.decls.items().len() == 1
+        && function.body.stmts.items().len() == 2
+        && function.span == Span { start: 0, end: 56 }
+}
+
 #[test]
-fn routines(rt: HostRuntime) -> Result<(), Fail> {
-    let alloc = rt.alloc();
+fn functions(rt: HostRuntime) -> Result<(), Fail> {
     let text = "function f ( a : t ) : u ; var b : t ; begin x ; y end ; begin z end ;";
-    let function = routine_of(alloc, text)?;
-    assert!(rt; is(&function.name, b"f"));
-    match &function.form {
-        RoutineForm::Function { result } => assert!(rt; is(result, b"u")),
-        RoutineForm::Procedure => return Err(Fail::new("no function")),
-    }
-    assert_eq!(rt; function.formals.is_some(), true);
-    assert_eq!(rt; function.decls.items().len(), 1);
-    assert_eq!(rt; function.body.stmts.items().len(), 2);
-    assert_eq!(rt; function.span, Span { start: 0, end: 56 });
+    let function = routine_of(rt.alloc(), text)?;
+    assert!(rt; is_function(&function));
+    Ok(())
+}
+
+fn is_procedure(procedure: &Routine) -> bool {
+    let has_formals = match &procedure.formals {
+        Some(found) => are_formals(found, 23, 52),
+        None => false,
+    };
+    has_formals && matches!(procedure.form, RoutineForm::Procedure)
+}
+
+#[test]
+fn procedures(rt: HostRuntime) -> Result<(), Fail> {
     let procedure = routine_of(
-        alloc,
+        rt.alloc(),
         "procedure p            ( var d , e : f ; g , h : k ) ; begin end ;",
     )?;
-    match &procedure.formals {
-        Some(found) => assert!(rt; are_formals(found, 23, 52)),
-        None => return Err(Fail::new("no formals")),
-    }
-    assert!(rt; matches!(procedure.form, RoutineForm::Procedure));
+    assert!(rt; is_procedure(&procedure));
     Ok(())
 }

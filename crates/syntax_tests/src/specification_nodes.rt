@@ -1,8 +1,8 @@
 //! Whole specifications: the nodes that are read.
 
 use estelle_tree::{
-    Attr, Block, BlockDecl, Channel, Clause, Const, Decl, DelayHigh, Disc, Head, Header, Kind,
-    Label, Name, NameList, NextState, Parts, Sequence, Sign, Span, Spec, SysAttr, TransBody,
+    Attr, Block, BlockDecl, Channel, Clause, Const, Decl, DelayHigh, Disc, Head, Header, Init,
+    Kind, Label, Name, NameList, NextState, Parts, Sequence, Sign, Span, Spec, SysAttr, TransBody,
 };
 use std::alloc::Global;
 use std::test::Fail;
@@ -87,49 +87,93 @@ fn is_inner(parts: &Parts) -> bool {
     }
 }
 
+/// The one body among some declarations.
+fn is_body(decl: Option<&Decl>) -> bool {
+    match decl {
+        Some(Decl::Body(body)) => is(&body.name, b"k")
+            && is(&body.header, b"h")
+            && is_inner(&body.parts),
+        _ => false,
+    }
+}
+
+fn is_routine(decl: Option<&Decl>) -> bool {
+    matches!(decl, Some(Decl::Routine(_)))
+}
+
+/// The word with which a declaration begins, where it has no statements.
+fn kind_of(decl: Option<&Decl>) -> Kind {
+    match decl {
+        Some(decl) => part_of(decl).0,
+        None => Kind::Nothing,
+    }
+}
+
+/// A channel, a header, a body, module variables and two routines.
+fn are_six(decls: &[Decl]) -> bool {
+    kind_of(decls.get(0)) == Kind::Channel
+        && kind_of(decls.get(1)) == Kind::Module
+        && is_body(decls.get(2))
+        && kind_of(decls.get(3)) == Kind::Modvar
+        && is_routine(decls.get(4))
+        && is_routine(decls.get(5))
+}
+
+fn is_default(head: Option<&Head>) -> bool {
+    matches!(head, Some(Head::Default { .. }))
+}
+
+fn is_timescale(head: Option<&Head>) -> bool {
+    matches!(head, Some(Head::Timescale { .. }))
+}
+
+fn is_without_state(init: &Option<Init>) -> bool {
+    match init {
+        Some(init) => init.to.is_none(),
+        None => false,
+    }
+}
+
+/// All of the text, but for what stands behind its end.
+fn is_whole(read: &Spec) -> bool {
+    is(&read.name, b"s")
+        && matches!(read.attr, Some(SysAttr::Systemprocess { .. }))
+        && read.heads.items().len() == 2
+        && is_default(read.heads.items().get(0))
+        && is_timescale(read.heads.items().get(1))
+        && counts(&read.parts) == (6, 2)
+        && is_without_state(&read.parts.init)
+        && are_six(read.parts.decls.items())
+        && read.span == Span { start: 0, end: 362 }
+        && read.parts.span
+            == Span {
+                start: 70,
+                end: 357,
+            }
+}
+
 #[test]
 fn whole_specification(rt: HostRuntime) -> Result<(), Fail> {
-    let alloc = rt.alloc();
-    let read = spec(alloc, "", TEXT)?;
-    assert!(rt; is(&read.name, b"s"));
-    assert!(rt; matches!(read.attr, Some(SysAttr::Systemprocess { .. })));
-    assert!(rt;
-        matches!(
-            read.heads.items(),
-            [Head::Default { .. }, Head::Timescale { .. }]
-        )
-    );
-    assert_eq!(rt; counts(&read.parts), (6, 2));
-    assert!(rt; matches!(&read.parts.init, Some(init) if init.to.is_none()));
-    assert!(rt;
-        matches!(
-            read.parts.decls.items(),
-            [
-                Decl::Channel(_),
-                Decl::Header(_),
-                Decl::Body(body),
-                Decl::Modvar { .. },
-                Decl::Routine(_),
-                Decl::Routine(_),
-            ] if is(&body.name, b"k") && is(&body.header, b"h") && is_inner(&body.parts)
-        )
-    );
-    assert_eq!(rt; read.span, Span { start: 0, end: 362 });
-    assert_eq!(rt;
-        read.parts.span,
-        Span {
-            start: 70,
-            end: 357
-        }
-    );
-    let empty = spec(alloc, "", "specification s; end.")?;
-    assert_eq!(rt; empty.parts.span, Span { start: 0, end: 0 });
-    let inner = spec(
-        alloc,
+    let read = spec(rt.alloc(), "", TEXT)?;
+    assert!(rt; is_whole(&read));
+    Ok(())
+}
+
+#[test]
+fn no_parts(rt: HostRuntime) -> Result<(), Fail> {
+    let read = spec(rt.alloc(), "", "specification s; end.")?;
+    assert_eq!(rt; read.parts.span, Span { start: 0, end: 0 });
+    Ok(())
+}
+
+#[test]
+fn no_declarations(rt: HostRuntime) -> Result<(), Fail> {
+    let read = spec(
+        rt.alloc(),
         HEADING,
         "initialize to a begin end; trans begin end; end.",
     )?;
-    assert_eq!(rt; counts(&inner.parts), (0, 1));
+    assert_eq!(rt; counts(&read.parts), (0, 1));
     Ok(())
 }
 
@@ -263,43 +307,85 @@ fn are_constants(decl: &Decl) -> bool {
     }
 }
 
-// What stands in heads, channels, headers and constants.
+/// The attribute and the heads of a specification.
+fn are_heads_of(read: &Spec) -> bool {
+    let is_attribute = match &read.attr {
+        Some(attribute) => matches!(attribute, SysAttr::Systemactivity { .. })
+            && attribute.span() == behind(16, (0, 14)),
+        None => false,
+    };
+    is_attribute && are_heads(read.heads.items())
+}
+
+// What stands in heads.
 #[test]
-fn parts_of_declarations(rt: HostRuntime) -> Result<(), Fail> {
-    let alloc = rt.alloc();
+fn heads(rt: HostRuntime) -> Result<(), Fail> {
     let read = spec(
-        alloc,
+        rt.alloc(),
         "specification s systemactivity ;",
         " timescale seconds ; default common queue ; end.",
     )?;
-    assert!(rt;
-        matches!(read.attr, Some(SysAttr::Systemactivity { span }) if span == behind(16, (0, 14)))
-    );
-    assert!(rt; matches!(read.attr, Some(attribute) if attribute.span() == behind(16, (0, 14))));
-    assert!(rt; are_heads(read.heads.items()));
+    assert!(rt; are_heads_of(&read));
+    Ok(())
+}
+
+fn is_one_channel(decls: &[Decl]) -> bool {
+    match decls {
+        [only] => is_channel(only) && only.span() == behind(17, (0, 73)),
+        _ => false,
+    }
+}
+
+// What stands in a channel.
+#[test]
+fn channels(rt: HostRuntime) -> Result<(), Fail> {
     let read = declared(
-        alloc,
+        rt.alloc(),
         "channel a ( b , c ) ; by b , c : d ; e ( f , g : h ; i : k ) ; by c : l ;",
     )?;
-    assert!(rt;
-        matches!(read.parts.decls.items(), [only] if is_channel(only) && only.span() == behind(17, (0, 73)))
-    );
+    assert!(rt; is_one_channel(read.parts.decls.items()));
+    Ok(())
+}
+
+fn is_full_at(decl: Option<&Decl>) -> bool {
+    match decl {
+        Some(Decl::Header(full)) => is_full(full) && full.span == behind(17, (0, 103)),
+        _ => false,
+    }
+}
+
+fn is_bare_at(decl: Option<&Decl>) -> bool {
+    match decl {
+        Some(Decl::Header(bare)) => is_bare(bare)
+            && matches!(bare.attr, Some(attribute) if attribute.span() == behind(17, (113, 121))),
+        _ => false,
+    }
+}
+
+// What stands in headers.
+#[test]
+fn headers(rt: HostRuntime) -> Result<(), Fail> {
     let read = declared(
-        alloc,
+        rt.alloc(),
         "module a systemprocess ( b : c ) ; ip d : e ( f ) individual queue ; g : h ( i ) ; export k : l ; end ; module m activity ; end ;",
     )?;
-    match read.parts.decls.items() {
-        [Decl::Header(full), Decl::Header(bare)] => {
-            assert!(rt; is_full(full) && is_bare(bare));
-            assert_eq!(rt; full.span, behind(17, (0, 103)));
-            assert!(rt;
-                matches!(bare.attr, Some(attribute) if attribute.span() == behind(17, (113, 121)))
-            );
-        }
-        _ => return Err(Fail::new("no headers")),
+    let decls = read.parts.decls.items();
+    assert!(rt; decls.len() == 2 && is_full_at(decls.get(0)) && is_bare_at(decls.get(1)));
+    Ok(())
+}
+
+fn is_one_list_of_constants(decls: &[Decl]) -> bool {
+    match decls {
+        [only] => are_constants(only),
+        _ => false,
     }
-    let read = declared(alloc, "const a = - 3 ; b = + c ; d = 'x' ;")?;
-    assert!(rt; matches!(read.parts.decls.items(), [only] if are_constants(only)));
+}
+
+// What stands in constants.
+#[test]
+fn constants(rt: HostRuntime) -> Result<(), Fail> {
+    let read = declared(rt.alloc(), "const a = - 3 ; b = + c ; d = 'x' ;")?;
+    assert!(rt; is_one_list_of_constants(read.parts.decls.items()));
     Ok(())
 }
 
@@ -353,22 +439,31 @@ const CLAUSES: [(&str, Kind, usize); 14] = [
     ("delay ( 1 , * )", Kind::Delay, 2),
 ];
 
+/// The one group of a transition has a clause of this kind, with so many parts, up to this byte.
+fn is_one_group(body: Option<&TransBody>, kind: Kind, parts: usize, end: u32) -> bool {
+    match body {
+        Some(TransBody::Groups { groups, .. }) => match groups.items() {
+            [only] => parts_of(&only.clause) == (kind, parts)
+                && only.clause.span() == behind(23, (0, end)),
+            _ => false,
+        },
+        _ => false,
+    }
+}
+
+/// Whether the transition of this text has such a clause.
+fn has_clause(alloc: Global, text: &str, kind: Kind, parts: usize) -> Result<bool, Fail> {
+    let end = u32::try_from(text.len()).unwrap_or(0);
+    let whole = format!(in alloc; "{text} begin end ;")?;
+    let read = with_transition(alloc, &whole)?;
+    Ok(is_one_group(body_of(&read), kind, parts, end))
+}
+
 // Each form of a clause, its optional and repeated parts absent, once and twice.
 #[test]
 fn clauses(rt: HostRuntime) -> Result<(), Fail> {
-    let alloc = rt.alloc();
     for (text, kind, parts) in &CLAUSES {
-        let end = u32::try_from(text.len()).unwrap_or(0);
-        let whole = format!(in alloc; "{text} begin end ;")?;
-        let read = with_transition(alloc, &whole)?;
-        let Some(TransBody::Groups { groups, .. }) = body_of(&read) else {
-            return Err(Fail::new("no groups"));
-        };
-        for group in groups.items() {
-            assert_eq!(rt; parts_of(&group.clause), (*kind, *parts), "{text}");
-            assert!(rt; group.clause.span() == behind(23, (0, end)), "{text}");
-        }
-        assert_eq!(rt; groups.items().len(), 1, "{text}");
+        assert!(rt; has_clause(rt.alloc(), text, *kind, *parts)?, "{text}");
     }
     Ok(())
 }
@@ -429,38 +524,70 @@ const BLOCK_PARTS: [(Kind, usize, (u32, u32)); 3] = [
     (Kind::Var, 2, (35, 63)),
 ];
 
-// A label before the declarations, after them, and neither; no, one and two parts of declarations; and what stands in
-// them.
+/// Whether the transition of this text is a block with these labels, and so many declarations.
+fn has_block(
+    alloc: Global,
+    text: &str,
+    label: Option<u8>,
+    decls: usize,
+    late: Option<u8>,
+) -> Result<bool, Fail> {
+    let read = with_transition(alloc, text)?;
+    match body_of(&read) {
+        Some(TransBody::Block(block)) => Ok(is_block(block, label, decls, late)),
+        _ => Ok(false),
+    }
+}
+
+// A label before the declarations, after them, and neither; no, one and two parts of declarations.
 #[test]
 fn blocks(rt: HostRuntime) -> Result<(), Fail> {
-    let alloc = rt.alloc();
     for (text, label, decls, late) in &BLOCKS {
-        let read = with_transition(alloc, text)?;
-        match body_of(&read) {
-            Some(TransBody::Block(block)) => {
-                assert!(rt; is_block(block, *label, *decls, *late), "{text}");
-            }
-            _ => return Err(Fail::new("no block")),
+        assert!(rt;
+            has_block(rt.alloc(), text, *label, *decls, *late)?,
+            "{text}"
+        );
+    }
+    Ok(())
+}
+
+/// The parts of declarations of a block are those.
+fn are_block_parts(block: &Block) -> bool {
+    let decls = block.decls.items();
+    if decls.len() != BLOCK_PARTS.len() {
+        return false;
+    }
+    for (decl, (kind, count, place)) in decls.iter().zip(BLOCK_PARTS) {
+        let span = behind(23, place);
+        if block_part_of(decl) != (kind, count, span) || decl.span() != span {
+            return false;
         }
     }
+    true
+}
+
+// What stands in the declarations of a block.
+#[test]
+fn parts_of_blocks(rt: HostRuntime) -> Result<(), Fail> {
     let text = "const a = 1 ; b = 2 ; type c = d ; var e , f : g ; h : 1 .. 2 ; begin end ;";
-    let read = with_transition(alloc, text)?;
-    let Some(TransBody::Block(block)) = body_of(&read) else {
-        return Err(Fail::new("no block"));
-    };
-    assert_eq!(rt; block.decls.items().len(), BLOCK_PARTS.len());
-    for (decl, (kind, count, place)) in block.decls.items().iter().zip(BLOCK_PARTS) {
-        assert_eq!(rt; block_part_of(decl), (kind, count, behind(23, place)));
-        assert_eq!(rt; decl.span(), behind(23, place));
+    let read = with_transition(rt.alloc(), text)?;
+    assert!(rt; matches!(body_of(&read), Some(TransBody::Block(block)) if are_block_parts(block)));
+    Ok(())
+}
+
+/// The label of a block is `name a :`.
+fn is_labelled(block: &Block) -> bool {
+    match &block.label {
+        Some(label) => is(&label.name, b"a") && label.span == behind(23, (0, 8)),
+        None => false,
     }
-    let read = with_transition(alloc, "name a : begin end ;")?;
-    assert!(rt;
-        matches!(
-            body_of(&read),
-            Some(TransBody::Block(block))
-                if matches!(&block.label, Some(label) if is(&label.name, b"a") && label.span == behind(23, (0, 8)))
-        )
-    );
+}
+
+// What stands in a label.
+#[test]
+fn labels(rt: HostRuntime) -> Result<(), Fail> {
+    let read = with_transition(rt.alloc(), "name a : begin end ;")?;
+    assert!(rt; matches!(body_of(&read), Some(TransBody::Block(block)) if is_labelled(block)));
     Ok(())
 }
 
@@ -565,23 +692,40 @@ const PLACES: [(u32, u32); 10] = [
     (29, 40),
 ];
 
-// To which group each clause belongs, and where bodies, groups, clauses and blocks stand.
+/// The shape of the transition of this text.
+fn shape_of(alloc: Global, text: &str) -> Result<Vec<u8>, Fail> {
+    let read = with_transition(alloc, text)?;
+    let mut shape = Vec::new(alloc);
+    if let Some(body) = body_of(&read) {
+        write_shape(&mut shape, body)?;
+    }
+    Ok(shape)
+}
+
+// To which group each clause belongs.
 #[test]
 fn groups(rt: HostRuntime) -> Result<(), Fail> {
-    let alloc = rt.alloc();
     for (text, wanted) in &GROUPS {
-        let read = with_transition(alloc, text)?;
-        let mut shape = Vec::new(alloc);
-        if let Some(body) = body_of(&read) {
-            write_shape(&mut shape, body)?;
-        }
+        let shape = shape_of(rt.alloc(), text)?;
         assert!(rt; shape.as_slice() == wanted.as_bytes(), "{text}");
     }
-    let read = with_transition(alloc, "from a to b begin end ; to c begin end ;")?;
+    Ok(())
+}
+
+/// The places in the transition of this text.
+fn spans_of(alloc: Global, text: &str) -> Result<Vec<Span>, Fail> {
+    let read = with_transition(alloc, text)?;
     let mut spans = Vec::new(alloc);
     if let Some(body) = body_of(&read) {
         write_spans(&mut spans, body)?;
     }
+    Ok(spans)
+}
+
+// Where bodies, groups, clauses and blocks stand.
+#[test]
+fn places_of_groups(rt: HostRuntime) -> Result<(), Fail> {
+    let spans = spans_of(rt.alloc(), "from a to b begin end ; to c begin end ;")?;
     assert_eq!(rt; spans.len(), PLACES.len());
     for (span, place) in spans.iter().zip(PLACES) {
         assert_eq!(rt; *span, behind(23, place));
