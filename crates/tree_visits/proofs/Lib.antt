@@ -1,0 +1,4 @@
+pub mod Taken
+pub mod StatementEquations
+pub mod ClauseEquations
+pub mod BodyEquations

@@ -1,0 +1,4 @@
+pub mod Visit
+pub mod Visits
+pub mod Nodes
+pub mod Taking
