@@ -1,0 +1,13 @@
+//! The history of a run: its events, the firings that workers took, and its end, each with who noted it.
+//!
+//! It stands on `estelle_model`. A `History` is seen as the list of its entries and the number of those for which
+//! there is memory. `project` gives the events alone, and `count_fires` how many of them are firings, in constant
+//! time. Only `reserve` and `project` take memory.
+#![tactic(auto)]
+
+mod copies;
+mod entry;
+mod history;
+
+pub use entry::{Entry, What};
+pub use history::{History, count_fires, project};
