@@ -1,0 +1,6 @@
+use Rattle.std.proofs.Common.{◌≡◌, drop}
+use Rattle.module_table.specs.Known.{is_among}
+use Rattle.module_table.proofs.declaring.is_among.Given as goal
+
+abbrev pub invariant-loop-name : goal.invariant-loop-name
+invariant-loop-name l = is_among l.table.names (drop l.name-index l.roles) l.role ≡ is_among l.table.names l.roles l.role
