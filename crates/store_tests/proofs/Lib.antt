@@ -1,1 +1,2 @@
 pub mod DelayTimers
+pub mod Callers

@@ -3,3 +3,11 @@
 
 #[cfg(test)]
 mod delay_timers_calls;
+#[cfg(test)]
+mod link_ops_calls;
+#[cfg(test)]
+mod module_tree_calls;
+#[cfg(test)]
+mod queue_store_calls;
+#[cfg(test)]
+mod run_history_calls;
