@@ -8,7 +8,6 @@ mod lines;
 mod outcome;
 mod program;
 mod task;
-mod trace;
 
 pub use estelle_words::{Command, Settings, settings};
 pub use laws::one_refusal;

@@ -5,10 +5,10 @@ ghost use Rattle.estelle_cli.specs.Answers as answers;
 ghost use Rattle.estelle_model.specs.Trace.{line_end};
 
 use crate::outcome::{Place, Refusal};
-use crate::trace::{put, put_number};
 use estelle_tree::Text;
 use pascal_values::Fault;
 use std::alloc::{AllocError, Global};
+use trace_text::{put, put_number};
 
 /// The line and the column, and the end of the line.
 fn put_place(alloc: Global, out: &mut Vec<u8>, place: Place) -> Result<(), AllocError>

@@ -17,7 +17,6 @@ use crate::input::load;
 use crate::lines::{fault_line, refusal_line};
 use crate::outcome::{Outcome, Refusal, Status, Stop};
 use crate::task::{Task, asked};
-use crate::trace::{put, write};
 use estelle_model::End;
 use estelle_printer::spell;
 use estelle_tree::Text;
@@ -25,6 +24,7 @@ use outside::{Clock, Sink, Source, write_all};
 use pascal_values::Fault;
 use plain_world::{Limits, execute};
 use std::alloc::Global;
+use trace_text::{put, write};
 
 /// Hands err the line. A fault of err changes nothing else.
 fn report<E: Sink>(err: &mut E, line: &[u8])

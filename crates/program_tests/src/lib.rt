@@ -20,6 +20,8 @@ mod pascal;
 #[cfg(test)]
 mod rows;
 #[cfg(test)]
+mod trace_texts;
+#[cfg(test)]
 mod traces;
 #[cfg(test)]
 mod words;

@@ -8,11 +8,17 @@ use std::test::Fail;
 use test_texts::tree;
 
 /// Texts that break rules of several kinds, or none.
-const MIXED: [&str; 4] = [
+const MIXED: [&str; 10] = [
     "specification s; var n: integer; initialize begin n := n + 1 end; end.",
     "specification s; var n: integer; initialize begin n := true; {02}k := 1 end; end.",
     "specification s; var n: integer; procedure p; begin end; initialize begin p(1); n := {40}true end; end.",
     "specification s; type t = 3..1; var n: integer; {01}n: integer; end.",
+    "specification s; var n: integer; initialize begin n := true end; {10}trans begin end; end.",
+    "specification s; channel c(r, q); by r: m; ip p: c(q); initialize begin output p.m end; {10}trans begin end; end.",
+    "specification s systemactivity; channel c(r, q); by {20}x: m; module h; ip p: c(r); end; var n: integer; initialize begin n := true end; end.",
+    "specification s systemactivity; channel c(r, q); by x: m; module h process; ip p: c(r); end; modvar {14}y: h; end.",
+    "specification s systemprocess; channel c(r, q); by r: m; ip p: c(r); var n: integer; initialize begin n := true; detach {25}p end; end.",
+    "specification s systemprocess; channel c(r, q); by r: m; ip p: c(r); var n: integer; initialize begin n := {40}true; output p.m end; end.",
 ];
 
 fn accepted(alloc: Global, spec: Spec) -> Option<(u8, usize)> {

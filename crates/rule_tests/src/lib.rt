@@ -1,8 +1,12 @@
-//! Tests alone, of the rules on names, types and routines: texts that keep them, and texts that break one, with the node.
+//! Tests alone, of the static rules: texts that keep them, and texts that break one, with the node.
 //!
 //! It stands on the crates of these rules and on the reading below them. A comment in a text tells what is wanted.
 #![tactic(auto)]
 
+#[cfg(test)]
+mod attributes;
+#[cfg(test)]
+mod channels;
 #[cfg(test)]
 mod least;
 #[cfg(test)]

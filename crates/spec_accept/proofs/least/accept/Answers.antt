@@ -1,7 +1,6 @@
 use Rattle.std.proofs.Common.{◌≡◌, ap}
-use Rattle.estelle_tree.specs.declared.names.Names.{Names}
-use Rattle.spec_accept.specs.Rules.{names}
-use Rattle.spec_accept.proofs.Refusing.{names_refuse, types_refuse, none_broken}
+use Rattle.spec_accept.specs.Rules.{RuleBroken, names}
+use Rattle.spec_accept.proofs.Refusing.{meaning_refuses, memory_refuses, none_broken}
 use Rattle.spec_accept.proofs.least.accept.Goals as goal
 
 pub invariant_of-result : goal.invariant_of-result
@@ -9,12 +8,15 @@ invariant_of-result c =
     let same : c.in-Ok.names ≡ names c.args.spec = ap (λ u. record { uses = u }) c.in-Ok.ensures.names in
     record {
       named = c.in-Ok.ensures.names;
-      kept = none_broken c.args.spec c.in-Ok.names same c.in-Ok.ensures.kept c.in-Ok-check.ensures.kept;
+      kept = none_broken c.args.spec c.in-Ok.names same c.in-Ok.ensures.kept c.in-Ok-None.field-0 c.in-Ok-None.field-0-is c.in-Ok-None.ensures.first;
       listed = c.in-Ok-flat_list.ensures.listed;
       unlisted = c.in-Ok-flat_list.ensures.others;
     }
 
-pub returns-in-Err-check-clause-refused : goal.returns-in-Err-check-clause-refused
-returns-in-Err-check-clause-refused c =
+pub returns-in-Ok-Some-clause-refused : goal.returns-in-Ok-Some-clause-refused
+returns-in-Ok-Some-clause-refused c =
     let same : c.in-Ok.names ≡ names c.args.spec = ap (λ u. record { uses = u }) c.in-Ok.ensures.names in
-    types_refuse c.args.spec c.in-Ok.names same c.in-Ok.ensures.kept c.in-Err-check.refusal c.in-Err-check.ensures.refused
+    meaning_refuses c.args.spec c.in-Ok.names same c.in-Ok.ensures.kept c.in-Ok-Some.field-0 c.in-Ok-Some.breach c.in-Ok-Some.field-0-is c.in-Ok-Some.ensures.first
+
+pub returns-in-Err-first_breach-clause-refused : goal.returns-in-Err-first_breach-clause-refused
+returns-in-Err-first_breach-clause-refused c = memory_refuses (RuleBroken c.args.spec) c.in-Err-first_breach.refusal c.in-Err-first_breach.ensures.memory

@@ -1,7 +1,7 @@
 use Rattle.std.proofs.Common.{◌≡◌, ◌∷◌, ◌++◌, take}
 use Rattle.std.specs.List.{flat_map}
 use Rattle.estelle_model.specs.Trace as trace
-use Rattle.estelle_cli.proofs.trace.put_takes.Given as goal
+use Rattle.trace_text.proofs.writing.put_takes.Given as goal
 
 abbrev pub invariant-loop-pair : goal.invariant-loop-pair
 invariant-loop-pair l = l.out.items ≡ l.initial.out.items ++ flat_map (λ q. 32 ∷ trace.pair_text q) (take l.pair-index l.others)

@@ -1,4 +1,4 @@
-//! The text of a run.
+//! Writing the text of a run.
 
 ghost use Rattle.std.specs.Prelude.{◌≡◌, ◌++◌, OnOk, IfOk};
 ghost use Rattle.std.specs.Fmt.{decimal};
@@ -9,12 +9,14 @@ use estelle_tree::{Path, Sequence, Text};
 use pascal_values::{Fault, Value, write_value};
 use std::alloc::{AllocError, Global};
 
+/// Appends bytes.
 pub fn put(out: &mut Vec<u8>, text: &[u8]) -> Result<(), AllocError>
     ensures { OnOk result (out.new.items ≡ out.old.items ++ text.now) }
 {
     out.extend_from_slice(text)
 }
 
+/// Appends a number in decimal.
 pub fn put_number(alloc: Global, out: &mut Vec<u8>, number: u64) -> Result<(), AllocError>
     ensures { OnOk result (out.new.items ≡ out.old.items ++ decimal number) }
 {
@@ -141,7 +143,7 @@ fn put_outcome(
 }
 
 /// The fault's name.
-pub fn kind_text(kind: Fault) -> &'static [u8]
+pub(crate) fn kind_text(kind: Fault) -> &'static [u8]
     ensures { result.now ≡ trace.kind_text kind }
 {
     match kind {
@@ -221,7 +223,25 @@ fn put_end(out: &mut Vec<u8>, end: End) -> Result<(), AllocError>
     }
 }
 
-/// The trace of a run that ends so.
+/// The lines of an event: its own, and after `start` and `fire` those of its outputs and drops.
+pub fn lines(alloc: Global, event: &Event) -> Result<Text, AllocError>
+    ensures { IfOk result (λ t. t ≡ trace.event_lines event.now) }
+{
+    let mut out = Vec::new(alloc);
+    put_event(alloc, &mut out, event)?;
+    Ok(Text::of(out))
+}
+
+/// An output without its fate: the interaction point with its instance, and the interaction with its values.
+pub fn out_text(alloc: Global, out: &Out) -> Result<Text, AllocError>
+    ensures { IfOk result (λ t. t ≡ trace.out_text out.now) }
+{
+    let mut text = Vec::new(alloc);
+    put_out_text(alloc, &mut text, out)?;
+    Ok(Text::of(text))
+}
+
+/// The trace of a run that ends so, in format 1.
 pub fn write(alloc: Global, run: &Run, end: End) -> Result<Text, AllocError>
     ensures { IfOk result (λ t. t ≡ trace.text run.now.events end) }
 {
