@@ -17,10 +17,9 @@ use Rattle.std.specs.declared.cmp.Ordering.TheVariants.{Less, Equal, Greater}
 use Rattle.std.proofs.lemmas.Map.Keys.{le_from_not_gt}
 use Rattle.std.proofs.lemmas.Bool.{eqb-true, eq-eqb}
 use Rattle.estelle_tree.specs.declared.transition.Pair.{Pair}
-use Rattle.estelle_tree.specs.Timers.{Timer, pair, pair_cmp, due}
+use Rattle.estelle_tree.specs.Timers.{Timer, pair, pair_cmp, due, least, next_due}
 use Rattle.delay_timers.specs.declared.kept.Running.{Running}
 use Rattle.delay_timers.specs.declared.kept.Due.{Due}
-use Rattle.delay_timers.specs.Moments.{least, next_due}
 use Rattle.delay_timers.specs.Kept.{Rows, running_at, as_timer, seen, due_cmp, is_due, IsKept}
 use Rattle.delay_timers.proofs.Orders.{pair_itself, same_pair}
 use Rattle.delay_timers.proofs.Seen.{get_seen}

@@ -6,8 +6,8 @@ ghost use Rattle.std.specs.Option.{option_map};
 ghost use Rattle.std.specs.FinMap as map;
 ghost use Rattle.estelle_tree.specs.declared.transition.Pair.{Pair as Place};
 ghost use Rattle.estelle_tree.specs.Paths.{is_inside};
-ghost use Rattle.estelle_tree.specs.Timers.{pair, low_is_over, high_is_over, renewed};
-ghost use Rattle.delay_timers.specs.Moments.{pair_of, AreDifferent, next_due};
+ghost use Rattle.estelle_tree.specs.Timers.{pair, low_is_over, high_is_over, next_due, renewed};
+ghost use Rattle.delay_timers.specs.Moments.{pair_of, AreDifferent};
 ghost use Rattle.delay_timers.specs.Kept.{as_timer};
 ghost use Rattle.delay_timers.specs.Renewal.{is_among, started, all_started, CanStart, all_dropped, lacking, unwanted_of};
 

@@ -1,7 +1,6 @@
--- The choices that the program makes: of all runs, the one that it runs. Environment it takes the first wherever there are several candidates.
-use Rattle.std.specs.Prelude.{◌≡◌, ◌⊎◌, ℕ, ◌+◌, ◌<◌, ◌≤◌, max, min, nat_lt, Bool, true, false, not, ◌&&◌, ◌||◌, if◌then◌else◌, IsTrue, List, [], ◌∷◌, ◌++◌, length, drop, map as each, fold, flat_map, Contains, Option, Some, None}
+-- The choices that the program makes: of all runs, the one that it runs. Here it takes the first wherever there are several candidates.
+use Rattle.std.specs.Prelude.{◌≡◌, ◌⊎◌, ℕ, ◌+◌, ◌<◌, ◌≤◌, max, nat_lt, Bool, true, false, not, ◌&&◌, ◌||◌, if◌then◌else◌, IsTrue, List, [], ◌∷◌, ◌++◌, length, drop, unwrap_or, flat_map, Contains, Option, Some, None}
 use Rattle.std.specs.List.{list_any}
-use Rattle.std.specs.FinMap as map
 use Rattle.std.specs.Str.{bytes_eq}
 use Rattle.std.specs.declared.cmp.Ordering.TheVariants.{Less}
 use Rattle.pascal_values.specs.declared.fault.Fault as fault
@@ -15,7 +14,7 @@ use Rattle.estelle_model.specs.Subject.{Subject}
 use Rattle.estelle_model.specs.Situation.{Situation}
 use Rattle.estelle_model.specs.Firing.{guard, start}
 use Rattle.estelle_model.specs.Attributes.{IsSystem, IsProcess, IsActivity}
-use Rattle.estelle_tree.specs.Timers.{pair, due, last_moment}
+use Rattle.estelle_tree.specs.Timers.{pair, next_due, last_moment}
 use Rattle.estelle_model.specs.Delays.{is_on, has_delays, renew}
 use Rattle.estelle_model.specs.Selection.{May, HasPriority, priority, children}
 use Rattle.estelle_model.specs.Runs.{IsIdle, IsFirstFault, next, started, situation}
@@ -137,9 +136,9 @@ IsMomentBy false kept now = now ≡ 0
 abbrev pub IsMoment : Subject → Kept → ℕ → Type 0
 IsMoment s = IsMomentBy (has_delays s)
 
--- the first moment at which a transition with a timer may fire
-abbrev pub next_due : Situation → ℕ
-next_due g = fold min last_moment (each (λ e. due e.1) (map.entries g.timers))
+-- the clock is waited for until the first moment at which a transition with a timer may fire, or the last one that is known
+abbrev pub wait_until : Situation → ℕ → ℕ
+wait_until g known = max (unwrap_or (next_due g.timers) last_moment) known
 
 -- nothing is due and nothing is pending, but some transition is enabled, for which the clock is waited
 pub record IsWaiting (s : Subject) (budget : ℕ) (events : List Event) (waited : ℕ) : Type 0 where
@@ -188,7 +187,7 @@ pub data Reaches (s : Subject) (budget turns : ℕ) (clock : Option ℕ) : List 
   goes_on : (before : List Event) (kept : Kept) (e : Event) → Reaches s budget turns clock before kept → fires before < turns → IsPlanned s budget before kept e
       → Reaches s budget turns clock (before ++ e ∷ []) (kept_after e kept)
   waits : (events : List Event) (kept : Kept) (now : ℕ) → Reaches s budget turns clock events kept → fires events < turns → IsWaiting s budget events kept.waited
-      → MayAnswer kept.clock (max (next_due (situation s budget events)) kept.known) now
+      → MayAnswer kept.clock (wait_until (situation s budget events) kept.known) now
       → Reaches s budget turns clock events (record { known = now; waited = length events; clock = told_after kept.clock now })
 
 -- ---- the end

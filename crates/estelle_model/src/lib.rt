@@ -2,7 +2,7 @@
 //! be read, that takes effects and that keeps changes of records.
 //!
 //! It stands on `pascal_values` and `estelle_tree`; evaluator, compiler, machine and judge stand on it.
-//! Environment are the definitions, in `specs/`, and the types of what is computed.
+//! Here are the definitions, in `specs/`, and the types of what is computed.
 #![tactic(auto)]
 
 mod denoter;

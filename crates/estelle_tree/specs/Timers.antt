@@ -1,5 +1,5 @@
 -- Timers of transitions with a delay (ISO/IEC 9074: `delay` clauses).
-use Rattle.std.specs.Prelude.{ℕ, ◌+◌, ◌-◌, ◌^◌, min, nat_le, Bool, false, not, List, fold, unwrap_or, Option, Some, None}
+use Rattle.std.specs.Prelude.{ℕ, ◌+◌, ◌-◌, ◌^◌, min, nat_le, Bool, false, not, List, [], ◌∷◌, map as each, fold, unwrap_or, Option, Some, None}
 use Rattle.std.specs.FinMap as map
 use Rattle.std.specs.Ordering.{nat_cmp, ordering_then}
 use Rattle.std.specs.declared.cmp.Ordering.{Ordering}
@@ -51,6 +51,14 @@ ends_by now start (Some high) = nat_le (cap (start + high)) now
 abbrev pub high_is_over : ℕ → Option Timer → Bool
 high_is_over now None = false
 high_is_over now (Some t) = ends_by now t.start t.high
+
+abbrev pub least : List ℕ → Option ℕ
+least [] = None
+least (n ∷ ns) = Some (fold min n ns)
+
+-- the least of the moments from which on a transition that has a timer may fire
+abbrev pub next_due : Timers → Option ℕ
+next_due timers = least (each due (map.values timers))
 
 -- ---- how timers start and are kept
 

@@ -1,5 +1,5 @@
 use Rattle.std.proofs.Common.{sym, ap, ◌∙◌}
-use Rattle.delay_timers.specs.Moments.{next_due}
+use Rattle.estelle_tree.specs.Timers.{next_due}
 use Rattle.delay_timers.proofs.Least.{none_due, some_due, no_more}
 use Rattle.delay_timers.proofs.timers.Timers.next_due.Goals as goal
 
