@@ -7,12 +7,12 @@ use Rattle.estelle_tree.specs.declared.tree.specification.Trans.{Trans}
 use Rattle.estelle_tree.specs.declared.tree.specification.Parts.{out-Parts}
 use Rattle.estelle_tree.specs.declared.tree.specification.Spec.{Spec}
 use Rattle.estelle_model.specs.Transitions.{Transition}
-use Rattle.estelle_model.specs.Subject.{Subject, declared_in, meant, of_block, transitions_of, transitions}
+use Rattle.estelle_model.specs.Subject.{Subject, declared_in, meant, meant_with, of_block, transitions_of, transitions}
 use Rattle.plain_jobs.specs.Laws.{SpecificationsArePlain}
 use Rattle.run_forms.specs.Forms.{is_built}
 use Rattle.run_forms.specs.Laws.{BuiltArePlain, BuiltStandAlone, BuiltTransitionsAreSimple}
 use Rattle.meaning_table.specs.Known.{Known, meanings_of}
-use Rattle.flat_transitions.specs.Flat.{is_without_any, transitions_in}
+use Rattle.flat_transitions.specs.Flat.{is_without_any, with_chosen, transitions_in}
 use Rattle.body_walker.specs.declared.program.Program.TheInside.{Inside}
 use Rattle.body_walker.specs.Programs.{subject_of, HoldsAll}
 use Rattle.body_walker.proofs.Built.{built_without_any}
@@ -22,19 +22,19 @@ same_some : {A : Type 0} (x y : A) → Some x ≡ Some y → x ≡ y
 same_some x y e = ap (λ o. unwrap_or o x) e
 
 -- what is found where no `any` stands
-pub found_flat : (x : Spec) (known : Known) (ts : List Trans) (found : Option (List Transition)) → IsTrue (is_built x) → ts ≡ (out-Parts x.parts).trans → found ≡ cond (is_without_any ts) (Some (transitions_in (meanings_of known) ts)) None → found ≡ Some (transitions_in (meanings_of known) (out-Parts x.parts).trans)
+pub found_flat : (x : Spec) (known : Known) (ts : List Trans) (found : Option (List Transition)) → IsTrue (is_built x) → ts ≡ (out-Parts x.parts).trans → found ≡ cond (is_without_any ts) (Some (transitions_in (with_chosen known) ts)) None → found ≡ Some (transitions_in (with_chosen known) (out-Parts x.parts).trans)
 found_flat x known ts found h is e =
-    e ∙ ap (λ (us : List Trans). cond (is_without_any us) (Some (transitions_in (meanings_of known) us)) None) is
-    ∙ ap (λ b. cond b (Some (transitions_in (meanings_of known) (out-Parts x.parts).trans)) None) (built_without_any x h)
+    e ∙ ap (λ (us : List Trans). cond (is_without_any us) (Some (transitions_in (with_chosen known) us)) None) is
+    ∙ ap (λ b. cond b (Some (transitions_in (with_chosen known) (out-Parts x.parts).trans)) None) (built_without_any x h)
 
-flat_is : (s : Subject) → transitions s 0 ≡ transitions_in (meant s) (out-Parts s.specification.parts).trans
+flat_is : (s : Subject) → transitions s 0 ≡ transitions_in (meant_with s) (out-Parts s.specification.parts).trans
 flat_is s = ap (transitions_of s) (root_is s)
 
 pub holds_all : BuiltArePlain → BuiltStandAlone → BuiltTransitionsAreSimple → SpecificationsArePlain →
     (p : Inside) (ts : List Trans) (found : Option (List Transition)) → IsTrue (is_built p.spec.now)
     → p.table ≡ record { names = p.names.now.uses; declared = declared_in (subject_of p) }
     → ts ≡ (out-Parts p.spec.now.parts).trans
-    → found ≡ cond (is_without_any ts) (Some (transitions_in (meanings_of p.table) ts)) None
+    → found ≡ cond (is_without_any ts) (Some (transitions_in (with_chosen p.table) ts)) None
     → found ≡ Some p.transitions
     → p.blocks ≡ map (λ (t : Transition). of_block (meanings_of p.table) t.received t.block) p.transitions
     → HoldsAll p
@@ -42,7 +42,7 @@ holds_all plain alone simple are_plain p ts found h known is finds some blocks =
     let s : Subject = subject_of p in
     let a = alone p.spec.now h in
     let means : meanings_of p.table ≡ meant s = ap meanings_of known in
-    let flat : p.transitions ≡ transitions s 0 = same_some p.transitions _ (sym some ∙ found_flat p.spec.now p.table ts found h is finds) ∙ ap (λ k. transitions_in k (out-Parts p.spec.now.parts).trans) means ∙ sym (flat_is s) in
+    let flat : p.transitions ≡ transitions s 0 = same_some p.transitions _ (sym some ∙ found_flat p.spec.now p.table ts found h is finds) ∙ ap (λ k. transitions_in k (out-Parts p.spec.now.parts).trans) (ap with_chosen known) ∙ sym (flat_is s) in
     record {
       plain = are_plain s (plain p.spec.now h);
       alone = a;

@@ -15,7 +15,7 @@ use Rattle.estelle_model.specs.declared.image.Part.{Part}
 use Rattle.estelle_tree.specs.Paths.{Path, path_cmp}
 use Rattle.estelle_model.specs.Core.{Instance}
 use Rattle.estelle_model.specs.Jobs.{instance_of}
-use Rattle.plain_jobs.proofs.Maps.{total, apart}
+use Rattle.estelle_model.proofs.Maps.{total, apart}
 use Rattle.body_walker_state.specs.InOrder.{entries_of, are_in_order, instance_in, StandsAt}
 use Rattle.body_walker_state.proofs.ValueLemmas.{same_some}
 

@@ -11,7 +11,7 @@ use Rattle.estelle_tree.specs.Paths.{Path, path_cmp}
 use Rattle.estelle_model.specs.Core.{Instance, Instances}
 use Rattle.estelle_model.specs.Effects.{changed_in, put_back}
 use Rattle.estelle_model.specs.Jobs.{part_of_entry, instance_of, insert_part}
-use Rattle.plain_jobs.proofs.Maps.{total, apart, or_else, equal_of, get_inserted}
+use Rattle.estelle_model.proofs.Maps.{total, apart, or_else, equal_of, get_inserted}
 use Rattle.body_walker_state.specs.InOrder.{entries_of, are_in_order, instance_in}
 use Rattle.body_walker_state.proofs.ValueLemmas.{same_some}
 use Rattle.body_walker_state.proofs.OrderLemmas.{left_of, right_of, below_at, found_at}

@@ -14,6 +14,7 @@ use Rattle.estelle_model.specs.declared.event.End.TheVariants as end
 use Rattle.estelle_model.specs.Subject.{Subject}
 use Rattle.estelle_model.specs.Runs.{IsRun}
 use Rattle.estelle_model.specs.Ends.{Stops}
+use Rattle.estelle_model.specs.Choosers.{always_first}
 use Rattle.estelle_model.specs.Schedule.{IsScheduled}
 use Rattle.estelle_model.specs.Trace.{text, kind_text, line_end}
 use Rattle.plain_world.specs.declared.world.Limits.{Limits}
@@ -39,14 +40,15 @@ abbrev pub subject : Spec → Subject
 subject spec = record { specification = spec; names = names_of spec }
 
 -- A text is the trace of a run of the input's specification that stops with this end: the run's first event is its
--- start, each later one applies to the situation before it, and all are those that the schedule chooses, whatever a clock tells.
+-- start, each later one applies to the situation before it, and all are those that the schedule chooses where the first
+-- candidate is taken each time, whatever a clock tells.
 pub record IsTrace (limits : Limits) (left : Option (List ℕ)) (e : End) (written : List ℕ) : Type 0 where
   pub specification : Spec
   pub events : List Event
   pub input : IfSome left (λ bytes. Reads bytes specification)
   pub run : IsRun (subject specification) limits.budget events
   pub stops : Stops (subject specification) limits.budget limits.turns events e
-  pub scheduled : (clock : Option ℕ) → IsScheduled (subject specification) limits.budget limits.turns clock events e
+  pub scheduled : (clock : Option ℕ) → IsScheduled always_first (subject specification) limits.budget limits.turns clock tt events e
   pub lines : written ≡ text events e
 
 -- an end that no fault made

@@ -47,7 +47,7 @@ module _ (S T : Type 0) (R : S → T → Type 0) where
   abbrev pub ValueAlike : Step S Value → Step T Value → Type 0
   ValueAlike p q = StepAlike (Same {A = Value}) p q
 
-  and_then_alike : {A A' B B' : Type 0} (V : A → A' → Type 0) (W : B → B' → Type 0) (o : Outcome S A) (o' : Outcome T A') (f : A → Step S B) (g : A' → Step T B') → OutcomeAlike V o o' → ((a : A) (b : A') → V a b → StepAlike W (f a) (g b)) → OutcomeAlike W (and_then o f) (and_then o' g)
+  pub and_then_alike : {A A' B B' : Type 0} (V : A → A' → Type 0) (W : B → B' → Type 0) (o : Outcome S A) (o' : Outcome T A') (f : A → Step S B) (g : A' → Step T B') → OutcomeAlike V o o' → ((a : A) (b : A') → V a b → StepAlike W (f a) (g b)) → OutcomeAlike W (and_then o f) (and_then o' g)
   and_then_alike V W (Ok r) (Ok q) f g h k = k r.0 q.0 h.0 r.1 q.1 h.1
   and_then_alike V W (Err e) (Err x) f g h k = h
   and_then_alike V W (Ok r) (Err x) f g h k = absurd h

@@ -36,7 +36,7 @@ use Rattle.estelle_model.proofs.Alike.{Same, EachAlike, OutcomeAlike, StepAlike,
 use Rattle.estelle_model.proofs.AlikePlaces.{ShowAlike}
 use Rattle.estelle_model.proofs.AlikeOperands.{GivenAlike, OperandAlike, give_all_alike}
 use Rattle.estelle_model.proofs.AlikeStatements.{seq_alike}
-use Rattle.estelle_model.proofs.AlikeCalls.{EntersAlike, ActsAlike, block_alike, clause_alike}
+use Rattle.estelle_model.proofs.AlikeCalls.{EntersAlike, ActsAlike, entered_alike, block_alike, clause_alike}
 
 -- every instance is at or below the root
 pub inside_root : (p : Path) → is_inside [] p ≡ true
@@ -195,7 +195,7 @@ module _ (S T : Type 0) (on : Offers S) (on' : Offers T) (faithful : IsFaithful 
         let o : Option (Option Path) = slice_get i.module_variables k in
         then_same S T EqualCores (Same {A = Unit {0}}) (enters (checked (empty_in o) >> make S on subject meant e) p new.block no_arguments) (enters' (checked (empty_in o) >> make T on' subject meant e) p new.block no_arguments)
         (λ ran. enter_state S on subject meant p new.to >>= λ entered. keep S on subject meant here.path (Hold k (Some p))) (λ ran. enter_state T on' subject meant p new.to >>= λ entered. keep T on' subject meant here.path (Hold k (Some p)))
-        (into (checked (empty_in o) >> make S on subject meant e) (checked (empty_in o) >> make T on' subject meant e) (made_alike o e) p (inside_root p) new.block no_arguments tt)
+        (entered_alike S T on on' [] EqualCores enters enters' into (checked (empty_in o) >> make S on subject meant e) (checked (empty_in o) >> make T on' subject meant e) (made_alike o e) p (inside_root p) new.block no_arguments tt)
         (λ ran. then_same S T EqualCores (Same {A = Unit {0}}) (enter_state S on subject meant p new.to) (enter_state T on' subject meant p new.to) (λ entered. keep S on subject meant here.path (Hold k (Some p))) (λ entered. keep T on' subject meant here.path (Hold k (Some p))) (enter_state_alike p new.to) (λ entered. keep_alike here.path (Hold k (Some p))))
 
     init_alike : (enters : Enters S) (enters' : Enters T) → EntersAlike S T on on' [] EqualCores enters enters' → (here : Environment) (k n : ℕ) (new : Child) (es : List (Operand S)) (fs : List (Operand T)) → EachAlike (OperandAlike S T on on' [] EqualCores) es fs

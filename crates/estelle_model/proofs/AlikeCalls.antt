@@ -8,7 +8,7 @@ use Rattle.pascal_values.specs.Values.{parts_of}
 use Rattle.estelle_tree.specs.declared.tree.expression.Expr.{Expr}
 use Rattle.estelle_tree.specs.Paths.{Path, is_inside}
 use Rattle.estelle_model.specs.States.{Offers}
-use Rattle.estelle_model.specs.Steps.{Do, ◌>>◌, pure, fail, spend}
+use Rattle.estelle_model.specs.Steps.{Running, Do, ◌>>◌, pure, fail, spend}
 use Rattle.estelle_model.specs.declared.meaning.Routine.{Routine}
 use Rattle.estelle_model.specs.Meant.{Meanings, result_number}
 use Rattle.estelle_model.specs.declared.place.Environment.{Environment}
@@ -17,16 +17,20 @@ use Rattle.estelle_model.specs.Expressions.{Call, expr}
 use Rattle.estelle_model.specs.Statements.{Action, stmts}
 use Rattle.estelle_model.specs.Calls.{Enters, call_by, frame_of, last_or, enter, leave, within, nested, max_depth}
 use Rattle.estelle_model.specs.Blocks.{given_values, enter_values, leave_values, from_block, block_step, clause_value}
-use Rattle.estelle_model.proofs.Alike.{Same, DoAlike, ValueAlike, then_same, pure_alike, fail_alike, spend_alike}
+use Rattle.estelle_model.proofs.Alike.{Same, RunningAlike, OutcomeAlike, DoAlike, ValueAlike, and_then_alike, then_same, pure_alike, fail_alike, spend_alike}
 use Rattle.estelle_model.proofs.AlikePlaces.{ShowAlike}
 use Rattle.estelle_model.proofs.AlikeOperands.{AllWithin, CallAlike}
 use Rattle.estelle_model.proofs.AlikeExpressions.{expr_alike}
 use Rattle.estelle_model.proofs.AlikeStatements.{ActAlike, seq_alike, stmts_alike}
 
 module _ (S T : Type 0) (on : Offers S) (on' : Offers T) (m : Path) (R : S → T → Type 0) where
-  -- what enters a routine of an instance at or below m does alike
+  -- what enters a routine of an instance at or below m does alike, where what is done before it begins does
   abbrev pub EntersAlike : Enters S → Enters T → Type 0
-  EntersAlike enters enters' = (before : Do S) (before' : Do T) → DoAlike S T R before before' → (p : Path) → is_inside m p ≡ true → (r : Routine) (g : ActualParameters) → AllWithin m g.references → ValueAlike S T R (enters before p r g) (enters' before' p r g)
+  EntersAlike enters enters' = (before : Do S) (before' : Do T) (p : Path) → is_inside m p ≡ true → (r : Routine) (g : ActualParameters) → AllWithin m g.references → (s : Running S) (t : Running T) → RunningAlike S T R s t
+      → OutcomeAlike S T R (Same {A = Unit {0}}) ((spend >> before) s) ((spend >> before') t) → OutcomeAlike S T R (Same {A = Value}) (enters before p r g s) (enters' before' p r g t)
+
+  pub entered_alike : (enters : Enters S) (enters' : Enters T) → EntersAlike enters enters' → (before : Do S) (before' : Do T) → DoAlike S T R before before' → (p : Path) → is_inside m p ≡ true → (r : Routine) (g : ActualParameters) → AllWithin m g.references → ValueAlike S T R (enters before p r g) (enters' before' p r g)
+  entered_alike enters enters' h before before' b p inside r g w s t a = h before before' p inside r g w s t a (seq_alike S T R spend before spend before' (spend_alike S T R) b s t a)
 
   -- the statements of Estelle do alike, where what they enter does
   abbrev pub ActsAlike : (Enters S → Environment → Action S → Do S) → (Enters T → Environment → Action T → Do T) → Type 0
@@ -47,7 +51,7 @@ module _ (S T : Type 0) (on : Offers S) (on' : Offers T) (m : Path) (R : S → T
 
 module _ (S T : Type 0) (on : Offers S) (on' : Offers T) (m : Path) (R : S → T → Type 0) (show : ShowAlike S T on on' m R) (meant : Meanings) (act : Enters S → Environment → Action S → Do S) (act' : Enters T → Environment → Action T → Do T) (acts : ActsAlike S T on on' m R act act') where
   call_by_alike : (enters : Enters S) (enters' : Enters T) → EntersAlike S T on on' m R enters enters' → (p : Path) → is_inside m p ≡ true → CallAlike S T on on' m R (call_by enters p) (call_by enters' p)
-  call_by_alike enters enters' h p inside r g w = h (pure tt) (pure tt) (pure_alike S T R (Same {A = Unit {0}}) tt tt refl) p inside r g w
+  call_by_alike enters enters' h p inside r g w = entered_alike S T on on' m R enters enters' h (pure tt) (pure tt) (pure_alike S T R (Same {A = Unit {0}}) tt tt refl) p inside r g w
 
   within_alike : (enters : Enters S) (enters' : Enters T) → EntersAlike S T on on' m R enters enters' → (depth : ℕ) (p : Path) → is_inside m p ≡ true → (r : Routine) (g : ActualParameters) → AllWithin m g.references → ValueAlike S T R (within S on meant act enters depth p r g) (within T on' meant act' enters' depth p r g)
   within_alike enters enters' h depth p inside r g w =
@@ -57,9 +61,9 @@ module _ (S T : Type 0) (on : Offers S) (on' : Offers T) (m : Path) (R : S → T
       (λ _. leave_alike S T on on' m R r)
 
   pub nested_alike : (n : ℕ) → EntersAlike S T on on' m R (nested S on meant act n) (nested T on' meant act' n)
-  nested_alike zero before before' b p inside r g w = then_same S T R (Same {A = Value}) spend spend (λ _. fail CallDepth) (λ _. fail CallDepth) (spend_alike S T R) (λ _. fail_alike S T R (Same {A = Value}) CallDepth)
-  nested_alike (suc n) before before' b p inside r g w = then_same S T R (Same {A = Value}) (spend >> before) (spend >> before') (λ _. within S on meant act (nested S on meant act n) (max_depth - n) p r g) (λ _. within T on' meant act' (nested T on' meant act' n) (max_depth - n) p r g)
-      (seq_alike S T R spend before spend before' (spend_alike S T R) b) (λ _. within_alike (nested S on meant act n) (nested T on' meant act' n) (nested_alike n) (max_depth - n) p inside r g w)
+  nested_alike zero before before' p inside r g w s t a b = then_same S T R (Same {A = Value}) spend spend (λ _. fail CallDepth) (λ _. fail CallDepth) (spend_alike S T R) (λ _. fail_alike S T R (Same {A = Value}) CallDepth) s t a
+  nested_alike (suc n) before before' p inside r g w s t a b = and_then_alike S T R (Same {A = Unit {0}}) (Same {A = Value}) ((spend >> before) s) ((spend >> before') t) (λ _. within S on meant act (nested S on meant act n) (max_depth - n) p r g) (λ _. within T on' meant act' (nested T on' meant act' n) (max_depth - n) p r g)
+      b (λ x y e. within_alike (nested S on meant act n) (nested T on' meant act' n) (nested_alike n) (max_depth - n) p inside r g w)
 
   -- every block of an instance at or below m does alike
   pub block_alike : (p : Path) → is_inside m p ≡ true → (r : Routine) (vs : List Value) → DoAlike S T R (block_step S on meant act p r vs) (block_step T on' meant act' p r vs)

@@ -10,6 +10,10 @@ pub mod AlikeStatements
 pub mod AlikeCalls
 pub mod AlikeActions
 pub mod AlikeFirings
+-- ---- maps of instances, and private parts
+pub mod Members
+pub mod Maps
+pub mod PrivateParts
 -- ---- loops, units and frames
 pub mod LoopLaws
 pub mod Units
@@ -17,6 +21,7 @@ pub mod UnitsOfExpressions
 pub mod UnitsOfBlocks
 pub mod UnitsOfActions
 pub mod FrameLemmas
+pub mod Pairs
 -- ---- examples
 pub mod Trees
 pub mod Forms
@@ -29,3 +34,9 @@ pub mod WorkedFaults
 pub mod WorkedActions
 pub mod WorkedNames
 pub mod WorkedFiring
+pub mod WorkedLinks
+pub mod WorkedRelease
+pub mod WorkedQueues
+pub mod WorkedDelays
+pub mod WorkedSelection
+pub mod WorkedPriorities

@@ -74,7 +74,7 @@ way = record {
 }
 
 abbrev pub tick : Transition
-tick = flat_one known way []
+tick = flat_one (λ chosen. known) way []
 
 pub tick_from : tick.from ≡ Some (0 ∷ [])
 tick_from = refl

@@ -78,3 +78,7 @@ may_attach s instances upper lower = may_attach_points (point s instances upper)
 abbrev pub external_at : Option InteractionPoint → Bool
 external_at None = false
 external_at (Some p) = p.external
+
+abbrev pub internal_at : Option InteractionPoint → Bool
+internal_at None = false
+internal_at (Some p) = not p.external

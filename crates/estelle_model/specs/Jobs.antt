@@ -1,5 +1,5 @@
 -- A firing that is computed apart from the situation: its job, what it answers, and how that is put into a situation.
-use Rattle.std.specs.Prelude.{◌≡◌, ℕ, zero, suc, Bool, true, false, not, ◌&&◌, ◌||◌, nat_le, if◌then◌else◌, List, [], ◌∷◌, length, map as each, filter, fold, Option, Some, None, IsTrue, IsPermutation}
+use Rattle.std.specs.Prelude.{◌≡◌, ◌≢◌, ◌⊎◌, ℕ, zero, suc, Bool, true, false, not, ◌&&◌, ◌||◌, if◌then◌else◌, List, [], ◌∷◌, length, map as each, filter, fold, slice_get, Option, Some, None, IsTrue, Contains, IsPermutation}
 use Rattle.std.specs.FinMap as map
 use Rattle.estelle_tree.specs.declared.link.IpAddr.{IpAddr}
 use Rattle.estelle_tree.specs.declared.link.Link.{Link}
@@ -12,17 +12,18 @@ use Rattle.estelle_model.specs.declared.job.Job.{Job}
 use Rattle.estelle_model.specs.declared.job.Done.{Done}
 use Rattle.estelle_model.specs.declared.job.Outcome.{Outcome}
 use Rattle.estelle_model.specs.declared.job.Outcome.TheVariants as outcome
-use Rattle.estelle_tree.specs.Paths.{Path, child, parent_of, last_of, is_inside}
-use Rattle.estelle_tree.specs.Links.{is_connection}
+use Rattle.estelle_tree.specs.Paths.{Path, child, is_inside}
+use Rattle.estelle_tree.specs.Links.{is_connection, is_lower_of}
+use Rattle.estelle_model.specs.declared.meaning.InteractionPoint.{InteractionPoint}
 use Rattle.estelle_model.specs.Core.{Instance, Instances, Core}
 use Rattle.estelle_model.specs.Effects.{Effect, Output, Connect, Disconnect, Attach, Detach, Create, Remove}
 use Rattle.estelle_model.specs.Transitions.{Transition}
-use Rattle.estelle_model.specs.Subject.{Subject, child_of, ips_of}
+use Rattle.estelle_model.specs.Subject.{Subject, ips_of}
+use Rattle.estelle_model.specs.InteractionPoints.{point, internal_at, may_connect, may_attach}
 use Rattle.estelle_model.specs.Actions.{is_bound, is_connected, is_upper, at, count_from}
 use Rattle.estelle_model.specs.Situation.{Situation, Acting, acting_after}
 use Rattle.estelle_model.specs.Queues.{Found, NotNeeded, Head, Absent, found, received}
 use Rattle.estelle_model.specs.Firing.{Firing, Ran, Failed, begun, untimed, taken, transition_at, fire, start, bare}
-use Rattle.estelle_model.specs.Legal.{AreLegal}
 
 -- ---- instances as parts
 
@@ -36,11 +37,7 @@ instance_of p = record { body = p.body; state = p.state; variables = p.vars; mod
 
 -- an interaction point that is declared in the body, and not in its header
 abbrev pub is_internal : Subject → Instances → IpAddr → Bool
-is_internal s instances a = by (map.get instances a.path)
-  where
-    by : Option Instance → Bool
-    by None = false
-    by (Some i) = nat_le (child_of s i.body).external a.ip
+is_internal s instances a = internal_at (point s instances a)
 
 -- below m, or an internal interaction point of m
 abbrev pub is_below_or_own : Subject → Instances → Path → IpAddr → Bool
@@ -59,45 +56,83 @@ pub record Shows (image : Image) (c : Core) : Type 0 where
   pub parts : image.parts ≡ each part_of_entry (map.entries c.instances)
   pub links : IsPermutation image.links c.links
 
+-- what holds in each legal situation, and lets an instance act on its private part alone
+pub record MayActAlone (s : Subject) (c : Core) (m : Path) : Type 0 where
+  -- its module variables, and those of the instances below it, hold children
+  pub children : (p : Path) (i : Instance) (v : ℕ) (held : Path) → is_inside m p ≡ true → map.get c.instances p ≡ Some i → slice_get i.module_variables v ≡ Some (Some held) → (k : ℕ) × (held ≡ child p k)
+  -- an attachment whose lower end is below it, or an internal interaction point of its own, has its upper end at or below it
+  pub attached : (l : Link) → Contains c.links l → is_connection l.kind ≡ false → is_below_or_own s c.instances m l.second ≡ true → is_inside m l.first.path ≡ true
+  -- an interaction point is the lower end of at most one attachment
+  pub once : (a : IpAddr) (l n : Link) → Contains c.links l → Contains c.links n → is_lower_of a l ≡ true → is_lower_of a n ≡ true → l.first ≡ n.first
+
+-- ---- effects as they are logged
+
+-- An effect of a block as it is logged. Until it is put into a situation an output has the number 0 and is not lost;
+-- a new instance is as it was made, with its interaction points in declaration order.
+abbrev pub logged_as : Subject → Effect → LoggedEffect
+logged_as s (Output from ip name values) = logged.Output from (record { number = 0; name = name; values = values }) (record { path = from.path; ip = ip; name = name; values = values; lost = false })
+logged_as s (Connect a b) = logged.Connect a b
+logged_as s (Disconnect a) = logged.Disconnect a
+logged_as s (Attach upper lower) = logged.Attach upper lower
+logged_as s (Detach upper) = logged.Detach upper
+logged_as s (Create p k i) = logged.Create (child p k) (part_of_entry (child p k, i)) (each (at (child p k)) (count_from 0 (length (ips_of s i.body))))
+logged_as s (Remove p k) = logged.Remove (child p k)
+
+-- the log of a block as it is handed on
+abbrev pub all_logged : Subject → List Effect → List LoggedEffect
+all_logged s = each (logged_as s)
+
 -- ---- what is put into a situation
 
--- a logged effect, as a block does it
-abbrev pub effect_of : LoggedEffect → Effect
-effect_of (logged.Output from item out) = Output from out.ip item.name item.values
-effect_of (logged.Connect a b) = Connect a b
-effect_of (logged.Disconnect a) = Disconnect a
-effect_of (logged.Attach upper lower) = Attach upper lower
-effect_of (logged.Detach upper) = Detach upper
-effect_of (logged.Create path part ips) = Create (parent_of path) (last_of path) (record (instance_of part) { births = 0 })
-effect_of (logged.Remove path) = Remove (parent_of path) (last_of path)
+-- an instance of the path, or a child of it
+abbrev pub IsOwnOrChild : Path → Path → Type 0
+IsOwnOrChild n p = (p ≡ n) ⊎ ((k : ℕ) × (p ≡ child n k))
+
+-- an instance at or below m may connect two different points, each its own internal one or a child's external one
+pub record MayBeConnected (s : Subject) (m : Path) (instances : Instances) (a b : IpAddr) : Type 0 where
+  pub by : Path
+  pub inside : is_inside m by ≡ true
+  pub first : IsOwnOrChild by a.path
+  pub second : IsOwnOrChild by b.path
+  pub allowed : IsTrue (may_connect s instances by a b)
+  pub differ : a ≢ b
+
+-- an instance at or below m may attach its external point to its child's
+pub record MayBeAttached (s : Subject) (m : Path) (instances : Instances) (upper lower : IpAddr) : Type 0 where
+  pub inside : is_inside m upper.path ≡ true
+  pub number : ℕ
+  pub below : lower.path ≡ child upper.path number
+  pub allowed : IsTrue (may_attach s instances upper lower)
 
 abbrev pub IsThere : Instances → Path → Type 0
 IsThere instances p = (i : Instance) × (map.get instances p ≡ Some i)
 
--- an interaction point of an instance that is there
+-- the interaction point is that of an instance which is there
 abbrev pub IsIp : Subject → Instances → IpAddr → Type 0
-IsIp s instances a = (i : Instance) × (map.get instances a.path ≡ Some i) × IsTrue (nat_le (suc a.ip) (length (ips_of s i.body)))
+IsIp s instances a = (p : InteractionPoint) × (point s instances a ≡ Some p)
 
--- an effect of the instance m or of one below it can be made as it says
-abbrev pub CanBeMade : Subject → Path → LoggedEffect → Acting → Type 0
-CanBeMade s m (logged.Output from item out) a = IsIp s a.situation.core.instances from
-CanBeMade s m (logged.Connect p q) a = IsIp s a.situation.core.instances p × IsIp s a.situation.core.instances q × (is_bound p a.situation.core.links ≡ false) × (is_bound q a.situation.core.links ≡ false)
-CanBeMade s m (logged.Disconnect p) a = is_connected p a.situation.core.links ≡ true
-CanBeMade s m (logged.Attach upper lower) a = IsIp s a.situation.core.instances upper × IsIp s a.situation.core.instances lower × (parent_of lower.path ≡ upper.path) × (is_upper upper a.situation.core.links ≡ false) × (is_bound lower a.situation.core.links ≡ false)
-CanBeMade s m (logged.Detach upper) a = is_upper upper a.situation.core.links ≡ true
-CanBeMade s m (logged.Create path part ips) a =
-    (i : Instance) × (map.get a.situation.core.instances (parent_of path) ≡ Some i) × (is_inside m (parent_of path) ≡ true) × (path ≡ child (parent_of path) (suc i.births))
-    × (part.path ≡ path) × (ips ≡ each (at path) (count_from 0 (length (ips_of s part.body))))
-CanBeMade s m (logged.Remove path) a = IsThere a.situation.core.instances path × (is_inside m path ≡ true) × (is_inside path m ≡ false)
+-- the instance is there, and this is the number of its next child
+abbrev pub IsNextOf : Instances → Path → ℕ → Type 0
+IsNextOf instances p k = (i : Instance) × (map.get instances p ≡ Some i) × (k ≡ suc i.births)
+
+-- an effect of the instance m, or of one below it, can be made as it says
+abbrev pub CanBeMade : Subject → Path → Effect → Core → Type 0
+CanBeMade s m (Output from ip name values) c = (is_inside m from.path ≡ true) × IsIp s c.instances from
+CanBeMade s m (Connect a b) c = MayBeConnected s m c.instances a b × (is_bound a c.links ≡ false) × (is_bound b c.links ≡ false)
+CanBeMade s m (Disconnect a) c = (is_inside m a.path ≡ true) × (is_connected a c.links ≡ true)
+CanBeMade s m (Attach upper lower) c = MayBeAttached s m c.instances upper lower × (is_upper upper c.links ≡ false) × (is_bound lower c.links ≡ false)
+CanBeMade s m (Detach upper) c = (is_inside m upper.path ≡ true) × (is_upper upper c.links ≡ true)
+CanBeMade s m (Create p k i) c = (is_inside m p ≡ true) × IsNextOf c.instances p k × (i.births ≡ 0)
+CanBeMade s m (Remove p k) c = (is_inside m p ≡ true) × IsThere c.instances (child p k)
 
 -- each at its turn
-abbrev pub CanAllBeMade : Subject → Path → List LoggedEffect → Acting → Type 0
+abbrev pub CanAllBeMade : Subject → Path → List Effect → Acting → Type 0
 CanAllBeMade s m [] a = Unit {0}
-CanAllBeMade s m (e ∷ es) a = CanBeMade s m e a × CanAllBeMade s m es (acting_after (effect_of e) a)
+CanAllBeMade s m (e ∷ es) a = CanBeMade s m e a.situation.core × CanAllBeMade s m es (acting_after e a)
 
 -- the effects in order
-abbrev pub after_all : List LoggedEffect → Acting → Acting
-after_all es a = fold (λ b e. acting_after (effect_of e) b) a es
+abbrev pub after_all : List Effect → Acting → Acting
+after_all es a = fold (λ b e. acting_after e b) a es
 
 abbrev pub insert_part : Instances → Part → Instances
 insert_part instances p = map.insert instances p.path (instance_of p)
@@ -119,11 +154,19 @@ outline_of_parts = each (λ p. (p.path, (p.body, p.births)))
 abbrev pub ran : Acting → ℕ → Firing
 ran a left = Ran a.situation a.outs a.drops left
 
--- what is computed can be put into a situation in which the head is taken, and then this is the firing
+-- the situation once the effects are made and the records are those of the image
+abbrev pub put : Path → List Effect → List Part → Acting → Acting
+put m log parts a = with_records m parts (after_all log a)
+
+-- What is computed is put into a situation in which the head is taken, and then this is the firing: its effects are those of a block,
+-- each of which can be made at its turn, and then the image is the private part.
 pub record IsPut (s : Subject) (m : Path) (n : ℕ) (g : Situation) (image : Image) (effects : List LoggedEffect) (left : ℕ) (firing : Firing) : Type 0 where
-  pub can_be_made : CanAllBeMade s m effects (begun g)
-  pub outline : outline m (after_all effects (begun g)).situation.core.instances ≡ outline_of_parts image.parts
-  pub result : firing ≡ untimed m n (ran (with_records m image.parts (after_all effects (begun g))) left)
+  pub log : List Effect
+  pub logged : effects ≡ all_logged s log
+  pub can_be_made : CanAllBeMade s m log (begun g)
+  pub outline : outline m (after_all log (begun g)).situation.core.instances ≡ outline_of_parts image.parts
+  pub result : firing ≡ untimed m n (ran (put m log image.parts (begun g)) left)
+  pub private : Shows image (private s (put m log image.parts (begun g)).situation.core m)
 
 -- what is computed is what the firing is, in a situation in which the head is taken
 abbrev pub IsAnswer : Subject → Path → ℕ → Situation → Outcome → ℕ → Firing → Type 0
@@ -152,7 +195,7 @@ received_by s g p (Some t) = received s g p t.when
 
 -- the job of a transition of an instance in a situation
 pub record IsJobIn (s : Subject) (g : Situation) (job : Job) : Type 0 where
-  pub legal : AreLegal s g.core.instances
+  pub legal : MayActAlone s g.core job.path
   pub private : Shows job.image (private s g.core job.path)
   pub head : IsHead (received_by s g job.path (transition_at s job.trans (map.get g.core.instances job.path))) job.head
 

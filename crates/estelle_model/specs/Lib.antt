@@ -32,9 +32,11 @@ pub mod Queues
 pub mod Firing
 pub mod Legal
 pub mod Jobs
+pub mod Computed
 -- ---- runs
 pub mod Delays
 pub mod Selection
+pub mod Choosers
 pub mod Runs
 pub mod Ends
 pub mod Schedule

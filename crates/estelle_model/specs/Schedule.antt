@@ -1,6 +1,7 @@
--- The choices that the program makes: of all runs, the one that it runs. Here it takes the first wherever there are several candidates.
-use Rattle.std.specs.Prelude.{◌≡◌, ◌⊎◌, ℕ, ◌+◌, ◌<◌, ◌≤◌, max, nat_lt, Bool, true, false, not, ◌&&◌, ◌||◌, if◌then◌else◌, IsTrue, List, [], ◌∷◌, ◌++◌, length, drop, unwrap_or, flat_map, Contains, Option, Some, None}
-use Rattle.std.specs.List.{list_any}
+-- The choices that the executor makes, by a chooser: of all runs, the one that it runs.
+use Rattle.std.specs.Prelude.{◌≡◌, ◌⊎◌, ℕ, ◌<◌, ◌≤◌, max, nat_lt, Bool, true, false, not, ◌&&◌, ◌||◌, if◌then◌else◌, IsTrue, List, [], ◌∷◌, ◌++◌, length, drop, filter, unwrap_or, Option, Some, None}
+use Rattle.std.specs.List.{list_any, range_with_len}
+use Rattle.std.specs.FinMap as map
 use Rattle.std.specs.Str.{bytes_eq}
 use Rattle.std.specs.declared.cmp.Ordering.TheVariants.{Less}
 use Rattle.pascal_values.specs.declared.fault.Fault as fault
@@ -9,20 +10,24 @@ use Rattle.estelle_model.specs.declared.event.Event.{Event}
 use Rattle.estelle_model.specs.declared.event.Event.TheVariants.{Start, Select, Fire, Fault}
 use Rattle.estelle_model.specs.declared.event.End.{End}
 use Rattle.estelle_model.specs.declared.event.End.TheVariants as end
-use Rattle.estelle_tree.specs.Paths.{Path, path_cmp, child, is_inside}
-use Rattle.estelle_model.specs.Subject.{Subject}
+use Rattle.estelle_tree.specs.Paths.{Path, path_cmp, is_inside}
+use Rattle.estelle_model.specs.Core.{Instance}
+use Rattle.estelle_model.specs.Subject.{Subject, transitions}
 use Rattle.estelle_model.specs.Situation.{Situation}
 use Rattle.estelle_model.specs.Firing.{guard, start}
-use Rattle.estelle_model.specs.Attributes.{IsSystem, IsProcess, IsActivity}
+use Rattle.estelle_model.specs.Attributes.{IsSystem, IsProcess, IsActivity, is_empty}
 use Rattle.estelle_tree.specs.Timers.{pair, next_due, last_moment}
-use Rattle.estelle_model.specs.Delays.{is_on, has_delays, renew}
-use Rattle.estelle_model.specs.Selection.{May, HasPriority, priority, children}
+use Rattle.estelle_model.specs.Delays.{is_on, has_delays, may, renew}
+use Rattle.estelle_model.specs.Choosers.{Draw, Picks}
+use Rattle.estelle_model.specs.Selection.{has_priority, paths, children}
 use Rattle.estelle_model.specs.Runs.{IsIdle, IsFirstFault, next, started, situation}
 use Rattle.estelle_model.specs.Ends.{fires, last_event, IsFault, IsDead}
 
 -- ---- what is kept beside the events
 
-pub record Kept : Type 0 where
+pub record Kept (C : Type 0) : Type 0 where
+  -- the chooser as the picks so far leave it
+  pub chooser : C
   -- the moment of the last selection or of the last wait for the clock, whichever came later
   pub known : ℕ
   -- how many events there were at the last wait; 0 before the first
@@ -86,54 +91,55 @@ NoneDue s budget events waited = (system : Path) → IsDue s budget events waite
 
 -- ---- what it selects
 
--- the first of the transitions that may be selected and over which none of these has priority
-pub record IsFirstOffer (s : Subject) (budget : ℕ) (g : Situation) (m : Path) (n : ℕ) : Type 0 where
-  pub may : May s budget g m n
-  pub highest : (k : ℕ) → May s budget g m k → HasPriority s g m k n → ⊥
-  pub first : (k : ℕ) → k < n → May s budget g m k → priority s g m k ≡ priority s g m n → ⊥
+-- the numbers of the transitions of an instance, in their order
+abbrev pub numbers_of : Subject → Option Instance → List ℕ
+numbers_of s None = []
+numbers_of s (Some i) = range_with_len 1 (length (transitions s i.body))
 
--- none of its transitions may be selected
-abbrev pub MayNone : Subject → ℕ → Situation → Path → Type 0
-MayNone s budget g m = (n : ℕ) → May s budget g m n → ⊥
+-- of these, all that may be selected are counted
+abbrev pub counted : Subject → ℕ → Situation → Path → List ℕ
+counted s budget g m = filter (may s budget g m) (numbers_of s (map.get g.core.instances m))
 
--- none of those at and below it
-abbrev pub MayNoneBelow : Subject → ℕ → Situation → Path → Type 0
-MayNoneBelow s budget g m = (q : Path) → IsTrue (is_inside m q) → MayNone s budget g q
+-- of the counted ones, those over which none has priority
+abbrev pub offered : Subject → ℕ → Situation → Path → List ℕ
+offered s budget g m = filter (λ n. not (list_any (λ k. has_priority s g m k n) (counted s budget g m))) (counted s budget g m)
 
--- some transition at or below it
-pub record MaySome (s : Subject) (budget : ℕ) (g : Situation) (m : Path) : Type 0 where
-  pub path : Path
-  pub trans : ℕ
-  pub inside : IsTrue (is_inside m path)
-  pub may : May s budget g path trans
+-- at or below an instance some transition may be selected
+abbrev pub is_able : Subject → ℕ → Situation → Path → Bool
+is_able s budget g m = list_any (λ q. is_inside m q && not (is_empty (counted s budget g q))) (paths g)
 
--- of the children, the first at or below which some transition may be selected
-pub record IsFirstAble (s : Subject) (budget : ℕ) (g : Situation) (m : Path) (k : ℕ) : Type 0 where
-  pub is_child : Contains (children g m) k
-  pub able : MaySome s budget g (child m k)
-  pub first : (j : ℕ) → Contains (children g m) j → j < k → MayNoneBelow s budget g (child m j)
+-- the children at or below which some may
+abbrev pub able_children : Subject → ℕ → Situation → Path → List Path
+able_children s budget g m = filter (is_able s budget g) (children g m)
 
--- every transition that may be selected is counted
-pub data Chosen (s : Subject) (budget : ℕ) (g : Situation) : Path → List Pair → Type 0 where
-  -- the first offer of the instance
-  own : (m : Path) (n : ℕ) → IsFirstOffer s budget g m n → Chosen s budget g m (pair m n ∷ [])
-  -- where it has none, of a process what is chosen of each child
-  process : (m : Path) (chosen : ℕ → List Pair) → MayNone s budget g m → IsProcess s g m
-      → ((k : ℕ) → Contains (children g m) k → Chosen s budget g (child m k) (chosen k)) → Chosen s budget g m (flat_map chosen (children g m))
-  -- of an activity what is chosen of the first child that is able
-  activity : (m : Path) (k : ℕ) (chosen : List Pair) → MayNone s budget g m → IsActivity s g m
-      → IsFirstAble s budget g m k → Chosen s budget g (child m k) chosen → Chosen s budget g m chosen
-  -- and nothing where none is
-  quiet : (m : Path) → MayNoneBelow s budget g m → IsActivity s g m → Chosen s budget g m []
+mutual
+  -- from an instance downwards the chooser picks these transitions, and is left so
+  pub data Chosen {C : Type 0} (draw : Draw C) (s : Subject) (budget : ℕ) (g : Situation) : Path → C → List Pair → C → Type 0 where
+    -- one of those that the instance offers
+    own : (m : Path) (c : C) (n : ℕ) (rest : C) → Picks draw c (offered s budget g m) n rest → Chosen draw s budget g m c (pair m n ∷ []) rest
+    -- where it has none, of a process what is chosen of each child
+    process : (m : Path) (c : C) (all : List Pair) (rest : C) → counted s budget g m ≡ [] → IsProcess s g m
+        → ChosenOfEach draw s budget g (children g m) c all rest → Chosen draw s budget g m c all rest
+    -- of an activity what is chosen of one child that is able
+    activity : (m : Path) (c : C) (k : Path) (after : C) (some : List Pair) (rest : C) → counted s budget g m ≡ [] → IsActivity s g m
+        → Picks draw c (able_children s budget g m) k after → Chosen draw s budget g k after some rest → Chosen draw s budget g m c some rest
+    -- and nothing where none is
+    quiet : (m : Path) (c : C) → counted s budget g m ≡ [] → IsActivity s g m → able_children s budget g m ≡ [] → Chosen draw s budget g m c [] c
+
+  -- of these instances, one after another
+  pub data ChosenOfEach {C : Type 0} (draw : Draw C) (s : Subject) (budget : ℕ) (g : Situation) : List Path → C → List Pair → C → Type 0 where
+    none : (c : C) → ChosenOfEach draw s budget g [] c [] c
+    more : (m : Path) (ms : List Path) (c : C) (some : List Pair) (after : C) (others : List Pair) (rest : C)
+        → Chosen draw s budget g m c some after → ChosenOfEach draw s budget g ms after others rest → ChosenOfEach draw s budget g (m ∷ ms) c (some ++ others) rest
 
 -- ---- the clock
 
 -- the moment of a selection: what the clock answers; without a delay it is not asked
-abbrev pub IsMomentBy : Bool → Kept → ℕ → Type 0
-IsMomentBy true kept now = MayAnswer kept.clock kept.known now
-IsMomentBy false kept now = now ≡ 0
+abbrev pub IsMomentBy : Bool → Option ℕ → ℕ → ℕ → Type 0
+IsMomentBy true clock known now = MayAnswer clock known now
+IsMomentBy false clock known now = now ≡ 0
 
-abbrev pub IsMoment : Subject → Kept → ℕ → Type 0
+abbrev pub IsMoment : Subject → Option ℕ → ℕ → ℕ → Type 0
 IsMoment s = IsMomentBy (has_delays s)
 
 -- the clock is waited for until the first moment at which a transition with a timer may fire, or the last one that is known
@@ -151,44 +157,53 @@ pub record IsWaiting (s : Subject) (budget : ℕ) (events : List Event) (waited 
 
 -- ---- the steps
 
--- the first due system selects
-pub record SelectIsPlanned (s : Subject) (budget : ℕ) (before : List Event) (kept : Kept) (system : Path) (now : ℕ) (takes : List Pair) : Type 0 where
-  pub due : IsFirstDue s budget before kept.waited system
-  pub moment : IsMoment s kept now
-  pub chosen : Chosen s budget (renew s budget (situation s budget before) system now) system takes
+module _ {C : Type 0} (draw : Draw C) (s : Subject) (budget : ℕ) where
+  -- the first due system selects
+  pub record SelectIsPlanned (before : List Event) (kept : Kept C) (system : Path) (now : ℕ) (takes : List Pair) (rest : C) : Type 0 where
+    pub due : IsFirstDue s budget before kept.waited system
+    pub moment : IsMoment s kept.clock kept.known now
+    pub chosen : Chosen draw s budget (renew s budget (situation s budget before) system now) system kept.chooser takes rest
 
--- no system is due, and the firing that was selected first is executed
-pub record FiringIsPlanned (s : Subject) (budget : ℕ) (before : List Event) (waited : ℕ) (m : Path) (n : ℕ) : Type 0 where
-  pub none_due : NoneDue s budget before waited
-  pub others : List Pair
-  pub next : (situation s budget before).pending ≡ pair m n ∷ others
+  -- no system is due, and of the pending firings the chooser picks this one
+  pub record FiringIsPlanned (before : List Event) (kept : Kept C) (m : Path) (n : ℕ) (rest : C) : Type 0 where
+    pub none_due : NoneDue s budget before kept.waited
+    pub picked : Picks draw kept.chooser (situation s budget before).pending (pair m n) rest
 
--- a guard of the first due system faults
-pub record GuardFaultIsPlanned (s : Subject) (budget : ℕ) (before : List Event) (waited : ℕ) (m : Path) (n : ℕ) (kind : fault.Fault) : Type 0 where
-  pub system : Path
-  pub due : IsFirstDue s budget before waited system
-  pub fault : IsFirstFault s budget (situation s budget before) system m n kind
+  -- a guard of the first due system faults
+  pub record GuardFaultIsPlanned (before : List Event) (kept : Kept C) (m : Path) (n : ℕ) (kind : fault.Fault) (rest : C) : Type 0 where
+    pub system : Path
+    pub due : IsFirstDue s budget before kept.waited system
+    pub fault : IsFirstFault s budget (situation s budget before) system m n kind
+    pub undrawn : rest ≡ kept.chooser
 
--- this event is next
-abbrev pub IsPlanned : Subject → ℕ → List Event → Kept → Event → Type 0
-IsPlanned s budget before kept (Start outs drops) = ⊥
-IsPlanned s budget before kept (Select system now takes) = SelectIsPlanned s budget before kept system now takes
-IsPlanned s budget before kept (Fire m n outs drops) = FiringIsPlanned s budget before kept.waited m n
-IsPlanned s budget before kept (Fault m n kind) = GuardFaultIsPlanned s budget before kept.waited m n kind ⊎ FiringIsPlanned s budget before kept.waited m n
+  -- this event is next, and the chooser is left so
+  abbrev pub IsPlanned : List Event → Kept C → Event → C → Type 0
+  IsPlanned before kept (Start outs drops) rest = ⊥
+  IsPlanned before kept (Select system now takes) rest = SelectIsPlanned before kept system now takes rest
+  IsPlanned before kept (Fire m n outs drops) rest = FiringIsPlanned before kept m n rest
+  IsPlanned before kept (Fault m n kind) rest = GuardFaultIsPlanned before kept m n kind rest ⊎ FiringIsPlanned before kept m n rest
+
+-- the moment of a selection is known
+abbrev pub known_after : Event → ℕ → ℕ
+known_after (Select system now takes) known = now
+known_after _ known = known
 
 -- what is kept after an event
-abbrev pub kept_after : Event → Kept → Kept
-kept_after (Select system now takes) kept = record kept { known = now }
-kept_after _ kept = kept
+abbrev pub kept_after : {C : Type 0} → Event → C → Kept C → Kept C
+kept_after e rest kept = record kept { chooser = rest; known = known_after e kept.known }
 
--- from a clock that tells this moment, or none, the steps give these events, and this is kept then; each comes below the limit of firings
-pub data Reaches (s : Subject) (budget turns : ℕ) (clock : Option ℕ) : List Event → Kept → Type 0 where
-  begins : (e : Event) → Reaches s budget turns clock (e ∷ []) (record { known = 0; waited = 0; clock = clock })
-  goes_on : (before : List Event) (kept : Kept) (e : Event) → Reaches s budget turns clock before kept → fires before < turns → IsPlanned s budget before kept e
-      → Reaches s budget turns clock (before ++ e ∷ []) (kept_after e kept)
-  waits : (events : List Event) (kept : Kept) (now : ℕ) → Reaches s budget turns clock events kept → fires events < turns → IsWaiting s budget events kept.waited
+-- before the first step
+abbrev pub kept_first : {C : Type 0} → Option ℕ → C → Kept C
+kept_first clock chooser = record { chooser = chooser; known = 0; waited = 0; clock = clock }
+
+-- from a clock that tells this moment, or none, and from this chooser the steps give these events, and this is kept then; each comes below the limit of firings
+pub data Reaches {C : Type 0} (draw : Draw C) (s : Subject) (budget turns : ℕ) (clock : Option ℕ) (chooser : C) : List Event → Kept C → Type 0 where
+  begins : (e : Event) → Reaches draw s budget turns clock chooser (e ∷ []) (kept_first clock chooser)
+  goes_on : (before : List Event) (kept : Kept C) (e : Event) (rest : C) → Reaches draw s budget turns clock chooser before kept → fires before < turns → IsPlanned draw s budget before kept e rest
+      → Reaches draw s budget turns clock chooser (before ++ e ∷ []) (kept_after e rest kept)
+  waits : (events : List Event) (kept : Kept C) (now : ℕ) → Reaches draw s budget turns clock chooser events kept → fires events < turns → IsWaiting s budget events kept.waited
       → MayAnswer kept.clock (wait_until (situation s budget events) kept.known) now
-      → Reaches s budget turns clock events (record { known = now; waited = length events; clock = told_after kept.clock now })
+      → Reaches draw s budget turns clock chooser events (record kept { known = now; waited = length events; clock = told_after kept.clock now })
 
 -- ---- the end
 
@@ -210,8 +225,8 @@ IsPlannedEnd s budget turns events waited end.Turns = fires events ≡ turns
 IsPlannedEnd s budget turns events waited end.Clock = EndsByClock s budget turns events waited
 IsPlannedEnd s budget turns events waited (end.Faulted kind) = IsFault (last_event events) kind
 
--- the program's choices give these events and this end
-pub record IsScheduled (s : Subject) (budget turns : ℕ) (clock : Option ℕ) (events : List Event) (e : End) : Type 0 where
-  pub kept : Kept
-  pub reached : Reaches s budget turns clock events kept
+-- the choices of this chooser give these events and this end
+pub record IsScheduled {C : Type 0} (draw : Draw C) (s : Subject) (budget turns : ℕ) (clock : Option ℕ) (chooser : C) (events : List Event) (e : End) : Type 0 where
+  pub kept : Kept C
+  pub reached : Reaches draw s budget turns clock chooser events kept
   pub ends : IsPlannedEnd s budget turns events kept.waited e

@@ -55,7 +55,7 @@ of_block known received b = record {
 
 abbrev pub transitions_of : Subject → Option BodyAlone → List Transition
 transitions_of s None = []
-transitions_of s (Some b) = flat (meant s) b
+transitions_of s (Some b) = flat (meant_with s) b
 
 -- the transitions of the body with a number
 abbrev pub transitions : Subject → ℕ → List Transition

@@ -1,10 +1,11 @@
 -- The transitions of a body without nested clauses and without `any` (ISO/IEC 9074: flat transitions).
-use Rattle.std.specs.Prelude.{ℕ, zero, suc, List, [], ◌∷◌, map, flat_map, fold, ℤ, pos, ◌+ℤ◌, Option, Some, None, Result, Ok, Err}
+use Rattle.std.specs.Prelude.{ℕ, zero, suc, List, [], ◌∷◌, map, flat_map, fold, ℤ, pos, ◌+ℤ◌, option_and_then, Option, Some, None, Result, Ok, Err}
 use Rattle.pascal_values.specs.declared.fault.Fault.{Fault}
 use Rattle.pascal_values.specs.declared.value.Value.{Value}
 use Rattle.pascal_values.specs.declared.value.Value.TheVariants as pascal
 use Rattle.pascal_values.specs.Shapes.{item_count}
 use Rattle.estelle_tree.specs.declared.tree.name.Name.{Name}
+use Rattle.estelle_tree.specs.declared.tree.type_expr.Const.{Const}
 use Rattle.estelle_tree.specs.declared.tree.expression.Expr.{Expr}
 use Rattle.estelle_tree.specs.declared.tree.clause.AnyDom.{AnyDom}
 use Rattle.estelle_tree.specs.declared.tree.clause.Block.{Block}
@@ -102,13 +103,17 @@ module _ (known : Meanings) where
   provided_of (clause.Provided e span) = Some e
   provided_of _ = None
 
+  abbrev pub priority_of : Clause → Option Const
+  priority_of (clause.Priority c span) = Some c
+  priority_of _ = None
+
   abbrev pub number_at : Result ℤ Fault → Option ℤ
   number_at (Ok n) = Some n
   number_at (Err e) = None
 
-  abbrev pub priority_of : Clause → Option ℤ
-  priority_of (clause.Priority c span) = number_at (constant_of known c >>> ordinal_of)
-  priority_of _ = None
+  -- the number that a constant is, if it has a value
+  abbrev pub number_of : Const → Option ℤ
+  number_of c = number_at (constant_of known c >>> ordinal_of)
 
   abbrev pub delay_of : Clause → Option Delay
   delay_of (clause.Delay low high span) = Some (record { low = low; high = high })
@@ -141,22 +146,29 @@ module _ (known : Meanings) where
   abbrev pub names_of_domain : AnyDom → List (Name × Denoter)
   names_of_domain d = map (λ x. (x, ordinal_type known d.domain)) d.names.names
 
+-- means : what names mean where the names of `any` have these values
+module _ (means : List Choice → Meanings) where
+  -- a name of `any` is a constant in `priority`, which is the only clause that is evaluated here
   abbrev pub flat_one : Way → List Choice → Transition
   flat_one w chosen = record {
-    from = said from_of w.clauses;
-    to = said to_of w.clauses;
-    when = said when_of w.clauses;
-    received = received known w.clauses;
-    provided = said provided_of w.clauses;
-    priority = said priority_of w.clauses;
-    delay = said delay_of w.clauses;
+    from = said (from_of (means [])) w.clauses;
+    to = said (to_of (means [])) w.clauses;
+    when = said (when_of (means [])) w.clauses;
+    received = received (means []) w.clauses;
+    provided = said (provided_of (means [])) w.clauses;
+    priority = option_and_then (number_of (means chosen)) (said (priority_of (means [])) w.clauses);
+    delay = said (delay_of (means [])) w.clauses;
     chosen = chosen;
     block = w.block;
   }
 
-  -- one for each choice of values, the last name fastest, from low to high
+  -- the choices of values on a way, the last name fastest, from low to high
+  abbrev pub choices_on : Way → List (List Choice)
+  choices_on w = choices (means []) (flat_map (names_of_domain (means [])) (flat_map domains_of w.clauses))
+
+  -- one for each choice
   abbrev pub flat_way : Way → List Transition
-  flat_way w = map (flat_one w) (choices (flat_map names_of_domain (flat_map domains_of w.clauses)))
+  flat_way w = map (flat_one w) (choices_on w)
 
   -- in text order
   abbrev pub flat : BodyAlone → List Transition

@@ -4,3 +4,4 @@ pub mod Mail
 pub mod Pending
 pub mod Situations
 pub mod Jobs
+pub mod Choices

@@ -1,8 +1,19 @@
 //! Laws of legal situations: their contracts are the laws, and they do nothing.
 
+ghost use Rattle.estelle_model_legality.specs.Choices.{LegalAreTree, ChosenIsSelected, ChosenIsOne, ChosenIsThere};
 ghost use Rattle.estelle_model_legality.specs.Jobs.{PendingHaveJobs};
 
 /// What is pending in a legal situation has a job there: what is computed of it alone answers for the situation.
 pub fn pending_have_jobs()
     ensures { PendingHaveJobs }
+{}
+
+/// What a chooser chooses at and below an instance may be selected there, in every tree of instances and with timers whose
+/// low is at most their high; the instances of a legal situation are such a tree. It chooses one thing, and of a system
+/// it chooses something, where it picks among the candidates.
+pub fn chosen_is_selected<C>()
+    ensures tree { LegalAreTree }
+    ensures selected { ChosenIsSelected C }
+    ensures one { ChosenIsOne C }
+    ensures there { ChosenIsThere C }
 {}

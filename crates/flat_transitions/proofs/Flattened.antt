@@ -15,9 +15,10 @@ use Rattle.estelle_tree.specs.declared.tree.specification.Trans.{Trans}
 use Rattle.estelle_model.specs.Meant.{Meanings}
 use Rattle.estelle_model.specs.Definitions.{types_received, interaction_of, received, domains_of}
 use Rattle.estelle_model.specs.Bodies.{Way, behind, ways, trans_body_layer, group_layer, clauses, clauses_layer, clause_group_layer}
-use Rattle.estelle_model.specs.Transitions.{Transition, or_first, said, from_of, to_of, when_of, provided_of, priority_of, delay_of, names_of_domain, choices, flat_one, flat_way}
+use Rattle.estelle_model.specs.Transitions.{Transition, or_first, said, from_of, to_of, when_of, provided_of, priority_of, delay_of, Choice, names_of_domain, choices, flat_one, flat_way}
 use Rattle.flat_transitions.specs.declared.in_force.ClausesInForce.{ClausesInForce}
-use Rattle.flat_transitions.specs.Flat.{is_any, have_no_any, is_without_any, ways_in, transitions_in}
+use Rattle.meaning_table.specs.Known.{Known, meanings_of}
+use Rattle.flat_transitions.specs.Flat.{is_any, have_no_any, is_without_any, ways_in, with_chosen, transitions_in}
 use Rattle.flat_transitions.specs.Walks.{unsaid, with_clause, reached, at_way, below}
 use Rattle.flat_transitions.proofs.Walks.{group_clauses, group_ways}
 
@@ -178,28 +179,29 @@ module _ (known : Meanings) where
   no_domains [] h = refl
   no_domains (c ∷ cs) h = ap (λ ds. ds ++ flat_map domains_of cs) (none_of c (left_true (not (is_any c)) (have_no_any cs) h)) ∙ no_domains cs (right_true (not (is_any c)) (have_no_any cs) h)
 
-  way_flat : (w : Way) → IsTrue (is_free w) → at_way known unsaid w ∷ [] ≡ flat_way known w
+module _ (means : List Choice → Meanings) where
+  way_flat : (w : Way) → IsTrue (is_free w) → at_way (means []) unsaid w ∷ [] ≡ flat_way means w
   way_flat w h =
-      ap (λ s. reached s w.block ∷ []) (all_said w.clauses unsaid)
-      ∙ sym (ap (λ ds. map (flat_one known w) (choices known (flat_map (names_of_domain known) ds))) (no_domains w.clauses h))
+      ap (λ s. reached (means []) s w.block ∷ []) (all_said (means []) w.clauses unsaid)
+      ∙ sym (ap (λ ds. map (flat_one means w) (choices (means []) (flat_map (names_of_domain (means [])) ds))) (no_domains (means []) w.clauses h))
 
-  ways_flat : (ws : List Way) → IsTrue (list_all is_free ws) → map (at_way known unsaid) ws ≡ flat_map (flat_way known) ws
+  ways_flat : (ws : List Way) → IsTrue (list_all is_free ws) → map (at_way (means []) unsaid) ws ≡ flat_map (flat_way means) ws
   ways_flat [] h = refl
   ways_flat (w ∷ ws) h =
-      ap (λ ts. ts ++ map (at_way known unsaid) ws) (way_flat w (left_true (is_free w) (list_all is_free ws) h))
-      ∙ ap (λ ts. flat_way known w ++ ts) (ways_flat ws (right_true (is_free w) (list_all is_free ws) h))
+      ap (λ ts. ts ++ map (at_way (means []) unsaid) ws) (way_flat w (left_true (is_free w) (list_all is_free ws) h))
+      ∙ ap (λ ts. flat_way means w ++ ts) (ways_flat ws (right_true (is_free w) (list_all is_free ws) h))
 
-  pub flattened : (ts : List Trans) → IsTrue (is_without_any ts) → flat_map (λ t. below known unsaid t.body) ts ≡ transitions_in known ts
+  pub flattened : (ts : List Trans) → IsTrue (is_without_any ts) → flat_map (λ t. below (means []) unsaid t.body) ts ≡ transitions_in means ts
   flattened [] h = refl
   flattened (t ∷ ts) h =
       let each : IsTrue (have_no_any (clauses t.body) && is_without_any ts) = sym (list_all-append (λ c. not (is_any c)) (clauses t.body) (flat_map (λ u. clauses u.body) ts)) ∙ h in
       let here = left_true (have_no_any (clauses t.body)) (is_without_any ts) each in
       let more = right_true (have_no_any (clauses t.body)) (is_without_any ts) each in
-      ap (λ us. us ++ flat_map (λ u. below known unsaid u.body) ts) (ways_flat (ways t.body) (body_free t.body here))
-      ∙ ap (λ us. flat_map (flat_way known) (ways t.body) ++ us) (flattened ts more)
-      ∙ sym (flat_map-append (flat_way known) (ways t.body) (ways_in ts))
+      ap (λ us. us ++ flat_map (λ u. below (means []) unsaid u.body) ts) (ways_flat (ways t.body) (body_free t.body here))
+      ∙ ap (λ us. flat_map (flat_way means) (ways t.body) ++ us) (flattened ts more)
+      ∙ sym (flat_map-append (flat_way means) (ways t.body) (ways_in ts))
 
 -- what is found, where no `any` stands, are the flat transitions
-pub all_flattened : (known : Meanings) (ts : List Trans) (b : Bool) (found : List Transition) → b ≡ is_without_any ts → b ≡ true → found ≡ flat_map (λ t. below known unsaid t.body) ts
-    → Some found ≡ (if is_without_any ts then Some (transitions_in known ts) else None)
-all_flattened known ts b found is so all = rw (sym is ∙ so) (ap (λ us. Some us) (all ∙ flattened known ts (sym is ∙ so)))
+pub all_flattened : (known : Known) (ts : List Trans) (b : Bool) (found : List Transition) → b ≡ is_without_any ts → b ≡ true → found ≡ flat_map (λ t. below (meanings_of known) unsaid t.body) ts
+    → Some found ≡ (if is_without_any ts then Some (transitions_in (with_chosen known) ts) else None)
+all_flattened known ts b found is so all = rw (sym is ∙ so) (ap (λ us. Some us) (all ∙ flattened (with_chosen known) ts (sym is ∙ so)))

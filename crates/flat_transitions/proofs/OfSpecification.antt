@@ -4,10 +4,10 @@ use Rattle.std.specs.Prelude.{slice_get}
 use Rattle.estelle_tree.specs.declared.tree.specification.Decl.TheFolds.{fold_out-Parts}
 use Rattle.estelle_tree.specs.declared.tree.specification.Parts.{out-Parts}
 use Rattle.estelle_model.specs.Bodies.{Contribution, BodyAlone, decl_layer, body_layer, parts_layer, standings, default_of}
-use Rattle.estelle_model.specs.Subject.{Subject, meant, transitions_of, transitions}
+use Rattle.estelle_model.specs.Subject.{Subject, meant_with, transitions_of, transitions}
 use Rattle.flat_transitions.specs.Flat.{transitions_in}
 
-pub specification_transitions : (s : Subject) → transitions s 0 ≡ transitions_in (meant s) (out-Parts s.specification.parts).trans
+pub specification_transitions : (s : Subject) → transitions s 0 ≡ transitions_in (meant_with s) (out-Parts s.specification.parts).trans
 unfolding standings
 specification_transitions s =
     let d = default_of s.specification.heads in

@@ -14,6 +14,7 @@ use Rattle.estelle_tree.specs.declared.tree.specification.Decl.TheOpen.{Decl-F, 
 use Rattle.estelle_tree.specs.declared.tree.specification.Decl.TheFolds.{map-Body, map-Parts, fold-Decl, fold-Body, fold-roll-Body, fold-roll-Parts, ind-Parts}
 use Rattle.estelle_tree.specs.declared.tree.specification.Spec.{Spec}
 use Rattle.estelle_model.specs.Meant.{Meanings}
+use Rattle.estelle_model.specs.Transitions.{Choice}
 use Rattle.estelle_model.specs.Bodies.{Contribution, BodyAlone, decl_layer, headed, body_layer, parts_layer, standings, default_of, bodies}
 use Rattle.flat_transitions.specs.Flat as trans
 use Rattle.flat_transitions.specs.FlatList.{body_list, listed, is_without_any, nothing, listed_without_any}
@@ -150,21 +151,21 @@ right_true : (a b : Bool) → IsTrue (a && b) → IsTrue b
 right_true true b h = h
 right_true false b h = absurd (cc)
 
-each_listed : (known : Meanings) (bs : List BodyAlone) → IsTrue (list_all (λ b. trans.is_without_any b.trans) bs) → map (trans_list known) (trans_of bs) ≡ map (body_list known) bs
-each_listed known [] h = refl
-each_listed known (b ∷ bs) h =
+each_listed : (means : List Choice → Meanings) (bs : List BodyAlone) → IsTrue (list_all (λ b. trans.is_without_any b.trans) bs) → map (trans_list means) (trans_of bs) ≡ map (body_list means) bs
+each_listed means [] h = refl
+each_listed means (b ∷ bs) h =
     let here = left_true (trans.is_without_any b.trans) (list_all (λ c. trans.is_without_any c.trans) bs) h in
     let more = right_true (trans.is_without_any b.trans) (list_all (λ c. trans.is_without_any c.trans) bs) h in
-    ap (λ c. (if c then body_list known b else []) ∷ map (trans_list known) (trans_of bs)) here
-    ∙ ap (λ ts. body_list known b ∷ ts) (each_listed known bs more)
+    ap (λ c. (if c then body_list means b else []) ∷ map (trans_list means) (trans_of bs)) here
+    ∙ ap (λ ts. body_list means b ∷ ts) (each_listed means bs more)
 
 -- the list, where no value is to be chosen
-pub all_listed : (known : Meanings) (x : Spec) (shown : List (List FlatTrans)) → list_all trans.is_without_any (parts_trans x.parts) ≡ true → shown ≡ map (trans_list known) (parts_trans x.parts)
-    → record { bodies = shown } ≡ listed_without_any known x
-all_listed known x shown h is =
+pub all_listed : (means : List Choice → Meanings) (x : Spec) (shown : List (List FlatTrans)) → list_all trans.is_without_any (parts_trans x.parts) ≡ true → shown ≡ map (trans_list means) (parts_trans x.parts)
+    → record { bodies = shown } ≡ listed_without_any means x
+all_listed means x shown h is =
     let none : IsTrue (is_without_any x) = none_chosen x ∙ h in
-    ap (λ (ts : List (List FlatTrans)). record { bodies = ts }) (is ∙ ap (map (trans_list known)) (sym (bodies_same x)) ∙ each_listed known (bodies x) none)
-    ∙ sym (ap (λ b. if b then listed known x else nothing) none)
+    ap (λ (ts : List (List FlatTrans)). record { bodies = ts }) (is ∙ ap (map (trans_list means)) (sym (bodies_same x)) ∙ each_listed means (bodies x) none)
+    ∙ sym (ap (λ b. if b then listed means x else nothing) none)
 
-pub none_listed : (known : Meanings) (x : Spec) → list_all trans.is_without_any (parts_trans x.parts) ≡ false → nothing ≡ listed_without_any known x
-none_listed known x h = sym (ap (λ b. if b then listed known x else nothing) (none_chosen x ∙ h))
+pub none_listed : (means : List Choice → Meanings) (x : Spec) → list_all trans.is_without_any (parts_trans x.parts) ≡ false → nothing ≡ listed_without_any means x
+none_listed means x h = sym (ap (λ b. if b then listed means x else nothing) (none_chosen x ∙ h))

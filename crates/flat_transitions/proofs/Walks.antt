@@ -67,7 +67,7 @@ group_ways_are x = fold_out-Group (List Way) (List Way) trans_body_layer group_l
 
 module _ (known : Meanings) where
   abbrev below_at : ClausesInForce → TransBody-F TransBody Group → List Transition
-  below_at s (TransBody-F.Block b) = reached s b ∷ []
+  below_at s (TransBody-F.Block b) = reached known s b ∷ []
   below_at s (TransBody-F.Groups groups span) = flat_map (below_group known s) groups
 
   pub below_group_is : (s : ClausesInForce) (g : Group) → below_group known s g ≡ below known (with_clause known s (out-Group g).clause) (out-Group g).body

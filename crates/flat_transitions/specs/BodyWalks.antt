@@ -8,12 +8,13 @@ use Rattle.estelle_tree.specs.declared.tree.specification.Decl.TheOpen.{Decl-F, 
 use Rattle.estelle_tree.specs.declared.tree.specification.Decl.TheFolds.{fold-Decl, fold-Parts}
 use Rattle.estelle_tree.specs.declared.tree.specification.Parts.{Parts}
 use Rattle.estelle_model.specs.Meant.{Meanings}
+use Rattle.estelle_model.specs.Transitions.{Choice}
 use Rattle.flat_transitions.specs.Flat.{is_without_any, transitions_in}
 use Rattle.flat_transitions.specs.FlatList.{numbered_from}
 
 -- the transitions of one body; nothing where an `any` stands
-abbrev pub trans_list : Meanings → List Trans → List FlatTrans
-trans_list known ts = if is_without_any ts then numbered_from 1 (transitions_in known ts) else []
+abbrev pub trans_list : (List Choice → Meanings) → List Trans → List FlatTrans
+trans_list means ts = if is_without_any ts then numbered_from 1 (transitions_in means ts) else []
 
 abbrev pub decl_layer : Decl-F (List (List Trans)) (List (List Trans)) (List (List Trans)) → List (List Trans)
 decl_layer (Decl-F.Body ts) = ts

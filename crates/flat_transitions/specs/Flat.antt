@@ -6,7 +6,9 @@ use Rattle.estelle_tree.specs.declared.tree.clause.Clause.TheVariants as clause
 use Rattle.estelle_tree.specs.declared.tree.specification.Trans.{Trans}
 use Rattle.estelle_model.specs.Meant.{Meanings}
 use Rattle.estelle_model.specs.Bodies.{Way, ways, clauses}
-use Rattle.estelle_model.specs.Transitions.{Transition, flat_way}
+use Rattle.estelle_model.specs.Names.{meant_by}
+use Rattle.estelle_model.specs.Transitions.{Choice, with_choices, Transition, flat_way}
+use Rattle.meaning_table.specs.Known.{Known}
 
 -- it chooses values
 abbrev pub is_any : Clause → Bool
@@ -24,6 +26,10 @@ is_without_any ts = have_no_any (flat_map (λ t. clauses t.body) ts)
 abbrev pub ways_in : List Trans → List Way
 ways_in = flat_map (λ t. ways t.body)
 
+-- what names mean where the names of `any` have these values
+abbrev pub with_chosen : Known → List Choice → Meanings
+with_chosen known chosen = meant_by known.names (with_choices known.declared chosen)
+
 -- the transitions behind each `trans`, as in `flat`
-abbrev pub transitions_in : Meanings → List Trans → List Transition
-transitions_in known ts = flat_map (flat_way known) (ways_in ts)
+abbrev pub transitions_in : (List Choice → Meanings) → List Trans → List Transition
+transitions_in means ts = flat_map (flat_way means) (ways_in ts)

@@ -15,7 +15,7 @@ use Rattle.estelle_model.specs.Types.{ordinal_of}
 use Rattle.estelle_model.specs.Meant.{Meanings}
 use Rattle.estelle_model.specs.Bodies.{BodyAlone, bodies}
 use Rattle.estelle_model.specs.Transitions.{When, Delay, Choice, Transition, flat}
-use Rattle.estelle_model.specs.Subject.{Subject, meant}
+use Rattle.estelle_model.specs.Subject.{Subject, meant_with}
 use Rattle.flat_transitions.specs.Flat as trans
 
 abbrev pub span_of : Expr → Span
@@ -64,15 +64,15 @@ numbered_from n [] = []
 numbered_from n (t ∷ ts) = flat_trans n t ∷ numbered_from (suc n) ts
 
 -- the flat transitions of a body, in text order and with numbers from 1 on
-abbrev pub body_list : Meanings → BodyAlone → List FlatTrans
-body_list known b = numbered_from 1 (flat known b)
+abbrev pub body_list : (List Choice → Meanings) → BodyAlone → List FlatTrans
+body_list means b = numbered_from 1 (flat means b)
 
-abbrev pub listed : Meanings → Spec → Flat
-listed known spec = record { bodies = map (body_list known) (bodies spec) }
+abbrev pub listed : (List Choice → Meanings) → Spec → Flat
+listed means spec = record { bodies = map (body_list means) (bodies spec) }
 
 -- the flat transitions of each body: number n in the list of body k is `transition s k n`
 abbrev pub flat_list : Subject → Flat
-flat_list s = listed (meant s) s.specification
+flat_list s = listed (meant_with s) s.specification
 
 -- no clause `any` stands in any body
 abbrev pub is_without_any : Spec → Bool
@@ -83,5 +83,5 @@ abbrev pub nothing : Flat
 nothing = record { bodies = [] }
 
 -- the list where no value is to be chosen
-abbrev pub listed_without_any : Meanings → Spec → Flat
-listed_without_any known spec = if is_without_any spec then listed known spec else nothing
+abbrev pub listed_without_any : (List Choice → Meanings) → Spec → Flat
+listed_without_any means spec = if is_without_any spec then listed means spec else nothing

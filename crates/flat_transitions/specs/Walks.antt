@@ -1,5 +1,5 @@
 -- What the walk down to the blocks keeps.
-use Rattle.std.specs.Prelude.{Bool, not, ◌&&◌, ◌++◌, ◌∷◌, [], List, map, fold, None}
+use Rattle.std.specs.Prelude.{Bool, not, ◌&&◌, ◌++◌, ◌∷◌, [], List, map, fold, option_and_then, None}
 use Rattle.estelle_tree.specs.declared.tree.clause.Block.{Block}
 use Rattle.estelle_tree.specs.declared.tree.clause.Clause.{Clause}
 use Rattle.estelle_tree.specs.declared.tree.clause.Group.{Group, out-Group}
@@ -7,7 +7,7 @@ use Rattle.estelle_tree.specs.declared.tree.clause.TransBody.{TransBody}
 use Rattle.estelle_model.specs.Meant.{Meanings}
 use Rattle.estelle_model.specs.Definitions.{received}
 use Rattle.estelle_model.specs.Bodies.{Way, ways, clauses}
-use Rattle.estelle_model.specs.Transitions.{Transition, or_first, from_of, to_of, when_of, provided_of, priority_of, delay_of}
+use Rattle.estelle_model.specs.Transitions.{Transition, or_first, from_of, to_of, when_of, provided_of, priority_of, number_of, delay_of}
 use Rattle.flat_transitions.specs.Flat.{is_any, have_no_any}
 use Rattle.flat_transitions.specs.declared.in_force.ClausesInForce.{ClausesInForce}
 
@@ -28,11 +28,11 @@ with_clause known s c = record {
 }
 
 -- the transition of a block of which this is said
-abbrev pub reached : ClausesInForce → Block → Transition
-reached s b = record { from = s.from; to = s.to; when = s.when; received = s.received; provided = s.provided; priority = s.priority; delay = s.delay; chosen = []; block = b }
+abbrev pub reached : Meanings → ClausesInForce → Block → Transition
+reached known s b = record { from = s.from; to = s.to; when = s.when; received = s.received; provided = s.provided; priority = option_and_then (number_of known) s.priority; delay = s.delay; chosen = []; block = b }
 
 abbrev pub at_way : Meanings → ClausesInForce → Way → Transition
-at_way known s w = reached (fold (with_clause known) s w.clauses) w.block
+at_way known s w = reached known (fold (with_clause known) s w.clauses) w.block
 
 -- the transitions of the blocks in it, where this is said before
 abbrev pub below : Meanings → ClausesInForce → TransBody → List Transition

@@ -2,10 +2,10 @@
 
 ghost use Rattle.std.specs.Prelude.{◌≡◌, ◌++◌, IfOk, OnOk, map};
 ghost use Rattle.std.specs.List.{list_all, flat_map};
+ghost use Rattle.flat_transitions.specs.Flat.{with_chosen};
 ghost use Rattle.flat_transitions.specs.Flat as trans;
 ghost use Rattle.flat_transitions.specs.FlatList as flat;
 ghost use Rattle.flat_transitions.specs.BodyWalks.{trans_list, decl_trans, parts_trans};
-ghost use Rattle.meaning_table.specs.Known.{meanings_of};
 
 use crate::any::is_without_any;
 use crate::entries::numbered;
@@ -45,7 +45,7 @@ fn decl_without_any(decl: &Decl) -> bool
 
 /// The transitions of a body; nothing where an `any` stands.
 fn body_list(table: &Table, trans: &[Trans]) -> Result<Items<FlatTrans>, AllocError>
-    ensures { IfOk result (λ shown. shown ≡ trans_list (meanings_of table.now) trans.now) }
+    ensures { IfOk result (λ shown. shown ≡ trans_list (with_chosen table.now) trans.now) }
 {
     match transitions(table, trans)? {
         None => Ok(Items::new(table.alloc)),
@@ -59,7 +59,7 @@ fn parts_list(
     parts: &Parts,
     out: &mut Items<Items<FlatTrans>>,
 ) -> Result<(), AllocError>
-    ensures { OnOk result (out.new ≡ out.old ++ map (trans_list (meanings_of table.now)) (parts_trans parts.now)) }
+    ensures { OnOk result (out.new ≡ out.old ++ map (trans_list (with_chosen table.now)) (parts_trans parts.now)) }
 {
     out.push(body_list(table, parts.trans.items())?)?;
     decls_list(table, parts.decls.items(), out)
@@ -71,7 +71,7 @@ fn decls_list(
     decls: &[Decl],
     out: &mut Items<Items<FlatTrans>>,
 ) -> Result<(), AllocError>
-    ensures { OnOk result (out.new ≡ out.old ++ flat_map (λ d. map (trans_list (meanings_of table.now)) (decl_trans d)) decls.now) }
+    ensures { OnOk result (out.new ≡ out.old ++ flat_map (λ d. map (trans_list (with_chosen table.now)) (decl_trans d)) decls.now) }
 {
     for decl in decls {
         decl_list(table, decl, out)?;
@@ -85,7 +85,7 @@ fn decl_list(
     decl: &Decl,
     out: &mut Items<Items<FlatTrans>>,
 ) -> Result<(), AllocError>
-    ensures { OnOk result (out.new ≡ out.old ++ map (trans_list (meanings_of table.now)) (decl_trans decl.now)) }
+    ensures { OnOk result (out.new ≡ out.old ++ map (trans_list (with_chosen table.now)) (decl_trans decl.now)) }
 {
     match decl {
         Decl::Body(body) => parts_list(table, &body.parts, out),
@@ -95,7 +95,7 @@ fn decl_list(
 
 /// The list by what names mean; nothing where an `any` stands.
 pub fn listed(table: &Table, spec: &Spec) -> Result<Flat, AllocError>
-    ensures { IfOk result (λ list. list ≡ flat.listed_without_any (meanings_of table.now) spec.now) }
+    ensures { IfOk result (λ list. list ≡ flat.listed_without_any (with_chosen table.now) spec.now) }
 {
     let mut bodies = Items::new(table.alloc);
     if !parts_without_any(&spec.parts) {

@@ -2,7 +2,7 @@
 
 ghost use Rattle.std.specs.Prelude.{◌≡◌};
 
-use estelle_tree::{DelayHigh, Expr, Name};
+use estelle_tree::{Const, DelayHigh, Expr, Name};
 use std::marker::Model;
 
 /// An interaction at an interaction point of the instance.
@@ -80,6 +80,34 @@ impl<'a> Condition<'a> {
         ensures { result.now ≡ self.now }
     {
         self.expr
+    }
+}
+
+/// What stands behind `priority`.
+#[derive(Drop)]
+pub struct Priority<'a> {
+    value: &'a Const,
+}
+
+impl<'a> Model for Priority<'a> {
+    ghost use Rattle.estelle_tree.specs.declared.tree.type_expr.Const.{Const};
+
+    ghost Value = { Const };
+
+    ghost view = { λ p. p.value.now };
+}
+
+impl<'a> Priority<'a> {
+    pub fn of(value: &'a Const) -> Priority<'a>
+        ensures { result ≡ value.now }
+    {
+        Priority { value }
+    }
+
+    pub fn get(&self) -> &'a Const
+        ensures { result.now ≡ self.now }
+    {
+        self.value
     }
 }
 

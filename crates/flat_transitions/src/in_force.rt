@@ -6,11 +6,11 @@ ghost use Rattle.estelle_model.specs.Transitions as model;
 ghost use Rattle.flat_transitions.specs.Walks.{unsaid, with_clause};
 ghost use Rattle.meaning_table.specs.Known.{meanings_of};
 
-use crate::clauses::{Condition, Delay, When};
+use crate::clauses::{Condition, Delay, Priority, When};
 use crate::shared::Shared;
 use estelle_model::{Meaning, Type};
 use estelle_tree::{Clause, Items, Name, NextState, Sequence};
-use meaning_table::{Table, ordinal_of_const, states_named};
+use meaning_table::{Table, states_named};
 use std::alloc::{AllocError, Global};
 
 /// What the clauses on the way to a block say. Of two clauses of one kind the outer one counts.
@@ -21,7 +21,7 @@ pub struct ClausesInForce<'a> {
     pub when: Option<When<'a>>,
     pub received: Shared<Type>,
     pub provided: Option<Condition<'a>>,
-    pub priority: Option<i64>,
+    pub priority: Option<Priority<'a>>,
     pub delay: Option<Delay<'a>>,
 }
 
@@ -51,6 +51,15 @@ fn share_condition<'a>(provided: &Option<Condition<'a>>) -> Option<Condition<'a>
     match provided {
         None => None,
         Some(condition) => Some(Condition::of(condition.get())),
+    }
+}
+
+fn share_priority<'a>(priority: &Option<Priority<'a>>) -> Option<Priority<'a>>
+    ensures { result ≡ priority.now }
+{
+    match priority {
+        None => None,
+        Some(priority) => Some(Priority::of(priority.get())),
     }
 }
 
@@ -206,12 +215,25 @@ fn provided_with<'a>(
     }
 }
 
-fn priority_with(table: &Table, priority: Option<i64>, clause: &Clause) -> Option<i64>
-    ensures { result ≡ model.or_first priority (model.priority_of (meanings_of table.now) clause.now) }
+fn priority_of<'a>(table: &Table, clause: &'a Clause) -> Option<Priority<'a>>
+    ensures { result ≡ model.priority_of (meanings_of table.now) clause.now }
 {
-    match (priority, clause) {
-        (None, Clause::Priority { value, .. }) => ordinal_of_const(table, value).ok(),
-        _ => priority,
+    match clause {
+        Clause::Priority { value, .. } => Some(Priority::of(value)),
+        _ => None,
+    }
+}
+
+fn priority_with<'a>(
+    table: &Table,
+    priority: &Option<Priority<'a>>,
+    clause: &'a Clause,
+) -> Option<Priority<'a>>
+    ensures { result ≡ model.or_first priority.now (model.priority_of (meanings_of table.now) clause.now) }
+{
+    match priority {
+        None => priority_of(table, clause),
+        Some(_) => share_priority(priority),
     }
 }
 
@@ -257,7 +279,7 @@ impl<'a> ClausesInForce<'a> {
             when: share_when(&self.when),
             received: self.received.share()?,
             provided: share_condition(&self.provided),
-            priority: self.priority,
+            priority: share_priority(&self.priority),
             delay: share_delay(&self.delay),
         })
     }
@@ -272,7 +294,7 @@ impl<'a> ClausesInForce<'a> {
             when: when_with(table, &self.when, clause),
             received: received_with(table, &self.received, clause)?,
             provided: provided_with(table, &self.provided, clause),
-            priority: priority_with(table, self.priority, clause),
+            priority: priority_with(table, &self.priority, clause),
             delay: delay_with(table, &self.delay, clause),
         })
     }

@@ -1,14 +1,17 @@
 //! A flat transition, and a list of them.
 
-ghost use Rattle.std.specs.Prelude.{◌≡◌, ◌++◌, ◌∷◌, [], OnOk, length, slice_get};
+ghost use Rattle.std.specs.Prelude.{◌≡◌, ◌++◌, ◌∷◌, [], OnOk, length, slice_get, option_and_then};
 ghost use Rattle.std.specs.Option.{option_copied};
+ghost use Rattle.estelle_model.specs.Transitions.{number_of};
+ghost use Rattle.meaning_table.specs.Known.{meanings_of};
 ghost use Rattle.flat_transitions.specs.Walks.{reached};
 
-use crate::clauses::{Delay, When};
+use crate::clauses::{Delay, Priority, When};
 use crate::in_force::ClausesInForce;
 use crate::shared::Shared;
 use estelle_model::Type;
 use estelle_tree::{Block, Expr, Items, Sequence};
+use meaning_table::{Table, ordinal_of_const};
 use std::alloc::{AllocError, Global};
 use std::marker::Model;
 
@@ -16,6 +19,7 @@ use std::marker::Model;
 #[derive(Drop)]
 pub struct Transition<'a> {
     said: ClausesInForce<'a>,
+    priority: Option<i64>,
     block: &'a Block,
 }
 
@@ -32,15 +36,30 @@ impl<'a> Model for Transition<'a> {
 
     ghost coded = { Prim.hlevel (codes, of_values.the_row.coded, of_denoters.the_row.coded, of_expressions.the_row.coded, of_blocks.the_row.coded) };
 
-    ghost view = { λ t. record { from = t.said.from; to = t.said.to; when = t.said.when; received = t.said.received; provided = t.said.provided; priority = t.said.priority; delay = t.said.delay; chosen = []; block = t.block.now } };
+    ghost view = { λ t. record { from = t.said.from; to = t.said.to; when = t.said.when; received = t.said.received; provided = t.said.provided; priority = t.priority; delay = t.said.delay; chosen = []; block = t.block.now } };
+}
+
+/// The number behind `priority`.
+fn number_of(table: &Table, priority: &Option<Priority>) -> Option<i64>
+    ensures { result ≡ option_and_then (number_of (meanings_of table.now)) priority.now }
+{
+    match priority {
+        None => None,
+        Some(priority) => ordinal_of_const(table, priority.get()).ok(),
+    }
 }
 
 impl<'a> Transition<'a> {
     /// The transition of a block of which this is said.
-    pub fn of(said: ClausesInForce<'a>, block: &'a Block) -> Transition<'a>
-        ensures { result ≡ reached said.entry block.now }
+    pub fn of(table: &Table, said: ClausesInForce<'a>, block: &'a Block) -> Transition<'a>
+        ensures { result ≡ reached (meanings_of table.now) said.entry block.now }
     {
-        Transition { said, block }
+        let priority = number_of(table, &said.priority);
+        Transition {
+            said,
+            priority,
+            block,
+        }
     }
 
     /// The states in which it is enabled; none stands for every state.
@@ -84,7 +103,7 @@ impl<'a> Transition<'a> {
     pub fn priority(&self) -> Option<i64>
         ensures { result ≡ self.now.priority }
     {
-        self.said.priority
+        self.priority
     }
 
     pub fn delay(&self) -> Option<&Delay<'a>>

@@ -23,7 +23,7 @@ fn trans_body<'a>(
     ensures { OnOk result (out.new ≡ out.old ++ below (meanings_of table.now) said.now body.now) }
 {
     match body {
-        TransBody::Block(block) => out.push(Transition::of(said.share()?, block)),
+        TransBody::Block(block) => out.push(Transition::of(table, said.share()?, block)),
         TransBody::Groups { groups: inner, .. } => groups(table, said, inner.items(), out),
     }
 }
@@ -77,7 +77,7 @@ pub fn transitions<'a>(
     table: &Table,
     transitions: &'a [Trans],
 ) -> Result<Option<Transitions<'a>>, AllocError>
-    ensures { IfOk result (λ found. found ≡ (if flat.is_without_any transitions.now then Some (flat.transitions_in (meanings_of table.now) transitions.now) else None)) }
+    ensures { IfOk result (λ found. found ≡ (if flat.is_without_any transitions.now then Some (flat.transitions_in (flat.with_chosen table.now) transitions.now) else None)) }
 {
     if !is_without_any(transitions) {
         return Ok(None);

@@ -1,17 +1,14 @@
 -- What is computed of the start on a log answers its job.
-use Rattle.std.proofs.Common.{◌≡◌, ℕ, ◌-◌, Bool, true, false, List, [], map as each, Ok, Err, Option, refl, sym, ap, subst, cond, ◌∙◌, arith}
+use Rattle.std.proofs.Common.{◌≡◌, ℕ, List, [], map as each, Ok, Err, Option, refl, sym, ap, subst, ◌∙◌}
+use Rattle.std.specs.Prelude.{IsPermutation, filter}
 use Rattle.std.specs.FinMap as map
-use Rattle.std.specs.Cmp.{IsTotalOrder}
-use Rattle.std.specs.Cmp.Lexicographic.{nat_list_cmp_total}
-use Rattle.std.proofs.lemmas.Cmp.{nat_cmp_total, then_total}
+use Rattle.std.proofs.lemmas.List.Sorted.{IsPermutation-refl, IsPermutation-trans}
 use Rattle.estelle_tree.specs.declared.link.Link.{Link}
-use Rattle.estelle_tree.specs.declared.transition.Pair.{Pair}
 use Rattle.estelle_model.specs.declared.image.Part.{Part}
 use Rattle.estelle_model.specs.declared.image.Image.{Image}
 use Rattle.estelle_model.specs.declared.effect.Effect.{Effect as LoggedEffect}
 use Rattle.estelle_model.specs.declared.job.Outcome.{Outcome as JobOutcome}
 use Rattle.estelle_model.specs.declared.job.Outcome.TheVariants as outcome
-use Rattle.estelle_tree.specs.Paths.{path_cmp}
 use Rattle.estelle_model.specs.Core.{Instance, Instances}
 use Rattle.estelle_model.specs.States.{Logged}
 use Rattle.estelle_model.specs.Steps.{Outcome}
@@ -20,22 +17,31 @@ use Rattle.estelle_model.specs.Subject.{Subject}
 use Rattle.estelle_tree.specs.Timers.{Timer, pair_cmp}
 use Rattle.estelle_model.specs.Situation.{Situation, Acting}
 use Rattle.estelle_model.specs.Firing.{Firing, Ran, Failed, alone, root, bare, begun, done, untimed, start}
-use Rattle.estelle_model.specs.Jobs.{part_of_entry, Shows, overlaid, outline_of_parts, ran, IsPut, IsAnswer}
+use Rattle.estelle_model.specs.Jobs.{part_of_entry, is_private, Shows, overlaid, outline_of_parts, ran, IsPut, IsAnswer}
 use Rattle.estelle_model.proofs.Alike.{Same, OutcomeAlike}
+use Rattle.estelle_model.proofs.PrivateParts.{remove_empty}
 use Rattle.plain_jobs.specs.Computed.{IsPlain, log_from, IsMade, start_run}
-use Rattle.plain_jobs.proofs.Roots.{overlaid_alone, outline_alone}
+use Rattle.plain_jobs.proofs.Roots.{retain_all, overlaid_alone, outline_alone}
 use Rattle.plain_jobs.proofs.RootRuns.{with_instances, with_root, RootAlike, root_begins, root_start_alike}
 
 -- ---- what a run on the log made is put into the situation
 
-module _ (s : Subject) (g : Situation) (links : List Link) (o : Option Instance) (n : ℕ) where
+module _ (s : Subject) (g : Situation) (links : List Link) (linked : (x : Instances) → IsPermutation links (filter (is_private s x []) g.core.links)) (o : Option Instance) (n : ℕ) where
   put_of : (a : Acting) (l : Logged) → RootAlike g links o a l → (image : Image) → Shows image l.image → (left : ℕ) → IsPut s [] n (with_root g links o o) image [] left (untimed [] n (ran a left))
   put_of a l r image shows left =
       let parts : image.parts ≡ each part_of_entry (map.entries (alone r.instance)) = shows.parts ∙ ap (λ (k : Logged). each part_of_entry (map.entries k.image.instances)) r.logged in
+      let whole : overlaid [] image.parts (alone o) ≡ alone r.instance = ap (λ (ps : List Part). overlaid [] ps (alone o)) parts ∙ overlaid_alone (alone o) r.instance in
+      let links_are : IsPermutation image.links links = subst (λ (k : Logged). IsPermutation image.links k.image.links) r.logged shows.links in
       record {
+        log = [];
+        logged = refl;
         can_be_made = tt;
         outline = outline_alone o r.instance r.outline ∙ ap outline_of_parts (sym parts);
-        result = ap (λ (b : Acting). untimed [] n (ran b left)) (r.acting ∙ sym (ap (λ (m : Instances). begun (with_instances g links o m)) (ap (λ (ps : List Part). overlaid [] ps (alone o)) parts ∙ overlaid_alone (alone o) r.instance)));
+        result = ap (λ (b : Acting). untimed [] n (ran b left)) (r.acting ∙ sym (ap (λ (m : Instances). begun (with_instances g links o m)) whole));
+        private = record {
+          parts = parts ∙ ap (λ (x : Instances). each part_of_entry (map.entries x)) (sym (retain_all (overlaid [] image.parts (alone o)) ∙ whole));
+          links = IsPermutation-trans image.links links (filter (is_private s (overlaid [] image.parts (alone o)) []) g.core.links) links_are (linked (overlaid [] image.parts (alone o)));
+        };
       }
 
   answer_of : (x : Outcome Acting (Unit {0})) (y : Outcome Logged (Unit {0})) → OutcomeAlike Acting Logged (RootAlike g links o) (Same {A = Unit {0}}) x y → (out : JobOutcome) (left : ℕ) → IsMade y out left → IsAnswer s [] n (with_root g links o o) out left (untimed [] n (done x))
@@ -50,27 +56,6 @@ module _ (s : Subject) (g : Situation) (links : List Link) (o : Option Instance)
 
 -- ---- the start
 
-by_path : IsTotalOrder (λ (a b : Pair). path_cmp a.path b.path)
-by_path = record {
-  antisymm = λ a b. nat_list_cmp_total.antisymm a.path b.path;
-  trans = λ a b c. nat_list_cmp_total.trans a.path b.path c.path;
-  congr = λ a b c. nat_list_cmp_total.congr a.path b.path c.path;
-}
-
-pub pairs_total : IsTotalOrder pair_cmp
-pairs_total = then_total by_path (record {
-  antisymm = λ a b. nat_cmp_total.antisymm a.trans b.trans;
-  trans = λ a b c. nat_cmp_total.trans a.trans b.trans c.trans;
-  congr = λ a b c. nat_cmp_total.congr a.trans b.trans c.trans;
-})
-
-none_less : (b : Bool) (n : ℕ) → n ≡ 0 → cond b (n - 1) n ≡ 0
-none_less true n e = omega arith
-none_less false n e = e
-
-pub remove_empty : (k : Pair) → map.remove (map.empty {K = Pair} {X = Timer} {R = pair_cmp}) k ≡ map.empty
-remove_empty k = map.empty_of_len _ (map.len-remove pairs_total map.empty k ∙ none_less _ _ (map.len-empty pair_cmp Timer))
-
 -- where no timer runs, none is dropped
 untimed_start : (s : Subject) (x : Outcome Acting (Unit {0})) (y : Outcome Logged (Unit {0})) → OutcomeAlike Acting Logged (RootAlike (bare s) [] (root s)) (Same {A = Unit {0}}) x y → untimed [] 0 (done x) ≡ done x
 untimed_start s (Ok r) (Ok q) h =
@@ -83,4 +68,4 @@ untimed_start s (Err e) (Ok q) h = absurd h
 pub start_answers : (s : Subject) → IsPlain s → (budget : ℕ) (out : JobOutcome) (left : ℕ) → IsMade (start_run s budget) out left → IsAnswer s [] 0 (bare s) out left (start s budget)
 start_answers s plain budget out left made =
     let alike = root_start_alike (bare s) [] (root s) s plain.routines plain.start (fresh (begun (bare s)) budget) (fresh (log_from (bare s).core) budget) (root_begins (bare s) [] (root s) budget) in
-    subst (λ (f : Firing). IsAnswer s [] 0 (bare s) out left f) (untimed_start s _ _ alike) (answer_of s (bare s) [] (root s) 0 _ _ alike out left made)
+    subst (λ (f : Firing). IsAnswer s [] 0 (bare s) out left f) (untimed_start s _ _ alike) (answer_of s (bare s) [] (λ x. IsPermutation-refl []) (root s) 0 _ _ alike out left made)

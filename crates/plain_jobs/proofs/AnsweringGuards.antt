@@ -20,18 +20,18 @@ use Rattle.estelle_model.specs.Jobs.{found_by}
 use Rattle.plain_jobs.specs.Computed.{IsPlain, core_of, log_from, values_of}
 use Rattle.plain_jobs.specs.Guards.{head_of, IsGuard, is_received, guard_run, guard_by, guard_for, guard_of_image}
 use Rattle.estelle_tree.specs.Paths.{Path}
-use Rattle.estelle_model.specs.Legal.{AreLegal}
-use Rattle.estelle_model.specs.Jobs.{private, Shows}
+use Rattle.estelle_model.specs.Jobs.{private, Shows, MayActAlone}
 use Rattle.plain_jobs.proofs.PlainGuards.{guard_alike, same_answer}
 use Rattle.plain_jobs.proofs.PrivateRuns.{own, log_of, PrivateAlike, own_inside, private_shown}
-use Rattle.plain_jobs.proofs.PrivateAnswers.{inside_self, begins, core_private}
+use Rattle.plain_jobs.proofs.PrivateAnswers.{begins}
+use Rattle.estelle_model.proofs.PrivateParts.{inside_self, core_private}
 
-module _ (s : Subject) (plain : IsPlain s) (p : Path) (image : Image) (n : ℕ) (head : Option Interaction) (timed : Bool) (budget : ℕ) (g : Situation) (legal : AreLegal s g.core.instances) (shows : Shows image (private s g.core p)) where
+module _ (s : Subject) (plain : IsPlain s) (p : Path) (image : Image) (n : ℕ) (head : Option Interaction) (timed : Bool) (budget : ℕ) (g : Situation) (legal : MayActAlone s g.core p) (shows : Shows image (private s g.core p)) where
   -- `provided` and the delay come to the same on the situation
   run_same : (i : Instance) (t : Transition) → transition s i.body n ≡ Some t → guard_run s p image head timed budget t ≡ guard_with s budget g p t timed (values_of head)
   run_same i t is =
-      ap (λ (x : Instances). answered (guard_step Logged on_log s p t (values_of head) timed (fresh (log_from (record { instances = x; links = image.links })) budget))) (core_private s g p image shows)
-      ∙ sym (same_answer (PrivateAlike s g legal p image.links) _ _ (guard_alike p (PrivateAlike s g legal p image.links) (private_shown s g legal p image.links) s t (plain.routines_of i.body n t is) (values_of head) timed (fresh (begun g) budget) (fresh (log_of s g legal p image.links (own s g legal p image.links)) budget) (begins s g legal p image.links n budget)))
+      ap (λ (x : Instances). answered (guard_step Logged on_log s p t (values_of head) timed (fresh (log_from (record { instances = x; links = image.links })) budget))) (core_private s g.core p image shows)
+      ∙ sym (same_answer (PrivateAlike s g p legal image.links) _ _ (guard_alike p (PrivateAlike s g p legal image.links) (private_shown s g p legal image.links) s t (plain.routines_of i.body n t is) (values_of head) timed (fresh (begun g) budget) (fresh (log_of s g p legal image.links (own s g p legal image.links)) budget) (begins s g p legal image.links n budget)))
 
   module _ (t : Transition) where
     abbrev with_head : Option Interaction → Guard
@@ -64,7 +64,7 @@ module _ (s : Subject) (plain : IsPlain s) (p : Path) (image : Image) (n : ℕ) 
 
 pub guard_answers : (s : Subject) → IsPlain s → (p : Path) (image : Image) (n : ℕ) (head : Option Interaction) (timed : Bool) (budget : ℕ) → IsGuard s p image n head timed budget (guard_of_image s p image n head timed budget)
 guard_answers s plain p image n head timed budget g asked =
-    let core : map.get (core_of image).instances p ≡ map.get g.core.instances p = ap (λ (x : Instances). map.get x p) (core_private s g p image asked.private) ∙ own_inside s g asked.legal p image.links p (inside_self p) in
+    let core : map.get (core_of image).instances p ≡ map.get g.core.instances p = ap (λ (x : Instances). map.get x p) (core_private s g.core p image asked.private) ∙ own_inside s g p asked.legal image.links p (inside_self p) in
     ap (guard_for s p image n head timed budget) core
     ∙ by_instance s plain p image n head timed budget g asked.legal asked.private (map.get g.core.instances p) asked.finds
     ∙ answered_by (map.get g.core.instances p)

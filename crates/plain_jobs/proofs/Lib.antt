@@ -4,7 +4,6 @@ pub mod Same
 pub mod PlainAlike
 pub mod PlainRuns
 pub mod Roots
-pub mod Maps
 pub mod PrivateRuns
 pub mod PrivateAnswers
 pub mod RootRuns

@@ -18,11 +18,11 @@ use Rattle.estelle_model.specs.declared.meaning.Senders.{Senders}
 use Rattle.estelle_model.specs.declared.meaning.Meaning.TheVariants.{Own, Exported, Ip, State, Interaction, Header, Module}
 use Rattle.estelle_model.specs.Meant.{Meanings}
 use Rattle.estelle_model.specs.Denoted.{Declaration, Declarations, declare, numbered, types_declare, sections_declare, section_types, count_names}
-use Rattle.estelle_model.specs.Definitions.{const_def, type_def, local, parameter_sections, senders, inter_declares, group_declares, channel_declares, domains_of, clause_declares, block_declares}
+use Rattle.estelle_model.specs.Definitions.{const_def, type_def, local, parameter_sections, senders, inter_declares, group_declares, channel_declares, clause_declares, block_declares}
 use Rattle.estelle_model.specs.Bodies.{Way, ways, Contribution, BodyAlone, ip_names, interaction_points, export_sections, header_declares, stateset_declares, decl_layer, headed, body_layer, parts_layer, standings, default_of, bodies, heading, variables_in, module_variables_in, states_in, ips_in, own_from, ways_of, attribute_of, clauses_in, name_declares, body_declares, bodies_declare}
 use Rattle.estelle_model.specs.Names.{none_yet}
-use Rattle.estelle_model.specs.Transitions.{Choice, Transition, choices, names_of_domain, flat_one, flat_way}
-use Rattle.estelle_model.specs.Subject.{Subject, declared_in, meant, body, transitions_of, transitions, numbered_one, transition, of_init, nothing_to_do, no_statements}
+use Rattle.estelle_model.specs.Transitions.{Choice, Transition, choices_on, flat_one, flat_way}
+use Rattle.estelle_model.specs.Subject.{Subject, declared_in, meant, meant_with, body, transitions_of, transitions, numbered_one, transition, of_init, nothing_to_do, no_statements}
 use Rattle.plain_jobs.specs.Plain.{is_plain, IsPlainRoutine}
 use Rattle.plain_jobs.specs.Computed.{IsPlain}
 use Rattle.plain_jobs.specs.Specifications.{is_plain_way, is_plain_trans, is_plain_init, plain_decl_layer, plain_body_layer, plain_parts_layer, is_plain_decl, is_plain_body, is_plain_parts, is_plain_specification}
@@ -244,19 +244,19 @@ bodies_plain k (b ∷ bs) h = each_append SaysPlain (body_declares k b) (bodies_
 abbrev PlainTransition : Transition → Type 0
 PlainTransition t = IsTrue (is_plain t.block.body)
 
-choices_plain : (known : Meanings) (w : Way) → IsTrue (is_plain_way w) → (cs : List (List Choice)) → Each PlainTransition (map (flat_one known w) cs)
-choices_plain known w h [] = tt
-choices_plain known w h (c ∷ cs) = (h, choices_plain known w h cs)
+choices_plain : (means : List Choice → Meanings) (w : Way) → IsTrue (is_plain_way w) → (cs : List (List Choice)) → Each PlainTransition (map (flat_one means w) cs)
+choices_plain means w h [] = tt
+choices_plain means w h (c ∷ cs) = (h, choices_plain means w h cs)
 
-way_plain : (known : Meanings) (w : Way) → IsTrue (is_plain_way w) → Each PlainTransition (flat_way known w)
-way_plain known w h = choices_plain known w h (choices known (flat_map (names_of_domain known) (flat_map domains_of w.clauses)))
+way_plain : (means : List Choice → Meanings) (w : Way) → IsTrue (is_plain_way w) → Each PlainTransition (flat_way means w)
+way_plain means w h = choices_plain means w h (choices_on means w)
 
 ways_plain : (b : BodyAlone) → PlainStanding b → Each (λ w. IsTrue (is_plain_way w)) (ways_of b)
 ways_plain b h = each_flat (λ (t : Trans). IsTrue (is_plain_trans t)) (λ w. IsTrue (is_plain_way w)) (λ t. ways t.body) (λ t k. each_of_all is_plain_way (ways t.body) k) b.trans (each_of_all is_plain_trans b.trans h.trans)
 
 transitions_plain : (s : Subject) (o : Option BodyAlone) → ((b : BodyAlone) → o ≡ Some b → PlainStanding b) → Each PlainTransition (transitions_of s o)
 transitions_plain s None h = tt
-transitions_plain s (Some b) h = each_flat (λ w. IsTrue (is_plain_way w)) PlainTransition (flat_way (meant s)) (way_plain (meant s)) (ways_of b) (ways_plain b (h b refl))
+transitions_plain s (Some b) h = each_flat (λ w. IsTrue (is_plain_way w)) PlainTransition (flat_way (meant_with s)) (way_plain (meant_with s)) (ways_of b) (ways_plain b (h b refl))
 
 numbered_one_plain : (ts : List Transition) (n : ℕ) (t : Transition) → Each PlainTransition ts → numbered_one ts n ≡ Some t → PlainTransition t
 numbered_one_plain ts zero t h e = absurd (cc)

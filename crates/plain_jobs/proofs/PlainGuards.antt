@@ -21,7 +21,7 @@ use Rattle.estelle_model.proofs.AlikePlaces.{ShowAlike}
 use Rattle.estelle_model.proofs.AlikeOperands.{bool_alike}
 use Rattle.plain_jobs.specs.Plain.{HasPlainRoutines}
 use Rattle.plain_jobs.proofs.PlainAlike.{plain_clause_alike}
-use Rattle.plain_jobs.proofs.PrivateAnswers.{inside_self}
+use Rattle.estelle_model.proofs.PrivateParts.{inside_self}
 
 module _ (m : Path) (R : Acting → Logged → Type 0) (show : ShowAlike Acting Logged on_situation on_log m R) (s : Subject) (t : Transition) (plain : HasPlainRoutines (meant_with s t.chosen)) (vs : List Value) where
   abbrev known : Meanings

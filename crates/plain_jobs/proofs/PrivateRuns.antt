@@ -1,43 +1,21 @@
 -- Where no statement of Estelle is run: a block of an instance does alike on a situation and on a log that begins with the private part of the instance.
 use Rattle.std.proofs.Common.{◌≡◌, ℕ, Bool, true, false, List, [], ◌∷◌, Option, Some, None, refl, sym, ap, cond, ◌∙◌}
-use Rattle.std.specs.Prelude.{slice_get, option_map, ◌&&◌}
+use Rattle.std.specs.Prelude.{slice_get, option_map}
 use Rattle.std.specs.FinMap as map
 use Rattle.std.specs.Ordering.{eq_by_cmp}
 use Rattle.estelle_tree.specs.declared.link.Link.{Link}
-use Rattle.estelle_tree.specs.Paths.{Path, path_cmp, child, is_inside}
+use Rattle.estelle_tree.specs.Paths.{Path, path_cmp, is_inside}
 use Rattle.estelle_model.specs.Core.{Instance, Instances}
-use Rattle.estelle_model.specs.Effects.{Change, Store, changed, put_back, changed_in}
+use Rattle.estelle_model.specs.Effects.{Change, Store, changed, changed_in}
 use Rattle.estelle_model.specs.States.{Logged, on_log}
 use Rattle.estelle_model.specs.Places.{module_variables_of}
 use Rattle.estelle_model.specs.Subject.{Subject}
 use Rattle.estelle_model.specs.Situation.{Situation, Acting, on_situation}
 use Rattle.estelle_model.specs.Firing.{begun}
-use Rattle.estelle_model.specs.Legal.{AreLegal}
+use Rattle.estelle_model.specs.Jobs.{MayActAlone}
 use Rattle.estelle_model.proofs.AlikePlaces.{ShowAlike}
-use Rattle.plain_jobs.proofs.Maps.{total, apart, equal_of}
-
-child_inside : (m p : Path) (k : ℕ) → is_inside m p ≡ true → is_inside m (child p k) ≡ true
-child_inside [] p k h = refl
-child_inside (x ∷ m) [] k h = absurd (cc)
-child_inside (x ∷ m) (y ∷ p) k h = go _ _ _ h (child_inside m p k)
-  where
-    go : (b c d : Bool) → (b && c) ≡ true → (c ≡ true → d ≡ true) → (b && d) ≡ true
-    go true c d e f = f e
-    go false c d e f = e
-
-same_path : (q p : Path) → eq_by_cmp path_cmp q p ≡ true → q ≡ p
-same_path q p h = apart q p (equal_of _ h)
-
-pub get_changed : (p : Path) (f : Instance → Instance) (x : Instances) (q : Path) → map.get (changed_in p f x) q ≡ cond (eq_by_cmp path_cmp q p) (option_map f (map.get x p)) (map.get x q)
-get_changed p f x q = by (map.get x p) refl
-  where
-    missing : (b : Bool) → eq_by_cmp path_cmp q p ≡ b → map.get x p ≡ None → map.get x q ≡ cond b None (map.get x q)
-    missing true e h = ap (map.get x) (same_path q p e) ∙ h
-    missing false e h = refl
-
-    by : (o : Option Instance) → map.get x p ≡ o → map.get (put_back x p f o) q ≡ cond (eq_by_cmp path_cmp q p) (option_map f o) (map.get x q)
-    by None h = missing (eq_by_cmp path_cmp q p) refl h
-    by (Some i) h = map.get-insert total x p (f i) q
+use Rattle.estelle_model.proofs.Maps.{apart}
+use Rattle.estelle_model.proofs.PrivateParts.{child_inside, same_path, get_changed}
 
 -- what a store and a state leave
 abbrev pub plan : Instance → ℕ × ℕ × List (Option Path)
@@ -46,7 +24,7 @@ plan i = (i.body, i.births, i.module_variables)
 abbrev pub LeavesPlan : Change → Type 0
 LeavesPlan change = (i : Instance) → plan (changed change i) ≡ plan i
 
-module _ (s : Subject) (g : Situation) (legal : AreLegal s g.core.instances) (m : Path) (links : List Link) where
+module _ (s : Subject) (g : Situation) (m : Path) (legal : MayActAlone s g.core m) (links : List Link) where
   -- the instances at and below m
   abbrev pub own : Instances
   own = map.retain_keys g.core.instances (is_inside m)
@@ -100,8 +78,8 @@ module _ (s : Subject) (g : Situation) (legal : AreLegal s g.core.instances) (m 
   held_by : (o : Option Instance) (p c : Path) (k : ℕ) → map.get g.core.instances p ≡ o → slice_get (module_variables_of o) k ≡ Some (Some c) → is_inside m p ≡ true → is_inside m c ≡ true
   held_by None p c k e h at = absurd (cc)
   held_by (Some i) p c k e h at =
-      let child_is = legal.holds p i k (Some c) e h in
-      ap (is_inside m) child_is.2 ∙ child_inside m p child_is.0 at
+      let child_is = legal.children p i k c at e h in
+      ap (is_inside m) child_is.1 ∙ child_inside m p child_is.0 at
 
   same_held : (o o' : Option Instance) → option_map plan o ≡ option_map plan o' → module_variables_of o ≡ module_variables_of o'
   same_held None None e = refl

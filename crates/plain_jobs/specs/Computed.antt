@@ -1,21 +1,16 @@
 -- What is computed of a job: its block is run on a log that begins with what the image shows.
-use Rattle.std.specs.Prelude.{◌≡◌, ℕ, zero, suc, List, [], fold, Option, Some, None, Ok, Err, IsTrue}
+use Rattle.std.specs.Prelude.{◌≡◌, ℕ, zero, suc, [], Option, Some, None, Ok, Err, IsTrue}
 use Rattle.std.specs.FinMap as map
-use Rattle.pascal_values.specs.declared.value.Value.{Value}
-use Rattle.estelle_model.specs.declared.image.Image.{Image}
-use Rattle.estelle_model.specs.declared.image.Interaction.{Interaction}
 use Rattle.estelle_model.specs.declared.job.Job.{Job}
 use Rattle.estelle_model.specs.declared.job.Outcome.{Outcome}
 use Rattle.estelle_model.specs.declared.job.Outcome.TheVariants as outcome
-use Rattle.estelle_model.specs.Core.{Core}
-use Rattle.estelle_model.specs.States.{Logged, on_log}
+use Rattle.estelle_model.specs.States.{Logged}
 use Rattle.estelle_model.specs.Steps as step
-use Rattle.estelle_model.specs.Blocks.{fresh}
 use Rattle.estelle_model.specs.Transitions.{Transition}
 use Rattle.estelle_model.specs.Subject.{Subject, transition, meant, meant_with, begins}
-use Rattle.estelle_model.specs.Clauses.{fire_step, start_step}
-use Rattle.estelle_model.specs.Firing.{transition_at, bare}
-use Rattle.estelle_model.specs.Jobs.{Shows, insert_part}
+use Rattle.estelle_model.specs.Firing.{transition_at}
+use Rattle.estelle_model.specs.Jobs.{Shows}
+pub use Rattle.estelle_model.specs.Computed.{core_of, log_from, values_of, start_run, job_run}
 use Rattle.plain_jobs.specs.Plain.{is_plain, IsPlainRoutine, HasPlainRoutines}
 
 -- no statement of Estelle stands in what is run
@@ -27,32 +22,11 @@ pub record IsPlain (s : Subject) : Type 0 where
   pub routines_of : (k n : ℕ) (t : Transition) → transition s k n ≡ Some t → HasPlainRoutines (meant_with s t.chosen)
   pub block_of : (k n : ℕ) (t : Transition) → transition s k n ≡ Some t → IsTrue (is_plain t.block.body)
 
--- the instances and links that an image shows
-abbrev pub core_of : Image → Core
-core_of image = record { instances = fold insert_part map.empty image.parts; links = image.links }
-
--- a log that begins with these instances and links
-abbrev pub log_from : Core → Logged
-log_from c = record { image = c; log = [] }
-
--- the values of the interaction that is received, if one is
-abbrev pub values_of : Option Interaction → List Value
-values_of None = []
-values_of (Some i) = i.values
-
 -- the outcome is what a run on the log came to, without effects
 abbrev pub IsMade : step.Outcome Logged (Unit {0}) → Outcome → ℕ → Type 0
 IsMade (Ok r) (outcome.Ran image effects) left = Shows image r.1.state.image × (effects ≡ []) × (left ≡ r.1.left)
 IsMade (Err e) (outcome.Faulted kind) left = (kind ≡ e.0) × (left ≡ e.1)
 IsMade _ _ left = ⊥
-
--- the start on a log
-abbrev pub start_run : Subject → ℕ → step.Outcome Logged (Unit {0})
-start_run s budget = start_step Logged on_log s (fresh (log_from (bare s).core) budget)
-
--- the transition of a job on a log
-abbrev pub job_run : Subject → Job → Transition → step.Outcome Logged (Unit {0})
-job_run s job t = fire_step Logged on_log s job.path t (values_of job.head) (fresh (log_from (core_of job.image)) job.budget)
 
 -- where there is no such transition, nothing is asked
 abbrev pub IsMadeOf : Subject → Job → Option Transition → Outcome → ℕ → Type 0

@@ -15,8 +15,7 @@ use Rattle.estelle_model.specs.Clauses.{guard_step, answered}
 use Rattle.estelle_model.specs.Situation.{Situation}
 use Rattle.estelle_model.specs.Queues.{Found, NotNeeded, Head, Absent, is_named}
 use Rattle.estelle_model.specs.Firing.{transition_at, is_in_state, guard}
-use Rattle.estelle_model.specs.Legal.{AreLegal}
-use Rattle.estelle_model.specs.Jobs.{private, Shows, found_by}
+use Rattle.estelle_model.specs.Jobs.{private, Shows, MayActAlone, found_by}
 use Rattle.plain_jobs.specs.Computed.{core_of, log_from, values_of}
 
 -- the head that a transition finds, where it needs one, whatever its name
@@ -27,7 +26,7 @@ head_of Absent = None
 
 -- this is what is known of a transition of an instance in a situation
 pub record IsAskedIn (s : Subject) (g : Situation) (p : Path) (image : Image) (n : ℕ) (head : Option Interaction) (timed : Bool) : Type 0 where
-  pub legal : AreLegal s g.core.instances
+  pub legal : MayActAlone s g.core p
   pub private : Shows image (private s g.core p)
   -- the head, if it needs one and finds it
   pub finds : head ≡ head_of (found_by s g p (transition_at s n (map.get g.core.instances p)))

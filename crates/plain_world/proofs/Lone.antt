@@ -21,8 +21,8 @@ use Rattle.estelle_model.specs.Situation.{Situation}
 use Rattle.estelle_model.specs.Firing.{alone, transition_at, guard}
 use Rattle.estelle_model.specs.Attributes.{attribute, attribute_at, is_system, is_process, IsSystem, IsProcess}
 use Rattle.estelle_model.specs.Delays.{is_on, is_delayed, has_delay, has_delays, may, must, delayed_of, delayed_in, wanted_by, renew}
-use Rattle.estelle_model.specs.Selection.{priority, is_higher, HasPriority, births_of, children}
-use Rattle.plain_jobs.proofs.Answering.{pairs_total}
+use Rattle.estelle_model.specs.Selection.{priority, is_higher, has_priority, is_child, children}
+use Rattle.estelle_model.proofs.PrivateParts.{pairs_total}
 use Rattle.plain_jobs.proofs.Roots.{get_alone, get_below, retain_all, entries_alone}
 use Rattle.plain_world.specs.Processes.{IsOneProcess}
 use Rattle.plain_world.specs.Worlds.{lone, IsOf, guard_on}
@@ -34,7 +34,7 @@ pub filter_none : {A : Type 0} (p : A → Bool) (xs : List A) → ((x : A) → p
 filter_none p [] h = refl
 filter_none p (x ∷ xs) h = ap (λ b. cond b (x ∷ filter p xs) (filter p xs)) (h x) ∙ filter_none p xs h
 
-any_none : {A : Type 0} (p : A → Bool) (xs : List A) → ((x : A) → p x ≡ false) → list_any p xs ≡ false
+pub any_none : {A : Type 0} (p : A → Bool) (xs : List A) → ((x : A) → p x ≡ false) → list_any p xs ≡ false
 any_none p [] h = refl
 any_none p (x ∷ xs) h = ap (λ b. b || list_any p xs) (h x) ∙ any_none p xs h
 
@@ -98,7 +98,7 @@ module _ (s : Subject) (process : IsOneProcess s) (i : Instance) (body_is : i.bo
   system_is_root (k ∷ m) is = absurd (let wrong : false ≡ true = sym (ap (λ (o : Option Instance). is_system (option_and_then (λ (j : Instance). attribute s j.body) o)) (get_below (Some i) k m)) ∙ is in cc)
 
   pub no_children : children g [] ≡ []
-  no_children = filter_none (λ k. is_some (map.get g.core.instances (child [] k))) (range_with_len 1 (births_of (map.get g.core.instances []))) (λ k. ap is_some (get_below (Some i) k []))
+  no_children = ap (λ (es : List (Path × Instance)). filter (is_child []) (each (λ e. e.0) es)) (entries_alone (Some i))
 
   -- ---- delays and priorities
 
@@ -108,8 +108,8 @@ module _ (s : Subject) (process : IsOneProcess s) (i : Instance) (body_is : i.bo
   pub no_priority_at : (n : ℕ) → priority s g [] n ≡ None
   no_priority_at n = ap (λ o. option_and_then (λ (t : Transition). t.priority) (transition_at s n o)) (get_alone (Some i)) ∙ no_priority s process i.body n (transition s i.body n) refl
 
-  pub none_higher : (k n : ℕ) → HasPriority s g [] k n → ⊥
-  none_higher k n higher = let wrong : false ≡ true = sym (ap (λ (q : Option ℤ). is_higher q (priority s g [] n)) (no_priority_at k)) ∙ higher in absurd (cc)
+  pub none_higher : (k n : ℕ) → has_priority s g [] k n ≡ false
+  none_higher k n = ap (λ (q : Option ℤ). is_higher q (priority s g [] n)) (no_priority_at k)
 
   none_delayed : delayed_in s g [] ≡ []
   none_delayed =

@@ -36,7 +36,7 @@ use Rattle.plain_jobs.specs.Computed.{IsPlain, core_of, log_from, IsMade, start_
 use Rattle.plain_jobs.specs.Guards.{is_received, guard_run, guard_by, guard_for}
 use Rattle.plain_jobs.proofs.PlainGuards.{guard_alike, same_answer}
 use Rattle.plain_jobs.proofs.PlainAlike.{plain_block_alike}
-use Rattle.plain_jobs.proofs.Answering.{remove_empty}
+use Rattle.estelle_model.proofs.PrivateParts.{remove_empty}
 use Rattle.plain_jobs.proofs.Roots.{get_alone, get_below, entries_of, entries_alone, outline_of}
 use Rattle.plain_jobs.proofs.RootRuns.{RootAlike, root_log, root_begins, shown, enter_state_alike, root_start_alike}
 use Rattle.plain_world.specs.Processes.{IsOneProcess}

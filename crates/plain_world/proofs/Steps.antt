@@ -22,7 +22,8 @@ use Rattle.estelle_model.specs.Attributes.{IsSystem}
 use Rattle.estelle_model.specs.Selection.{Selects}
 use Rattle.estelle_model.specs.Runs.{IsRun, Begins, situation, started, next, fired, without, Applies, IsIdle, IsFirstFault, HasRun, HasFailed}
 use Rattle.estelle_model.specs.Ends.{IsNoFault, IsFault, last_event, fires, IsDead}
-use Rattle.estelle_model.specs.Schedule.{IsFirstDue, NoneDue, Chosen, IsMomentBy, IsPlanned, kept_after, Reaches, begins, goes_on, awaits, awaits_clock, FiringIsPlanned, IsFirstDue}
+use Rattle.estelle_model.specs.Choosers.{always_first, Picks}
+use Rattle.estelle_model.specs.Schedule.{IsFirstDue, NoneDue, Chosen, IsMomentBy, IsPlanned, kept_after, Reaches, begins, goes_on, awaits, awaits_clock, FiringIsPlanned}
 use Rattle.plain_world.specs.Processes.{IsOneProcess}
 use Rattle.plain_world.specs.Worlds.{lone, IsOf, RootRan, IsFiringOf, guard_on, AreOff, IsFirstFaulted, Found, taken, Stands, unasked, IsOpen, IsStopped}
 use Rattle.plain_world.proofs.Roots.{guard_is, guard_elsewhere}
@@ -50,7 +51,7 @@ module _ (s : Subject) (one : IsOneProcess s) (budget : ℕ) (i : Instance) (bod
   selects_found None f = selects_none s one i body_is [] budget image of f
   selects_found (Some n) f = selects_first s one i body_is [] budget image of n f
 
-  chooses_found : (takes : Option ℕ) → Found (guard_on s budget image) takes → Chosen s budget (lone i []) [] (taken takes)
+  chooses_found : (takes : Option ℕ) → Found (guard_on s budget image) takes → Chosen always_first s budget (lone i []) [] tt (taken takes) tt
   chooses_found None f = chooses_none s one i body_is [] budget image of f
   chooses_found (Some n) f = chooses_first s one i body_is [] budget image of n f
 
@@ -92,12 +93,12 @@ module _ (s : Subject) (one : IsOneProcess s) (budget turns : ℕ) (image : Imag
 
 -- ---- a step that is planned
 
-goes : (s : Subject) (budget turns : ℕ) (es : List Event) (e : Event) → ((clock : Option ℕ) → Reaches s budget turns clock es (unasked clock)) → fires es < turns → ((clock : Option ℕ) → IsPlanned s budget es (unasked clock) e)
-    → (clock : Option ℕ) → Reaches s budget turns clock (es ++ e ∷ []) (kept_after e (unasked clock))
-goes s budget turns es e reached below planned clock = goes_on es (unasked clock) e (reached clock) below (planned clock)
+goes : (s : Subject) (budget turns : ℕ) (es : List Event) (e : Event) → ((clock : Option ℕ) → Reaches always_first s budget turns clock tt es (unasked clock)) → fires es < turns → ((clock : Option ℕ) → IsPlanned always_first s budget es (unasked clock) e tt)
+    → (clock : Option ℕ) → Reaches always_first s budget turns clock tt (es ++ e ∷ []) (kept_after e tt (unasked clock))
+goes s budget turns es e reached below planned clock = goes_on es (unasked clock) e tt (reached clock) below (planned clock)
 
 -- a fault ends the run
-fault_end : (s : Subject) (budget turns : ℕ) (es : List Event) (n : ℕ) (kind : fault.Fault) → IsRun s budget (es ++ Fault [] n kind ∷ []) → ((clock : Option ℕ) → Reaches s budget turns clock (es ++ Fault [] n kind ∷ []) (unasked clock))
+fault_end : (s : Subject) (budget turns : ℕ) (es : List Event) (n : ℕ) (kind : fault.Fault) → IsRun s budget (es ++ Fault [] n kind ∷ []) → ((clock : Option ℕ) → Reaches always_first s budget turns clock tt (es ++ Fault [] n kind ∷ []) (unasked clock))
     → IsStopped s budget turns (es ++ Fault [] n kind ∷ []) (end.Faulted kind)
 fault_end s budget turns es n kind run reached =
     let last : IsFault (last_event (es ++ Fault [] n kind ∷ [])) kind = subst (λ (o : Option Event). IsFault o kind) (sym (last-push es (Fault [] n kind))) refl in
@@ -145,8 +146,8 @@ module _ (s : Subject) (one : IsOneProcess s) (budget turns : ℕ) where
           goes_on = no_fault es e tt;
           reached = goes s budget turns es e h.reached (omega (arith, h.counted)) (λ clock. record {
             due = root_due s one budget turns image es h.stands h.awaiting;
-            moment = subst (λ (b : Bool). IsMomentBy b (unasked clock) 0) (sym (no_delays s one)) refl;
-            chosen = subst (λ (x : Situation). Chosen s budget x [] (taken takes)) (sym (ap (λ (x : Situation). renew s budget x [] 0) h.stands.is ∙ renewed s one i h.stands.root.body [] budget)) (chooses_found s one budget i h.stands.root.body image h.stands.root.shows takes f);
+            moment = subst (λ (b : Bool). IsMomentBy b clock 0 0) (sym (no_delays s one)) refl;
+            chosen = subst (λ (x : Situation). Chosen always_first s budget x [] tt (taken takes) tt) (sym (ap (λ (x : Situation). renew s budget x [] 0) h.stands.is ∙ renewed s one i h.stands.root.body [] budget)) (chooses_found s one budget i h.stands.root.body image h.stands.root.shows takes f);
           });
           counted = omega (arith, fires-push es e, h.counted);
           within = h.within;
@@ -172,7 +173,7 @@ module _ (s : Subject) (one : IsOneProcess s) (budget turns : ℕ) where
         let due = root_due s one budget turns image es h.stands h.awaiting in
         fault_end s budget turns es n kind
         (IsRun-push s budget es e h.run h.goes_on (inr (record { system = []; is_system = due.due.is_system; idle = due.due.idle; first = first })))
-        (goes s budget turns es e h.reached (omega (arith, h.counted)) (λ clock. inl (record { system = []; due = due; fault = first })))
+        (goes s budget turns es e h.reached (omega (arith, h.counted)) (λ clock. inl (record { system = []; due = due; fault = first; undrawn = refl })))
 
     -- ---- firings
 
@@ -183,8 +184,11 @@ module _ (s : Subject) (one : IsOneProcess s) (budget turns : ℕ) where
       is_pending : Contains g.pending (pair [] n)
       is_pending = subst (λ (x : Situation). Contains x.pending (pair [] n)) (sym h.stands.is) (0, lit< tt, refl)
 
-      is_next : FiringIsPlanned s budget es 0 [] n
-      is_next = record { none_due = none_due s one budget turns image es (Some n) h.stands h.awaiting; others = none_taken; next = ap (λ (x : Situation). x.pending) h.stands.is }
+      is_next : (clock : Option ℕ) → FiringIsPlanned always_first s budget es (unasked clock) [] n tt
+      is_next clock = record {
+        none_due = none_due s one budget turns image es (Some n) h.stands h.awaiting;
+        picked = subst (λ (x : Situation). Picks always_first tt x.pending (pair [] n) tt) (sym h.stands.is) (record { takes = refl; leaves = refl });
+      }
 
       in_lone : (f : Firing) → fire s budget (lone h.stands.root.instance (taken (Some n))) [] n ≡ f → fire s budget g [] n ≡ f
       in_lone f e = ap (λ (x : Situation). fire s budget x [] n) h.stands.is ∙ e
@@ -205,7 +209,7 @@ module _ (s : Subject) (one : IsOneProcess s) (budget turns : ℕ) where
               is = situation-push s budget es e h.run ∙ ap (fired (pair [] n) g) ran ∙ ap (lone r.0.instance) no_more;
             };
             goes_on = no_fault es e tt;
-            reached = goes s budget turns es e h.reached (omega (arith, h.counted, some)) (λ clock. is_next);
+            reached = goes s budget turns es e h.reached (omega (arith, h.counted, some)) (λ clock. is_next clock);
             counted = omega (arith, fires-push es e, h.counted);
             within = omega (arith, some);
             awaiting = awaits-push s budget [] es e h.run;
@@ -221,7 +225,7 @@ module _ (s : Subject) (one : IsOneProcess s) (budget turns : ℕ) where
           let failed : fire s budget g [] n ≡ Failed kind r.0 = in_lone (Failed kind r.0) r.1 in
           fault_end s budget turns es n kind
           (IsRun-push s budget es e h.run h.goes_on (inl (record { pending = is_pending; failed = subst (HasFailed kind) (sym failed) refl })))
-          (goes s budget turns es e h.reached (omega (arith, h.counted, some)) (λ clock. inr is_next))
+          (goes s budget turns es e h.reached (omega (arith, h.counted, some)) (λ clock. inr (is_next clock)))
 
     -- ---- ends
 

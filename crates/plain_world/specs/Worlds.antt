@@ -21,7 +21,8 @@ use Rattle.estelle_tree.specs.Timers.{pair}
 use Rattle.estelle_model.specs.Delays.{is_on}
 use Rattle.estelle_model.specs.Runs.{IsRun, situation}
 use Rattle.estelle_model.specs.Ends.{Stops, IsNoFault, last_event, fires}
-use Rattle.estelle_model.specs.Schedule.{Kept, Reaches, IsScheduled, awaits}
+use Rattle.estelle_model.specs.Choosers.{always_first}
+use Rattle.estelle_model.specs.Schedule.{Kept, kept_first, Reaches, IsScheduled, awaits}
 use Rattle.plain_jobs.specs.Guards.{guard_of_image}
 
 -- ---- the root alone
@@ -91,16 +92,16 @@ pub record Stands (image : Image) (pending : Option ℕ) (g : Situation) : Type 
   pub root : ShowsRoot image
   pub is : g ≡ lone root.instance (taken pending)
 
--- a clock that is not asked
-abbrev pub unasked : Option ℕ → Kept
-unasked clock = record { known = 0; waited = 0; clock = clock }
+-- a clock that is not asked, and the chooser that takes the first candidate each time
+abbrev pub unasked : Option ℕ → Kept (Unit {0})
+unasked clock = kept_first clock tt
 
 -- the events so far are a planned run to this state, and it may go on
 pub record IsOpen (s : Subject) (budget turns : ℕ) (image : Image) (pending : Option ℕ) (waits : Bool) (count : ℕ) (events : List Event) : Type 0 where
   pub run : IsRun s budget events
   pub stands : Stands image pending (situation s budget events)
   pub goes_on : IsNoFault (last_event events)
-  pub reached : (clock : Option ℕ) → Reaches s budget turns clock events (unasked clock)
+  pub reached : (clock : Option ℕ) → Reaches always_first s budget turns clock tt events (unasked clock)
   pub counted : fires events ≡ count
   pub within : count ≤ turns
   -- the root awaits a selection, and then nothing is pending
@@ -122,9 +123,9 @@ abbrev pub IsClockless : End → Type 0
 IsClockless Clock = ⊥
 IsClockless _ = Unit {0}
 
--- the events are a run that stops with this end, and the one that is scheduled, whatever a clock tells
+-- the events are a run that stops with this end, and the one that is scheduled where the first candidate is taken each time, whatever a clock tells
 pub record IsStopped (s : Subject) (budget turns : ℕ) (events : List Event) (e : End) : Type 0 where
   pub run : IsRun s budget events
   pub stops : Stops s budget turns events e
-  pub scheduled : (clock : Option ℕ) → IsScheduled s budget turns clock events e
+  pub scheduled : (clock : Option ℕ) → IsScheduled always_first s budget turns clock tt events e
   pub clockless : IsClockless e

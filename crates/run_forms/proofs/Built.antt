@@ -1,6 +1,6 @@
 -- What the specifications that are run today have in common.
 use Rattle.std.proofs.Common.{◌≡◌, ◌∙◌, ℕ, zero, suc, ◌≤◌, Bool, true, false, List, [], ◌∷◌, ◌++◌, map, length, Option, Some, None, refl, ap, sym, subst, arith, lit≤}
-use Rattle.std.specs.Prelude.{IsTrue, ◌&&◌, slice_get, nat_le}
+use Rattle.std.specs.Prelude.{IsTrue, ◌&&◌, slice_get, nat_le, option_and_then}
 use Rattle.std.specs.List.{list_all, flat_map}
 use Rattle.std.proofs.lemmas.Bool.Decides.{leb_tells}
 use Rattle.std.proofs.lemmas.List.{length-map}
@@ -25,8 +25,8 @@ use Rattle.estelle_tree.specs.Spans.{DeclLayer}
 use Rattle.estelle_model.specs.Meant.{Meanings}
 use Rattle.estelle_model.specs.Definitions.{types_received, interaction_of, domains_of}
 use Rattle.estelle_model.specs.Bodies.{Way, behind, ways, trans_body_layer, group_layer, Contribution, BodyAlone, decl_layer, body_layer, parts_layer, standings, default_of, ways_of}
-use Rattle.estelle_model.specs.Transitions.{Transition, or_first, said, when_of, priority_of, delay_of, names_of_domain, choices, flat_one, flat_way}
-use Rattle.estelle_model.specs.Subject.{Subject, meant, body, transitions_of, transitions, numbered_one, transition}
+use Rattle.estelle_model.specs.Transitions.{Choice, Transition, or_first, said, when_of, priority_of, number_of, delay_of, names_of_domain, choices, flat_one, flat_way}
+use Rattle.estelle_model.specs.Subject.{Subject, meant_with, body, transitions_of, transitions, numbered_one, transition}
 use Rattle.plain_jobs.specs.Specifications.{is_plain_specification}
 use Rattle.plain_jobs.proofs.Same.{both_left, both_right}
 use Rattle.plain_jobs.proofs.PlainDeclarations.{Each, each_append, each_map, each_at}
@@ -303,21 +303,21 @@ domains_none (clause.Delay low high span) h = refl
 
 -- ---- its flat transitions
 
-module _ (known : Meanings) where
+module _ (means : List Choice → Meanings) where
   -- there is one for each block
-  flat_way_is : (w : Way) → BuiltWay w → flat_way known w ≡ flat_one known w [] ∷ []
-  flat_way_is w h = ap (λ (ds : List AnyDom). map (flat_one known w) (choices known (flat_map (names_of_domain known) ds))) (gives_none domains_of domains_none w.clauses h)
+  flat_way_is : (w : Way) → BuiltWay w → flat_way means w ≡ flat_one means w [] ∷ []
+  flat_way_is w h = ap (λ (ds : List AnyDom). map (flat_one means w) (choices (means []) (flat_map (names_of_domain (means [])) ds))) (gives_none domains_of domains_none w.clauses h)
 
-  flat_is : (ws : List Way) → Each BuiltWay ws → flat_map (flat_way known) ws ≡ map (λ w. flat_one known w []) ws
+  flat_is : (ws : List Way) → Each BuiltWay ws → flat_map (flat_way means) ws ≡ map (λ w. flat_one means w []) ws
   flat_is [] h = refl
-  flat_is (w ∷ ws) h = ap (λ ts. ts ++ flat_map (flat_way known) ws) (flat_way_is w h.0) ∙ ap (λ ts. flat_one known w [] ∷ ts) (flat_is ws h.1)
+  flat_is (w ∷ ws) h = ap (λ ts. ts ++ flat_map (flat_way means) ws) (flat_way_is w h.0) ∙ ap (λ ts. flat_one means w [] ∷ ts) (flat_is ws h.1)
 
-  one_simple : (w : Way) → BuiltWay w → IsSimple (flat_one known w [])
+  one_simple : (w : Way) → BuiltWay w → IsSimple (flat_one means w [])
   one_simple w h = record {
-    when = says_none (when_of known) (when_none known) w.clauses h;
-    received = ap (flat_map (λ x. types_received (known x))) (gives_none interaction_of interaction_none w.clauses h);
-    priority = says_none (priority_of known) (priority_none known) w.clauses h;
-    delay = says_none (delay_of known) (delay_none known) w.clauses h;
+    when = says_none (when_of (means [])) (when_none (means [])) w.clauses h;
+    received = ap (flat_map (λ x. types_received (means [] x))) (gives_none interaction_of interaction_none w.clauses h);
+    priority = ap (option_and_then (number_of (means []))) (says_none (priority_of (means [])) (priority_none (means [])) w.clauses h);
+    delay = says_none (delay_of (means [])) (delay_none (means [])) w.clauses h;
     chosen = refl;
   }
 
@@ -338,7 +338,7 @@ each_simple : (s : Subject) → IsTrue (is_built s.specification) → (o : Optio
 each_simple s h None is = tt
 each_simple s h (Some b) is =
     let ws : Each BuiltWay (ways_of b) = subst (λ ts. Each BuiltWay (ways_in ts)) (sym (is.trans b refl)) (ways_built (out-Parts s.specification.parts).trans (asked s.specification h).trans) in
-    subst (Each IsSimple) (sym (flat_is (meant s) (ways_of b) ws)) (each_map BuiltWay IsSimple (λ w. flat_one (meant s) w []) (one_simple (meant s)) (ways_of b) ws)
+    subst (Each IsSimple) (sym (flat_is (meant_with s) (ways_of b) ws)) (each_map BuiltWay IsSimple (λ w. flat_one (meant_with s) w []) (one_simple (meant_with s)) (ways_of b) ws)
 
 at_number : (P : Transition → Type 0) (ts : List Transition) (n : ℕ) (t : Transition) → Each P ts → numbered_one ts n ≡ Some t → P t
 at_number P ts zero t h e = absurd (cc)
@@ -356,7 +356,7 @@ few_of s h (Some b) is =
     let ts = (out-Parts s.specification.parts).trans in
     let same : ways_of b ≡ ways_in ts = ap ways_in (is.trans b refl) in
     let ws : Each BuiltWay (ways_of b) = subst (Each BuiltWay) (sym same) (ways_built ts (asked s.specification h).trans) in
-    let count : length (transitions_of s (Some b)) ≡ length (ways_in ts) = ap length (flat_is (meant s) (ways_of b) ws) ∙ length-map (ways_of b) (λ w. flat_one (meant s) w []) ∙ ap length same in
+    let count : length (transitions_of s (Some b)) ≡ length (ways_in ts) = ap length (flat_is (meant_with s) (ways_of b) ws) ∙ length-map (ways_of b) (λ w. flat_one (meant_with s) w []) ∙ ap length same in
     omega (arith, count, at_most (length (ways_in ts)) (asked s.specification h).few)
 
 pub built_few : (s : Subject) → IsTrue (is_built s.specification) → (k : ℕ) → length (transitions s k) ≤ transition_limit

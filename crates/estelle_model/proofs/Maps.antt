@@ -1,4 +1,4 @@
--- Maps of instances by what is found in them: entries put one after another, and what all records of a list tell.
+-- Maps of instances by what is found in them: changes, entries put one after another, and what all records of a list tell.
 use Rattle.std.proofs.Common.{◌≡◌, Bool, true, false, List, [], ◌∷◌, map as each, Option, Some, None, refl, sym, ap, subst, cond, ◌∙◌}
 use Rattle.std.specs.Prelude.{◌&&◌, fold, option_map, T}
 use Rattle.std.specs.FinMap as map
