@@ -1,8 +1,9 @@
 //! The devices alone: those in memory, and the adapters of std and of the machine's clock.
 
 use outside::{
-    Clock, Failed, MachineClock, MemorySink, MemorySource, Sink, Source, StdSink, StdSource,
-    SureSink, SureSource, VirtualClock, write_all,
+    AnyChooser, Chooser, Clock, Failed, FirstChooser, MachineClock, MemorySink, MemorySource,
+    ScriptClock, SeedChooser, Sink, Source, StdSink, StdSource, SureSink, SureSource, VirtualClock,
+    write_all,
 };
 use std::alloc::{AllocError, Global};
 use std::cell::Cell;
@@ -196,4 +197,65 @@ fn clocks(rt: HostRuntime) {
     assert_eq!(rt; clock.wait(5), Ok(5));
     assert_eq!(rt; clock.now(0), Ok(5));
     assert_eq!(rt; clock.faults(), 0);
+}
+
+#[test]
+fn scripted_clocks(rt: HostRuntime) -> Result<(), Fail> {
+    let mut clock = ScriptClock {
+        moment: 3,
+        failing: vec![in rt.alloc(); 2]?,
+        calls: 0,
+        faults: 0,
+    };
+    assert_eq!(rt; clock.now(5), Ok(5));
+    assert_eq!(rt; clock.wait(9), Err(Failed));
+    assert_eq!(rt; clock.moment, 3);
+    assert_eq!(rt; clock.wait(9), Ok(9));
+    assert_eq!(rt; clock.now(0), Ok(9));
+    assert_eq!(rt; clock.faults(), 1);
+    Ok(())
+}
+
+/// The picks of a chooser among so many candidates.
+fn picks<C: Chooser>(chooser: &mut C) -> [u64; 8] {
+    [
+        chooser.pick(2),
+        chooser.pick(3),
+        chooser.pick(10),
+        chooser.pick(100),
+        chooser.pick(4_096),
+        chooser.pick(4_294_967_296),
+        chooser.pick(1),
+        chooser.pick(9_223_372_036_854_775_808),
+    ]
+}
+
+/// The words are those of PCG's reference code, from these states in the stream 0.
+#[test]
+fn choosers(rt: HostRuntime) {
+    let of_0 = [
+        1,
+        0,
+        3,
+        37,
+        451,
+        3_522_865_942,
+        0,
+        5_260_386_020_410_523_648,
+    ];
+    let of_42 = [
+        0,
+        2,
+        5,
+        21,
+        3_840,
+        2_722_332_799,
+        0,
+        584_998_361_308_856_320,
+    ];
+    assert_eq!(rt; picks(&mut FirstChooser), [0; 8]);
+    assert_eq!(rt; picks(&mut SeedChooser::new(0)), of_0);
+    assert_eq!(rt; picks(&mut SeedChooser::new(42)), of_42);
+    assert_eq!(rt; picks(&mut AnyChooser::Seeded(SeedChooser::new(42))), of_42);
+    assert_eq!(rt; picks(&mut AnyChooser::First(FirstChooser)), [0; 8]);
 }
