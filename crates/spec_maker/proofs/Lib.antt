@@ -1,0 +1,10 @@
+pub mod Standing
+pub mod Expressions
+pub mod Statements
+pub mod Bodies
+pub mod Names
+pub mod Loops
+pub mod Tokens
+pub mod Sentence
+pub mod Text
+pub mod Reading
