@@ -41,7 +41,8 @@ pub fn default_of(mut heads: &[Head]) -> bool
     false
 }
 
-fn system_attribute(attr: SysAttr) -> Attribute
+/// The attribute of a specification, as it is written.
+pub fn system_attribute(attr: SysAttr) -> Attribute
     ensures { result ≡ spec.system_attribute attr }
 {
     match attr {
@@ -118,23 +119,23 @@ fn push_points(
 }
 
 /// The interaction points that are declared in a header, or in a body.
-fn interaction_points(
+pub fn push_interaction_points(
     table: &Table,
     by_default: bool,
     external: bool,
     ips: &[IpDecl],
-) -> Result<Items<InteractionPoint>, AllocError>
-    ensures { IfOk result (λ points. points ≡ spec.interaction_points (meanings_of table.now) by_default external ips.now) }
+    out: &mut Items<InteractionPoint>,
+) -> Result<(), AllocError>
+    ensures { OnOk result (out.new ≡ out.old ++ spec.interaction_points (meanings_of table.now) by_default external ips.now) }
 {
-    let mut points = Items::new(table.alloc);
     for ip in ips {
         push_points(
-            &mut points,
+            out,
             interaction_point(table, by_default, external, ip),
             ip.names.names.items().len(),
         )?;
     }
-    Ok(points)
+    Ok(())
 }
 
 fn export_types(table: &Table, exports: &[TypedNames]) -> Result<Items<Type>, AllocError>
@@ -152,12 +153,14 @@ fn header_meaning<'a>(
 ) -> Result<Meaning<'a>, AllocError>
     ensures { IfOk result (λ m. m ≡ header_means by_default header.now (meanings_of table.now)) }
 {
+    let mut ips = Items::new(table.alloc);
+    push_interaction_points(table, by_default, true, header.ips.items(), &mut ips)?;
     Ok(Meaning::Header(Heading {
         at: header.name.span.start,
         attribute: attribute(header.attr),
         parameters: param_types(table, &header.params)?,
         exports: export_types(table, header.exports.items())?,
-        ips: interaction_points(table, by_default, true, header.ips.items())?,
+        ips,
     }))
 }
 

@@ -29,4 +29,5 @@ mod ways;
 
 pub use bodies::meanings;
 pub use definitions::local_types;
-pub use root::variable_types;
+pub use headers::{default_of, push_interaction_points, system_attribute};
+pub use root::{push_variable_types, variable_types};

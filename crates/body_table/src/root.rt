@@ -22,20 +22,25 @@ fn push_types_of(table: &Table, decl: &Decl, out: &mut Items<Type>) -> Result<()
     }
 }
 
-fn types_of(table: &Table, decls: &[Decl]) -> Result<Items<Type>, AllocError>
-    ensures { IfOk result (λ types. types ≡ section_types (meanings_of table.now) (flat_map variables_of decls.now)) }
+/// The types of the variables that a body itself declares.
+pub fn push_variable_types(
+    table: &Table,
+    decls: &[Decl],
+    out: &mut Items<Type>,
+) -> Result<(), AllocError>
+    ensures { OnOk result (out.new ≡ out.old ++ section_types (meanings_of table.now) (flat_map variables_of decls.now)) }
 {
-    let mut types = Items::new(table.alloc);
     for decl in decls {
-        push_types_of(table, decl, &mut types)?;
+        push_types_of(table, decl, out)?;
     }
-    Ok(types)
+    Ok(())
 }
 
 /// The types of the variables of an instance of the specification.
 pub fn variable_types(table: &Table, tree: &Spec) -> Result<Items<Type>, AllocError>
     ensures { IfOk result (λ types. types ≡ spec.variable_types (meanings_of table.now) (root tree.now)) }
 {
-    let types = types_of(table, tree.parts.decls.items())?;
+    let mut types = Items::new(table.alloc);
+    push_variable_types(table, tree.parts.decls.items(), &mut types)?;
     Ok(types)
 }

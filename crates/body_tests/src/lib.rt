@@ -1,7 +1,7 @@
 //! Tests alone, of what bodies are run by: the values of Pascal, the parts of the evaluator, its firings and guards, and
 //! the lists of flat transitions.
 //!
-//! It stands on the evaluator of bodies of Pascal alone, and on the layers from which a text comes to it.
+//! It stands on the evaluator of bodies, and on the layers from which a text comes to it.
 #![tactic(auto)]
 
 #[cfg(test)]

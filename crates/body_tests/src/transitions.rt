@@ -6,13 +6,13 @@ use std::alloc::{AllocError, Global};
 use std::test::Fail;
 use test_texts::tree;
 
-/// Clauses in groups, states in a state set out of order, and constants that are negative or have names.
+/// Clauses in groups, states in a state set out of order, and constants that have names.
 const TEXT: &str =
     "specification s systemprocess; state here, there; channel c(left, right); by left: m(n: integer); stop; \
 module h process; ip p: c(right); q: c(right); end; \
-body x for h; const low = -3; state one, two, three; stateset late = [three, two]; \
-initialize to one begin end; trans from one to two when q.m provided n > 1 priority low begin {1} end; priority 7 delay(n, *) begin {2} end; \
-trans to one from late, one delay(2) when p.stop begin {3} end; trans begin {4} end; end; \
+body x for h; const low = 3; state one, two, three; stateset late = [three, two]; \
+initialize to one begin end; trans from one to two when q.m provided n > 1 priority low begin {1} end; priority 7 begin {2} end; \
+trans to one from late, one when p.stop begin {3} end; trans delay(4, *) begin {4} end; end; \
 initialize to here begin end; trans from here to there begin {5} end; provided false begin {6} end; trans delay(1, 2) to same priority 0 begin {7} end; end.";
 
 /// What the standard says of them, one a line, the specification's before those of the body.
@@ -22,16 +22,56 @@ body
 2 from 0 provided false begin {6} end;
 3 priority 0 delay 1, 2 begin {7} end;
 body
-1 from 0 to 1 when 1.m provided n > 1 priority -3 begin {1} end;
-2 from 0 to 1 when 1.m provided n > 1 priority 7 delay n, * begin {2} end;
-3 from 2 1 0 to 0 when 0.stop delay 2 begin {3} end;
-4 begin {4} end;
+1 from 0 to 1 when 1.m provided n > 1 priority 3 begin {1} end;
+2 from 0 to 1 when 1.m provided n > 1 priority 7 begin {2} end;
+3 from 2 1 0 to 0 when 0.stop begin {3} end;
+4 delay 4, * begin {4} end;
 ";
 
 /// In one body a value is chosen.
 const WITH_ANY: &str =
-    "specification s systemprocess; state go; module h process; end; body x for h; trans any i: 1..2 do begin end; end; \
+    "specification s; state go; module h; end; body x for h; trans any i: 1..2 do begin end; end; \
 initialize to go begin end; trans from go begin end; end.";
+
+const CHOSEN: &str = "\
+body
+1 from 0 begin end;
+body
+1 any 1 begin end;
+2 any 2 begin end;
+";
+
+/// Four choices for one block: the last name is the fastest.
+const VARIANTS: &str =
+    "specification count systemprocess; var n: integer; state go; initialize to go begin n := 0 end; \
+trans any i: 1..2; j: boolean do from go to go provided (i = 2) and j and (n < 1) begin n := n + 1 end; end.";
+
+const FOUR: &str = "\
+body
+1 from 0 to 0 provided (i = 2) and j and (n < 1) any 1 any 0 begin n := n + 1 end;
+2 from 0 to 0 provided (i = 2) and j and (n < 1) any 1 any 1 begin n := n + 1 end;
+3 from 0 to 0 provided (i = 2) and j and (n < 1) any 2 any 0 begin n := n + 1 end;
+4 from 0 to 0 provided (i = 2) and j and (n < 1) any 2 any 1 begin n := n + 1 end;
+";
+
+/// A name of `any` in `priority`, also with a sign, and groups below one `any`.
+const PRIORITIES: &str =
+    "specification p systemprocess; state go, d1, d2; initialize to go begin end; trans from go to d1 priority 5 begin {1} end; \
+trans any i: 1..2 do from go to d2 priority i begin {2} end; to d1 begin {3} end; \
+trans any c: (red, green); k: -2..-1 do priority -k begin {4} end; end.";
+
+const BY_CHOICE: &str = "\
+body
+1 from 0 to 1 priority 5 begin {1} end;
+2 from 0 to 2 priority 1 any 1 begin {2} end;
+3 from 0 to 2 priority 2 any 2 begin {2} end;
+4 from 0 to 1 any 1 begin {3} end;
+5 from 0 to 1 any 2 begin {3} end;
+6 priority 2 any 0 any -2 begin {4} end;
+7 priority 1 any 0 any -1 begin {4} end;
+8 priority 2 any 1 any -2 begin {4} end;
+9 priority 1 any 1 any -1 begin {4} end;
+";
 
 fn piece(text: &str, span: Span) -> &str {
     text.get(span.start as usize..span.end as usize)
@@ -98,11 +138,16 @@ fn flat_transitions(alloc: Global, text: &str) -> Option<String> {
     }
 }
 
-// The definition of flat transitions, by a text: what clauses say, how groups nest, and where nodes stand. Where a value
-// is to be chosen, nothing is listed.
+// The definition of flat transitions, by texts: what clauses say, how groups nest, where nodes stand, and in which order
+// values are chosen.
 #[test]
 fn listed_transitions(rt: HostRuntime) -> Result<(), Fail> {
-    for (text, wanted) in [(TEXT, TRANSITIONS), (WITH_ANY, "")] {
+    for (text, wanted) in [
+        (TEXT, TRANSITIONS),
+        (WITH_ANY, CHOSEN),
+        (VARIANTS, FOUR),
+        (PRIORITIES, BY_CHOICE),
+    ] {
         let found = flat_transitions(rt.alloc(), text);
         assert!(rt;
             matches!(&found, Some(found) if found.as_str() == wanted),

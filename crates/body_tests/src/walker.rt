@@ -1,10 +1,15 @@
 //! What an evaluator of bodies is made of: whether a value fits a type, and variables that are put and loaded.
 
-use body_walker_state::{Stop, Walk, fits, is_in_order};
+use body_walker_program::Program;
+use body_walker_state::{Walk, is_in_order};
+use body_walker_values::{Stop, fits};
 use estelle_model::{Denoter, Host, Image, Part, Place};
 use estelle_tree::{Items, Path, SequenceMut};
 use pascal_values::{Fault, Value, Values};
+use spec_accept::{Checked, accept};
+use std::alloc::{AllocError, Global};
 use std::test::Fail;
+use test_texts::tree;
 
 #[test]
 fn a_char_type(rt: HostRuntime) -> Result<(), Fail> {
@@ -19,40 +24,81 @@ fn a_char_type(rt: HostRuntime) -> Result<(), Fail> {
     Ok(())
 }
 
-#[test]
-fn an_unset_variable_and_one_that_is_put(rt: HostRuntime) -> Result<(), Fail> {
-    let mut vars = Values::none(rt.alloc());
+/// The one variable of a specification, unset before anything runs.
+fn unset_image(alloc: Global) -> Result<Image, AllocError> {
+    let mut vars = Values::none(alloc);
     vars.push(Value::Unset)?;
-    let mut parts = Items::new(rt.alloc());
+    let mut parts = Items::new(alloc);
     parts.push(Part {
-        path: Path::root(rt.alloc()),
+        path: Path::root(alloc),
         body: 0,
         state: None,
         vars,
-        modvars: Items::new(rt.alloc()),
+        modvars: Items::new(alloc),
         births: 0,
     })?;
-    let image = Image {
+    Ok(Image {
         parts,
-        links: Items::new(rt.alloc()),
-    };
+        links: Items::new(alloc),
+    })
+}
+
+fn holds(alloc: Global, walk: &Walk, place: &Place, wanted: i64) -> bool {
+    matches!(walk.load(alloc, place), Ok(Value::Int(n)) if n == wanted)
+}
+
+/// Whether the variable is unset, then takes a number, and refuses a value of another type.
+fn is_put_and_loaded(alloc: Global, walk: &mut Walk, place: &Place) -> bool {
+    let unset = matches!(walk.load(alloc, place), Err(Stop::Fault(Fault::Unset)));
+    let put = walk.put(alloc, place, Value::Int(7)).is_ok() && holds(alloc, walk, place, 7);
+    let refused = walk.put(alloc, place, Value::Char(65)).is_err();
+    unset && put && refused && holds(alloc, walk, place, 7)
+}
+
+fn is_put_in(alloc: Global, program: &Program, image: &Image) -> bool {
+    if !is_in_order(image) {
+        return false;
+    }
     let place = Place::Of {
-        path: Path::root(rt.alloc()),
+        path: Path::root(alloc),
         variable: 0,
-        way: Items::new(rt.alloc()),
+        way: Items::new(alloc),
     };
-    assert!(rt; is_in_order(&image));
-    let mut walk = Walk::new(rt.alloc(), &image, 5);
-    match walk.load(rt.alloc(), &place) {
-        Err(Stop::Fault(fault)) => assert_eq!(rt; fault, Fault::Unset),
-        _ => assert!(rt; false),
+    let mut walk = Walk::new(alloc, program.bodies(), image, 5);
+    is_put_and_loaded(alloc, &mut walk, &place)
+}
+
+fn is_put_of(alloc: Global, program: &Program) -> bool {
+    match unset_image(alloc) {
+        Ok(image) => is_put_in(alloc, program, &image),
+        Err(_) => false,
     }
-    assert_eq!(rt; walk.put(rt.alloc(), &place, Value::Int(7)).is_ok(), true);
-    match walk.load(rt.alloc(), &place) {
-        Ok(Value::Int(n)) => assert_eq!(rt; n, 7),
-        _ => assert!(rt; false),
+}
+
+fn is_put_by(alloc: Global, checked: &Checked) -> bool {
+    match Program::new(alloc, &checked.spec, &checked.names) {
+        Ok(program) => is_put_of(alloc, &program),
+        Err(_) => false,
     }
-    let after = walk.into_image(rt.alloc())?;
-    assert_eq!(rt; after.parts.len(), 1);
-    Ok(())
+}
+
+fn accepted(alloc: Global, text: &str) -> Option<Checked> {
+    accept(alloc, tree(alloc, text.as_bytes())?).ok()
+}
+
+fn is_put(alloc: Global, text: &str) -> bool {
+    match accepted(alloc, text) {
+        Some(checked) => is_put_by(alloc, &checked),
+        None => false,
+    }
+}
+
+#[test]
+fn an_unset_variable_and_one_that_is_put(rt: HostRuntime) {
+    assert!(rt;
+        is_put(
+            rt.alloc(),
+            "specification s systemprocess; var n: integer; end."
+        )
+    );
 }

@@ -1,6 +1,5 @@
 pub mod GuardLemmas
-pub mod Built
 pub mod RootLemmas
-pub mod ProgramLemmas
 pub mod FiringLemmas
+pub mod AskedGuards
 pub mod GuardAnswers

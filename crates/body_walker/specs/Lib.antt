@@ -1,5 +1,4 @@
--- ---- what a program holds
+-- ---- the specification's own instance
 pub mod Roots
-pub mod Programs
--- ---- what is run of it
+-- ---- what is run
 pub mod Runs

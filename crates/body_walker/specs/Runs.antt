@@ -1,18 +1,29 @@
--- A block with the state after it, as firings and the start have it.
-use Rattle.std.specs.Prelude.{ℕ, List, Option}
+-- A block with the state after it, as firings and the start have it; jobs whose ticket does not matter; and guards by what an image shows.
+use Rattle.std.specs.Prelude.{ℕ, Bool, List, Option}
 use Rattle.pascal_values.specs.declared.value.Value.{Value}
-use Rattle.estelle_model.specs.declared.meaning.Routine.{Routine}
-use Rattle.estelle_model.specs.declared.place.Environment.{Environment}
 use Rattle.estelle_tree.specs.Paths.{Path}
+use Rattle.estelle_model.specs.declared.image.Image.{Image}
+use Rattle.estelle_model.specs.declared.image.Interaction.{Interaction}
+use Rattle.estelle_model.specs.declared.job.Guard.{Guard}
+use Rattle.estelle_model.specs.declared.job.Job.{Job}
+use Rattle.estelle_model.specs.declared.meaning.Routine.{Routine}
 use Rattle.estelle_model.specs.States.{Logged, on_log}
 use Rattle.estelle_model.specs.Steps.{Do, ◌>>◌}
 use Rattle.estelle_model.specs.Meant.{Meanings}
-use Rattle.estelle_model.specs.Statements.{Action}
-use Rattle.estelle_model.specs.Calls.{Enters}
-use Rattle.estelle_model.specs.Blocks.{block_step}
-use Rattle.estelle_model.specs.Subject.{Subject}
-use Rattle.estelle_model.specs.Actions.{enter_state}
+use Rattle.estelle_model.specs.Blocks.{block_step, fresh}
+use Rattle.estelle_model.specs.Clauses.{guard_step, answered}
+use Rattle.estelle_model.specs.Computed.{core_of, log_from}
+use Rattle.estelle_model.specs.Transitions.{Transition}
+use Rattle.estelle_model.specs.Subject.{Subject, meant}
+use Rattle.estelle_model.specs.Actions.{act, enter_state}
 
 -- the block, and then the instance enters a state, if one is said
-abbrev pub block_and_state : Meanings → (Enters Logged → Environment → Action Logged → Do Logged) → Path → Routine → List Value → Subject → Meanings → Option ℕ → Do Logged
-block_and_state known act path routine values s meant to = block_step Logged on_log known act path routine values >> enter_state Logged on_log s meant path to
+abbrev pub block_and_state : Subject → Meanings → Path → Routine → List Value → Option ℕ → Do Logged
+block_and_state s known path routine values to = block_step Logged on_log known (act Logged on_log s known) path routine values >> enter_state Logged on_log s (meant s) path to
+
+abbrev pub job_of : Path → ℕ → Image → Option Interaction → ℕ → Job
+job_of path trans image head budget = record { ticket = 0; path = path; trans = trans; image = image; head = head; budget = budget }
+
+-- `provided` and the delay on a log, with the values of the interaction
+abbrev pub logged_guard : Subject → Path → Image → List Value → Bool → ℕ → Transition → Guard
+logged_guard s path image values timed budget t = answered (guard_step Logged on_log s path t values timed (fresh (log_from (core_of s image)) budget))

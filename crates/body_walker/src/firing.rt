@@ -1,29 +1,25 @@
 //! Firings and the start.
 
-ghost use Rattle.std.specs.Prelude.{◌≡◌, [], ◌==◌, ◌<◌, ℕ, slice_get, Some, IfOk};
-ghost use Rattle.estelle_model.specs.declared.place.Environment.{Environment};
-ghost use Rattle.estelle_model.specs.States.{Logged, on_log};
-ghost use Rattle.estelle_model.specs.Steps.{Running, Do};
-ghost use Rattle.estelle_model.specs.Meant.{Meanings};
-ghost use Rattle.estelle_model.specs.Statements.{Action};
-ghost use Rattle.estelle_model.specs.Calls.{Enters};
+ghost use Rattle.std.specs.Prelude.{◌≡◌, [], ◌<◌, option_map, IfOk};
+ghost use Rattle.std.specs.Option.{option_copied};
+ghost use Rattle.estelle_model.specs.States.{Logged};
+ghost use Rattle.estelle_model.specs.Steps.{Do};
 ghost use Rattle.estelle_model.specs.Blocks.{fresh};
-ghost use Rattle.estelle_model.specs.Core.{Instance};
-ghost use Rattle.estelle_model.specs.Transitions.{Transition};
-ghost use Rattle.estelle_model.specs.Subject.{Subject, no_statements, transitions};
-ghost use Rattle.plain_jobs.specs.Plain.{IsPlainRoutine, HasPlainRoutines};
-ghost use Rattle.plain_jobs.specs.Computed.{core_of, log_from, IsMade, start_run, job_run, values_of, IsComputed};
+ghost use Rattle.estelle_model.specs.Subject.{meant, no_statements, initialization, transition};
+ghost use Rattle.estelle_model.specs.Firing.{bare};
+ghost use Rattle.estelle_model.specs.Computed.{core_of, log_from, values_of, start_run, IsMadeBy, IsOfTransition, IsComputedOf};
 ghost use Rattle.meaning_table.specs.Known.{meanings_of};
+ghost use Rattle.body_walker_state.specs.Bodies.{initialization_of};
+ghost use Rattle.body_walker_state.specs.Progress.{Progress, running};
 ghost use Rattle.body_walker_state.specs.Follows.{Follows};
 ghost use Rattle.body_walker_state.specs.InOrder.{InOrder, instance_in};
-ghost use Rattle.body_walker.specs.Programs.{job_of};
-ghost use Rattle.body_walker.specs.Runs.{block_and_state};
+ghost use Rattle.body_walker.specs.Runs.{block_and_state, job_of};
 
-use crate::program::Program;
 use crate::root::root_image;
-use crate::routines::{initial_state, routine_of};
 use body_walker_blocks::block;
-use body_walker_state::{Stop, Walk, part_at};
+use body_walker_program::{Program, with_choices};
+use body_walker_state::{Initialization, ModuleBodies, Walk, part_at};
+use body_walker_values::Stop;
 use estelle_model::{Image, Interaction, Outcome, Part, Routine, Statements};
 use estelle_tree::{Items, Path, SequenceMut, Span, Stmts};
 use meaning_table::Table;
@@ -33,6 +29,7 @@ use std::alloc::{AllocError, Global};
 /// Runs a block of an instance, which then enters a state, if one is said.
 fn run(
     table: &Table,
+    bodies: &ModuleBodies,
     alloc: Global,
     walk: &mut Walk,
     path: &Path,
@@ -40,29 +37,29 @@ fn run(
     values: Values,
     to: Option<u32>,
 ) -> Result<(), Stop>
-    requires routines { HasPlainRoutines (meanings_of table.now) }
-    requires plain { IsPlainRoutine routine.now }
-    ensures { (s : Subject) (known : Meanings) (act : Enters Logged → Environment → Action Logged → Do Logged) → Follows (block_and_state (meanings_of table.now) act path.now routine.now values s known to) walk.old result walk.new }
+    ensures { Follows (block_and_state bodies.now (meanings_of table.now) path.now routine.now values to) walk.old result walk.new }
 {
-    match block(table, alloc, walk, path, routine, values) {
+    match block(table, bodies, alloc, walk, path, routine, values) {
         Ok(()) => walk.enter_state(alloc, path, to),
         Err(stop) => Err(stop),
     }
 }
 
 /// What a run came to, and the units left.
-fn finish(alloc: Global, walk: Walk, ran: Result<(), Stop>) -> Result<(Outcome, u32), AllocError>
-    ensures { (step : Do Logged) (old : Running Logged) → Follows step old ran walk.entry → IfOk result (λ made. IsMade (step old) made.0 made.1) }
+fn finish(
+    bodies: &ModuleBodies,
+    alloc: Global,
+    walk: Walk,
+    ran: Result<(), Stop>,
+) -> Result<(Outcome, u32), AllocError>
+    ensures { (step : Do Logged) (old : Progress) → Follows step old ran walk.entry → IfOk result (λ made. IsMadeBy bodies.now (step (running old)) made.0 made.1) }
 {
     let left = walk.left();
     match ran {
-        Ok(()) => Ok((
-            Outcome::Ran {
-                image: walk.into_image(alloc)?,
-                effects: Items::new(alloc),
-            },
-            left,
-        )),
+        Ok(()) => {
+            let (image, effects) = walk.into_made(alloc, bodies)?;
+            Ok((Outcome::Ran { image, effects }, left))
+        }
         Err(Stop::Fault(fault)) => Ok((Outcome::Faulted(fault), left)),
         Err(Stop::Memory) => Err(AllocError),
     }
@@ -71,6 +68,7 @@ fn finish(alloc: Global, walk: Walk, ran: Result<(), Stop>) -> Result<(Outcome, 
 /// Runs a block from an image on.
 fn run_on(
     table: &Table,
+    bodies: &ModuleBodies,
     alloc: Global,
     image: Image,
     path: &Path,
@@ -79,14 +77,12 @@ fn run_on(
     to: Option<u32>,
     budget: u32,
 ) -> Result<(Outcome, u32), AllocError>
-    requires order { InOrder image.parts }
-    requires routines { HasPlainRoutines (meanings_of table.now) }
-    requires plain { IsPlainRoutine routine.now }
-    ensures { (s : Subject) (known : Meanings) (act : Enters Logged → Environment → Action Logged → Do Logged) → IfOk result (λ made. IsMade ((block_and_state (meanings_of table.now) act path.now routine.now values s known to) (fresh (log_from (core_of image)) budget)) made.0 made.1) }
+    requires { InOrder image.parts }
+    ensures { IfOk result (λ made. IsMadeBy bodies.now ((block_and_state bodies.now (meanings_of table.now) path.now routine.now values to) (fresh (log_from (core_of bodies.now image)) budget)) made.0 made.1) }
 {
-    let mut walk = Walk::owning(alloc, image, budget)?;
-    let ran = run(table, alloc, &mut walk, path, routine, values, to);
-    finish(alloc, walk, ran)
+    let mut walk = Walk::owning(alloc, bodies, image, budget)?;
+    let ran = run(table, bodies, alloc, &mut walk, path, routine, values, to);
+    finish(bodies, alloc, walk, ran)
 }
 
 /// The values of the interaction that is received, if one is.
@@ -118,49 +114,47 @@ fn no_statements(alloc: Global) -> Stmts
 
 /// Runs the block of the initialization of the specification.
 fn begin(
-    table: &Table,
+    program: &Program,
     alloc: Global,
-    image: Image,
     routine: &Routine,
     to: Option<u32>,
     budget: u32,
 ) -> Result<(Outcome, u32), AllocError>
-    requires order { InOrder image.parts }
-    requires routines { HasPlainRoutines (meanings_of table.now) }
-    requires plain { IsPlainRoutine routine.now }
-    ensures { (s : Subject) (known : Meanings) (act : Enters Logged → Environment → Action Logged → Do Logged) → IfOk result (λ made. IsMade ((block_and_state (meanings_of table.now) act [] routine.now [] s known to) (fresh (log_from (core_of image)) budget)) made.0 made.1) }
+    ensures { IfOk result (λ made. IsMadeBy program.now ((block_and_state program.now (meant program.now) [] routine.now [] to) (fresh (log_from (bare program.now).core) budget)) made.0 made.1) }
 {
+    let bodies = program.bodies();
+    let image = root_image(alloc, bodies)?;
     let path = Path::root(alloc);
+    let values = Values::none(alloc);
     run_on(
-        table,
+        program.table(),
+        bodies,
         alloc,
         image,
         &path,
         routine,
-        Values::none(alloc),
+        values,
         to,
         budget,
     )
 }
 
+/// The initialization of the specification, if one is written.
+fn initialization<'b, 't>(bodies: &'b ModuleBodies<'t>) -> Option<&'b Initialization<'t>>
+    ensures { option_copied result ≡ option_map initialization_of (initialization bodies.now 0) }
+{
+    match bodies.get(0) {
+        None => None,
+        Some(body) => body.initialization.as_ref(),
+    }
+}
+
 /// The initialization of the specification, which does nothing where none is written.
 fn start(alloc: Global, program: &Program, budget: u32) -> Result<(Outcome, u32), AllocError>
-    ensures { IfOk result (λ made. IsMade (start_run program.now budget) made.0 made.1) }
+    ensures { IfOk result (λ made. IsMadeBy program.now (start_run program.now budget) made.0 made.1) }
 {
-    let table = &program.table;
-    let image = root_image(alloc, table, program.spec)?;
-    match &program.spec.parts.init {
-        Some(init) => {
-            let routine = routine_of(table, &[], &init.block)?;
-            begin(
-                table,
-                alloc,
-                image,
-                &routine,
-                initial_state(table, &init.to),
-                budget,
-            )
-        }
+    match initialization(program.bodies()) {
+        Some(first) => begin(program, alloc, &first.block, first.to, budget),
         None => {
             let nothing = no_statements(alloc);
             let routine = Routine {
@@ -169,7 +163,7 @@ fn start(alloc: Global, program: &Program, budget: u32) -> Result<(Outcome, u32)
                 result: None,
                 body: Statements::of(&nothing),
             };
-            begin(table, alloc, image, &routine, None, budget)
+            begin(program, alloc, &routine, None, budget)
         }
     }
 }
@@ -179,45 +173,50 @@ fn nothing(budget: u32) -> (Outcome, u32) {
     (Outcome::Faulted(Fault::NoModule), budget)
 }
 
-/// A transition of an instance of the specification's own body, by its number from 0.
-fn fire_own(
+/// The transition of a body, both by their numbers, for an instance of it.
+fn fire(
     alloc: Global,
     program: &Program,
     path: &Path,
-    number: u32,
+    body: u32,
+    trans: u32,
     image: Image,
     head: Option<Interaction>,
     budget: u32,
 ) -> Result<(Outcome, u32), AllocError>
     requires { InOrder image.parts }
-    ensures { (trans : ℕ) (t : Transition) → slice_get (transitions program.now 0) number ≡ Some t → IfOk result (λ made. IsMade (job_run program.now (job_of path.now trans image head budget) t) made.0 made.1) }
+    ensures { IfOk result (λ made. IsOfTransition program.now (job_of path.now trans image head budget) (transition program.now body trans) made.0 made.1) }
 {
-    match program.transitions.get(number) {
+    match program.transition(body, trans) {
         None => Ok(nothing(budget)),
-        Some(transition) => match program.blocks.get(number as usize) {
+        Some(transition) => match program.block(body, trans) {
             None => unreachable!(),
-            Some(routine) => run_on(
-                &program.table,
-                alloc,
-                image,
-                path,
-                routine,
-                received_values(alloc, head),
-                transition.to(),
-                budget,
-            ),
+            Some(routine) => {
+                let table = with_choices(program.table(), transition.chosen())?;
+                run_on(
+                    &table,
+                    program.bodies(),
+                    alloc,
+                    image,
+                    path,
+                    routine,
+                    received_values(alloc, head),
+                    transition.to(),
+                    budget,
+                )
+            }
         },
     }
 }
 
-/// Whether an instance with the path is there, and is one of the specification's own body.
-fn is_own(parts: &[Part], path: &Path) -> bool
+/// The body of the instance with a path, if it is there.
+fn body_at(parts: &[Part], path: &Path) -> Option<u32>
     requires { InOrder parts.now }
-    ensures { (i : Instance) → instance_in parts.now path.now ≡ Some i → (result ≡ (i.body == 0)) }
+    ensures { result ≡ option_map (λ i. i.body) (instance_in parts.now path.now) }
 {
     match part_at(parts, path) {
-        Some(part) => part.body == 0,
-        None => false,
+        Some(part) => Some(part.body),
+        None => None,
     }
 }
 
@@ -232,14 +231,13 @@ pub(crate) fn compute(
     budget: u32,
 ) -> Result<(Outcome, u32), AllocError>
     requires { 0 < trans → InOrder image.parts }
-    ensures { IfOk result (λ made. IsComputed program.now (job_of path.now trans image head budget) trans made.0 made.1) }
+    ensures { IfOk result (λ made. IsComputedOf program.now (job_of path.now trans image head budget) trans made.0 made.1) }
 {
-    let _ = &program.spec;
     if trans == 0 {
         return start(alloc, program, budget);
     }
-    if !is_own(image.parts.as_slice(), path) {
-        return Ok(nothing(budget));
+    match body_at(image.parts.as_slice(), path) {
+        None => Ok(nothing(budget)),
+        Some(body) => fire(alloc, program, path, body, trans, image, head, budget),
     }
-    fire_own(alloc, program, path, trans - 1, image, head, budget)
 }

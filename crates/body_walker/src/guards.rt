@@ -5,18 +5,17 @@ ghost use Rattle.std.specs.Int.RustNames.{int_le};
 ghost use Rattle.pascal_values.specs.Integers.{is_between};
 ghost use Rattle.std.specs.Option.{option_copied};
 ghost use Rattle.estelle_model.specs.States.{Logged, on_log};
-ghost use Rattle.estelle_model.specs.Steps.{Running, Step};
 ghost use Rattle.estelle_model.specs.Transitions.{Transition};
 ghost use Rattle.estelle_model.specs.Subject.{Subject, meant_with};
 ghost use Rattle.estelle_model.specs.Clauses as clauses;
 ghost use Rattle.estelle_model.specs.Expressions.{bool_step};
-ghost use Rattle.plain_jobs.specs.Plain.{HasPlainRoutines};
 ghost use Rattle.meaning_table.specs.Known.{meanings_of};
-ghost use Rattle.body_walker_state.specs.Gives.{Gives};
+ghost use Rattle.body_walker_values.specs.Gives.{Gives};
 ghost use Rattle.body_walker_state.specs.Follows.{Follows};
 
 use body_walker_blocks::clause;
-use body_walker_state::{Stop, Walk, bool_of, copy_values, int_of};
+use body_walker_state::{ModuleBodies, Walk};
+use body_walker_values::{Stop, bool_of, copy_values, int_of};
 use estelle_model::Guard;
 use estelle_tree::{DelayHigh, Expr, Path};
 use flat_transitions::{Delay, Transition};
@@ -27,17 +26,17 @@ use std::alloc::Global;
 /// The truth value of an expression in a clause.
 fn truth(
     table: &Table,
+    bodies: &ModuleBodies,
     alloc: Global,
     walk: &mut Walk,
     path: &Path,
     values: &Values,
     node: &Expr,
 ) -> Result<bool, Stop>
-    requires { HasPlainRoutines (meanings_of table.now) }
-    ensures { (s : Subject) (t : Transition) → meant_with s t.chosen ≡ meanings_of table.now → Follows (bool_step (clauses.value_of_expr Logged on_log s path.now t values.now node.now)) walk.old result walk.new }
+    ensures { (t : Transition) → meant_with bodies.now t.chosen ≡ meanings_of table.now → Follows (bool_step (clauses.value_of_expr Logged on_log bodies.now path.now t values.now node.now)) walk.old result walk.new }
 {
     let values = copy_values(alloc, values)?;
-    match clause(table, alloc, walk, path, values, node) {
+    match clause(table, bodies, alloc, walk, path, values, node) {
         Ok(value) => bool_of(&value),
         Err(stop) => Err(stop),
     }
@@ -46,17 +45,17 @@ fn truth(
 /// The integer that an expression in a clause is.
 fn number(
     table: &Table,
+    bodies: &ModuleBodies,
     alloc: Global,
     walk: &mut Walk,
     path: &Path,
     values: &Values,
     node: &Expr,
 ) -> Result<i64, Stop>
-    requires { HasPlainRoutines (meanings_of table.now) }
-    ensures { (s : Subject) (t : Transition) → meant_with s t.chosen ≡ meanings_of table.now → Follows (clauses.int_step Logged on_log s path.now t values.now node.now) walk.old result walk.new }
+    ensures { (t : Transition) → meant_with bodies.now t.chosen ≡ meanings_of table.now → Follows (clauses.int_step Logged on_log bodies.now path.now t values.now node.now) walk.old result walk.new }
 {
     let values = copy_values(alloc, values)?;
-    match clause(table, alloc, walk, path, values, node) {
+    match clause(table, bodies, alloc, walk, path, values, node) {
         Ok(value) => int_of(&value),
         Err(stop) => Err(stop),
     }
@@ -64,18 +63,18 @@ fn number(
 
 fn provided(
     table: &Table,
+    bodies: &ModuleBodies,
     alloc: Global,
     walk: &mut Walk,
     path: &Path,
     values: &Values,
     condition: Option<&Expr>,
 ) -> Result<bool, Stop>
-    requires { HasPlainRoutines (meanings_of table.now) }
-    ensures { (s : Subject) (t : Transition) → meant_with s t.chosen ≡ meanings_of table.now → Follows (clauses.provided_step Logged on_log s path.now t values.now (option_copied condition.entry)) walk.old result walk.new }
+    ensures { (t : Transition) → meant_with bodies.now t.chosen ≡ meanings_of table.now → Follows (clauses.provided_step Logged on_log bodies.now path.now t values.now (option_copied condition.entry)) walk.old result walk.new }
 {
     match condition {
         None => Ok(true),
-        Some(node) => truth(table, alloc, walk, path, values, node),
+        Some(node) => truth(table, bodies, alloc, walk, path, values, node),
     }
 }
 
@@ -127,6 +126,7 @@ fn from_on(low: i64) -> Result<Guard, Stop>
 /// The second value of a delay, and then both as a guard.
 fn high(
     table: &Table,
+    bodies: &ModuleBodies,
     alloc: Global,
     walk: &mut Walk,
     path: &Path,
@@ -134,17 +134,17 @@ fn high(
     low: i64,
     high: &Option<DelayHigh>,
 ) -> Result<Guard, Stop>
-    requires { HasPlainRoutines (meanings_of table.now) }
-    ensures { (s : Subject) (t : Transition) → meant_with s t.chosen ≡ meanings_of table.now → Follows (clauses.high_step Logged on_log s path.now t values.now low high.now) walk.old result walk.new }
+    ensures { (t : Transition) → meant_with bodies.now t.chosen ≡ meanings_of table.now → Follows (clauses.high_step Logged on_log bodies.now path.now t values.now low high.now) walk.old result walk.new }
 {
     match high {
         None => between(low, low),
-        Some(later) => written(table, alloc, walk, path, values, low, later),
+        Some(later) => written(table, bodies, alloc, walk, path, values, low, later),
     }
 }
 
 fn written(
     table: &Table,
+    bodies: &ModuleBodies,
     alloc: Global,
     walk: &mut Walk,
     path: &Path,
@@ -152,12 +152,11 @@ fn written(
     low: i64,
     high: &DelayHigh,
 ) -> Result<Guard, Stop>
-    requires { HasPlainRoutines (meanings_of table.now) }
-    ensures { (s : Subject) (t : Transition) → meant_with s t.chosen ≡ meanings_of table.now → Follows (clauses.high_step Logged on_log s path.now t values.now low (Some high.now)) walk.old result walk.new }
+    ensures { (t : Transition) → meant_with bodies.now t.chosen ≡ meanings_of table.now → Follows (clauses.high_step Logged on_log bodies.now path.now t values.now low (Some high.now)) walk.old result walk.new }
 {
     match high {
         DelayHigh::Star => from_on(low),
-        DelayHigh::Expr(node) => match number(table, alloc, walk, path, values, node) {
+        DelayHigh::Expr(node) => match number(table, bodies, alloc, walk, path, values, node) {
             Ok(n) => between(low, n),
             Err(stop) => Err(stop),
         },
@@ -167,6 +166,7 @@ fn written(
 /// A delay as a guard. Where a timer runs, nothing of it is evaluated.
 fn delay(
     table: &Table,
+    bodies: &ModuleBodies,
     alloc: Global,
     walk: &mut Walk,
     path: &Path,
@@ -174,8 +174,7 @@ fn delay(
     timed: bool,
     delay: Option<&Delay>,
 ) -> Result<Guard, Stop>
-    requires { HasPlainRoutines (meanings_of table.now) }
-    ensures { (s : Subject) (t : Transition) → meant_with s t.chosen ≡ meanings_of table.now → Follows (clauses.delay_step Logged on_log s path.now t values.now timed (option_copied delay.entry)) walk.old result walk.new }
+    ensures { (t : Transition) → meant_with bodies.now t.chosen ≡ meanings_of table.now → Follows (clauses.delay_step Logged on_log bodies.now path.now t values.now timed (option_copied delay.entry)) walk.old result walk.new }
 {
     match delay {
         None => Ok(at_once()),
@@ -183,8 +182,8 @@ fn delay(
             if timed {
                 return Ok(at_once());
             }
-            match number(table, alloc, walk, path, values, delay.low()) {
-                Ok(low) => high(table, alloc, walk, path, values, low, delay.high()),
+            match number(table, bodies, alloc, walk, path, values, delay.low()) {
+                Ok(low) => high(table, bodies, alloc, walk, path, values, low, delay.high()),
                 Err(stop) => Err(stop),
             }
         }
@@ -203,6 +202,7 @@ fn at_once() -> Guard
 /// `provided`, and where it is true the delay.
 pub(crate) fn guard(
     table: &Table,
+    bodies: &ModuleBodies,
     alloc: Global,
     walk: &mut Walk,
     path: &Path,
@@ -210,15 +210,31 @@ pub(crate) fn guard(
     values: &Values,
     timed: bool,
 ) -> Result<Guard, Stop>
-    requires { HasPlainRoutines (meanings_of table.now) }
-    ensures { (s : Subject) → meant_with s transition.now.chosen ≡ meanings_of table.now → Follows (clauses.guard_step Logged on_log s path.now transition.now values.now timed) walk.old result walk.new }
+    ensures { meant_with bodies.now transition.now.chosen ≡ meanings_of table.now → Follows (clauses.guard_step Logged on_log bodies.now path.now transition.now values.now timed) walk.old result walk.new }
 {
-    match provided(table, alloc, walk, path, values, transition.provided()) {
+    match provided(
+        table,
+        bodies,
+        alloc,
+        walk,
+        path,
+        values,
+        transition.provided(),
+    ) {
         Ok(holds) => {
             if !holds {
                 return Ok(Guard::Off);
             }
-            delay(table, alloc, walk, path, values, timed, transition.delay())
+            delay(
+                table,
+                bodies,
+                alloc,
+                walk,
+                path,
+                values,
+                timed,
+                transition.delay(),
+            )
         }
         Err(stop) => Err(stop),
     }

@@ -1,15 +1,13 @@
-//! The evaluator of bodies of Pascal alone: firings, the start and guards, each on the private part of its instance.
+//! The evaluator of bodies: firings, the start and guards, each on the private part of its instance, with a log of effects.
 //!
-//! It stands on `body_walker_blocks`, which runs blocks, on `flat_transitions` and on the tables of meanings. What it
-//! computes is what `plain_jobs` says is computed on a log, and so it answers the job in every situation.
+//! It stands on `body_walker_blocks`, which runs blocks, and on `body_walker_program` for what is known of a specification.
+//! What it computes is what `estelle_model` says is computed on a log, and so it answers the job in every situation.
 #![tactic(auto)]
 
 mod firing;
 mod guards;
 mod plain;
-mod program;
 mod root;
-mod routines;
 
+pub use body_walker_program::Program;
 pub use plain::{fire_plain, guard_plain};
-pub use program::Program;

@@ -1,26 +1,29 @@
-//! Jobs and guards of bodies of Pascal alone.
+//! Jobs and guards.
 
 ghost use Rattle.std.specs.Prelude.{◌≡◌, ◌<◌, [], ◌&&◌, if◌then◌else◌, Some, IfOk};
 ghost use Rattle.std.specs.Option.{option_copied};
 ghost use Rattle.estelle_model.specs.declared.job.Guard.TheVariants.{Off};
 ghost use Rattle.estelle_model.specs.States.{Logged};
-ghost use Rattle.estelle_model.specs.Steps.{Running, Step};
-ghost use Rattle.estelle_model.specs.Subject.{Subject, meant_with};
+ghost use Rattle.estelle_model.specs.Steps.{Step};
 ghost use Rattle.estelle_model.specs.Clauses as clauses;
 ghost use Rattle.estelle_model.specs.Firing as firing;
 ghost use Rattle.estelle_model.specs.Jobs.{instance_of, Answers};
-ghost use Rattle.plain_jobs.specs.Plain.{HasPlainRoutines};
-ghost use Rattle.plain_jobs.specs.Computed.{values_of, IsComputed};
-ghost use Rattle.plain_jobs.specs.Guards as guards;
+ghost use Rattle.estelle_model.specs.Computed.{values_of, IsComputedOf};
+ghost use Rattle.estelle_model.specs.Asked as asked;
+ghost use Rattle.estelle_model.specs.Subject.{meant_with};
 ghost use Rattle.meaning_table.specs.Known.{meanings_of};
+ghost use Rattle.body_walker_state.specs.Progress.{Progress, running};
 ghost use Rattle.body_walker_state.specs.Follows.{Follows};
 ghost use Rattle.body_walker_state.specs.InOrder.{InOrder};
+ghost use Rattle.body_walker.specs.Runs.{logged_guard};
 
 use crate::firing::compute;
 use crate::guards::guard;
-use crate::program::Program;
-use body_walker_state::{Stop, Walk, part_at};
+use body_walker_program::{Program, with_choices};
+use body_walker_state::{ModuleBodies, Walk, part_at};
+use body_walker_values::Stop;
 use estelle_model::{Done, Guard, Image, Interaction, Job, Part};
+use estelle_model_answers::{guards_are_answered, jobs_are_answered};
 use estelle_tree::{Path, Sequence, SequenceMut};
 use flat_transitions::{Transition, When};
 use meaning_table::Table;
@@ -33,10 +36,10 @@ pub fn fire_plain(alloc: Global, program: &Program, job: Job) -> Result<Done, Al
     ensures ticket { IfOk result (λ done. done.ticket ≡ job.ticket) }
     ensures path { IfOk result (λ done. done.path ≡ job.path) }
     ensures trans { IfOk result (λ done. done.trans ≡ job.trans) }
-    ensures computed { IfOk result (λ done. IsComputed program.now job job.trans done.outcome done.left) }
+    ensures computed { IfOk result (λ done. IsComputedOf program.now job job.trans done.outcome done.left) }
     ensures answers { IfOk result (λ done. Answers program.now job done) }
 {
-    let _ = &program.spec;
+    jobs_are_answered();
     let Job {
         ticket,
         path,
@@ -63,25 +66,14 @@ fn is_in_state(transition: &Transition, state: Option<u32>) -> bool
         None => true,
         Some(states) => match state {
             None => false,
-            Some(state) => contains(states.items(), state),
+            Some(state) => states.has(state),
         },
     }
 }
 
-fn contains(states: &[u32], state: u32) -> bool
-    ensures { result ≡ firing.is_in states.now (Some state) }
-{
-    for each in states {
-        if *each == state {
-            return true;
-        }
-    }
-    false
-}
-
 /// Whether this is the interaction that a `when` names.
 fn is_named(when: &When, head: Option<&Interaction>) -> bool
-    ensures { result ≡ guards.is_received (Some when.now) (option_copied head.entry) }
+    ensures { result ≡ asked.is_received (Some when.now) (option_copied head.entry) }
 {
     match head {
         None => false,
@@ -91,7 +83,7 @@ fn is_named(when: &When, head: Option<&Interaction>) -> bool
 
 /// Whether a transition needs no interaction, or the head is the one that it names.
 fn is_received(transition: &Transition, head: Option<&Interaction>) -> bool
-    ensures { result ≡ guards.is_received transition.now.when (option_copied head.entry) }
+    ensures { result ≡ asked.is_received transition.now.when (option_copied head.entry) }
 {
     match transition.when() {
         None => true,
@@ -112,7 +104,7 @@ fn received_values<'i>(head: Option<&'i Interaction>, none: &'i Values) -> &'i V
 
 /// A guard as it is answered: a fault is an answer too.
 fn answered(guard: Result<Guard, Stop>) -> Result<Guard, AllocError>
-    ensures { (step : Step Logged Guard) (old new : Running Logged) → Follows step old guard new → IfOk result (λ answer. answer ≡ clauses.answered (step old)) }
+    ensures { (step : Step Logged Guard) (old new : Progress) → Follows step old guard new → IfOk result (λ answer. answer ≡ clauses.answered (step (running old))) }
 {
     match guard {
         Ok(guard) => Ok(guard),
@@ -121,10 +113,59 @@ fn answered(guard: Result<Guard, Stop>) -> Result<Guard, AllocError>
     }
 }
 
-/// `provided` and the delay on what an image shows.
+/// `provided` and the delay on what an image shows. The table tells what names mean where those of `any` have values.
+fn guard_on(
+    table: &Table,
+    bodies: &ModuleBodies,
+    alloc: Global,
+    path: &Path,
+    image: &Image,
+    transition: &Transition,
+    values: &Values,
+    timed: bool,
+    budget: u32,
+) -> Result<Guard, AllocError>
+    requires { InOrder image.now.parts }
+    ensures { meant_with bodies.now transition.now.chosen ≡ meanings_of table.now → IfOk result (λ answer. answer ≡ logged_guard bodies.now path.now image.now values.now timed budget transition.now) }
+{
+    let mut walk = Walk::new(alloc, bodies, image, budget);
+    answered(guard(
+        table, bodies, alloc, &mut walk, path, transition, values, timed,
+    ))
+}
+
+/// The same, by the values that the transition has for the names of `any`.
+fn guard_of_choices(
+    alloc: Global,
+    program: &Program,
+    path: &Path,
+    image: &Image,
+    transition: &Transition,
+    values: &Values,
+    timed: bool,
+    budget: u32,
+) -> Result<Guard, AllocError>
+    requires { InOrder image.now.parts }
+    ensures { IfOk result (λ answer. answer ≡ logged_guard program.now path.now image.now values.now timed budget transition.now) }
+{
+    let table = with_choices(program.table(), transition.chosen())?;
+    guard_on(
+        &table,
+        program.bodies(),
+        alloc,
+        path,
+        image,
+        transition,
+        values,
+        timed,
+        budget,
+    )
+}
+
+/// `provided` and the delay, with the values of the interaction that is received.
 fn evaluated(
     alloc: Global,
-    table: &Table,
+    program: &Program,
     path: &Path,
     image: &Image,
     transition: &Transition,
@@ -132,20 +173,20 @@ fn evaluated(
     timed: bool,
     budget: u32,
 ) -> Result<Guard, AllocError>
-    requires order { InOrder image.now.parts }
-    requires routines { HasPlainRoutines (meanings_of table.now) }
-    ensures { (s : Subject) → meant_with s transition.now.chosen ≡ meanings_of table.now → IfOk result (λ answer. answer ≡ guards.guard_run s path.now image.now (option_copied head.entry) timed budget transition.now) }
+    requires { InOrder image.now.parts }
+    ensures { IfOk result (λ answer. answer ≡ asked.guard_run program.now path.now image.now (option_copied head.entry) timed budget transition.now) }
 {
     let none = Values::none(alloc);
     let values = received_values(head, &none);
-    let mut walk = Walk::new(alloc, image, budget);
-    answered(guard(table, alloc, &mut walk, path, transition, values, timed))
+    guard_of_choices(
+        alloc, program, path, image, transition, values, timed, budget,
+    )
 }
 
 /// The guard of a transition of an instance in a state.
 fn of_transition(
     alloc: Global,
-    table: &Table,
+    program: &Program,
     path: &Path,
     image: &Image,
     transition: &Transition,
@@ -154,9 +195,8 @@ fn of_transition(
     timed: bool,
     budget: u32,
 ) -> Result<Guard, AllocError>
-    requires order { InOrder image.now.parts }
-    requires routines { HasPlainRoutines (meanings_of table.now) }
-    ensures { (s : Subject) → meant_with s transition.now.chosen ≡ meanings_of table.now → IfOk result (λ answer. answer ≡ (if firing.is_in_state transition.now.from state && guards.is_received transition.now.when (option_copied head.entry) then guards.guard_run s path.now image.now (option_copied head.entry) timed budget transition.now else Off)) }
+    requires { InOrder image.now.parts }
+    ensures { IfOk result (λ answer. answer ≡ (if firing.is_in_state transition.now.from state && asked.is_received transition.now.when (option_copied head.entry) then asked.guard_run program.now path.now image.now (option_copied head.entry) timed budget transition.now else Off)) }
 {
     if !is_in_state(transition, state) {
         return Ok(Guard::Off);
@@ -164,7 +204,7 @@ fn of_transition(
     if !is_received(transition, head) {
         return Ok(Guard::Off);
     }
-    evaluated(alloc, table, path, image, transition, head, timed, budget)
+    evaluated(alloc, program, path, image, transition, head, timed, budget)
 }
 
 /// The guard of the transition with a number of an instance.
@@ -180,27 +220,12 @@ fn of_part(
     budget: u32,
 ) -> Result<Guard, AllocError>
     requires { InOrder image.now.parts }
-    ensures { IfOk result (λ answer. answer ≡ guards.guard_for program.now path.now image.now trans (option_copied head.entry) timed budget (Some (instance_of part.now))) }
+    ensures { IfOk result (λ answer. answer ≡ asked.guard_for program.now path.now image.now trans (option_copied head.entry) timed budget (Some (instance_of part.now))) }
 {
-    let _ = &program.spec;
-    if part.body != 0 {
-        return Ok(Guard::Off);
-    }
-    if trans == 0 {
-        return Ok(Guard::Off);
-    }
-    match program.transitions.get(trans - 1) {
+    match program.transition(part.body, trans) {
         None => Ok(Guard::Off),
         Some(transition) => of_transition(
-            alloc,
-            &program.table,
-            path,
-            image,
-            transition,
-            part.state,
-            head,
-            timed,
-            budget,
+            alloc, program, path, image, transition, part.state, head, timed, budget,
         ),
     }
 }
@@ -218,10 +243,10 @@ pub fn guard_plain(
     budget: u32,
 ) -> Result<Guard, AllocError>
     requires { InOrder image.now.parts }
-    ensures computed { IfOk result (λ answer. answer ≡ guards.guard_of_image program.now path.now image.now trans (option_copied head.entry) timed budget) }
-    ensures answers { IfOk result (λ answer. guards.IsGuard program.now path.now image.now trans (option_copied head.entry) timed budget answer) }
+    ensures computed { IfOk result (λ answer. answer ≡ asked.guard_of_image program.now path.now image.now trans (option_copied head.entry) timed budget) }
+    ensures answers { IfOk result (λ answer. asked.IsGuard program.now path.now image.now trans (option_copied head.entry) timed budget answer) }
 {
-    let _ = &program.spec;
+    guards_are_answered();
     match part_at(image.parts.as_slice(), path) {
         None => Ok(Guard::Off),
         Some(part) => of_part(

@@ -1,35 +1,50 @@
 //! The specification's own instance as it is made.
 
-ghost use Rattle.std.specs.Prelude.{◌≡◌, IfOk};
-ghost use Rattle.estelle_model.specs.Bodies.{variable_types};
-ghost use Rattle.meaning_table.specs.Known.{meanings_of};
-ghost use Rattle.body_table.specs.Standings.{root};
-ghost use Rattle.body_walker.specs.Roots.{root_image};
+ghost use Rattle.std.specs.Prelude.{◌≡◌, None, replicate, option_map, IfOk};
+ghost use Rattle.estelle_model.specs.Subject.{body};
+ghost use Rattle.body_walker_state.specs.Bodies.{module_body};
+ghost use Rattle.body_walker.specs.Roots.{root_part, root_image};
 
-use body_table::variable_types;
-use body_walker_state::add_blanks;
+use body_walker_state::{ModuleBodies, ModuleBody};
+use body_walker_values::add_blanks;
 use estelle_model::{Image, Part};
-use estelle_tree::{Items, Path, SequenceMut, Spec};
-use meaning_table::Table;
+use estelle_tree::{Items, Path, SequenceMut};
 use pascal_values::Values;
 use std::alloc::{AllocError, Global};
 
-/// An image of that instance alone.
-pub(crate) fn root_image(alloc: Global, table: &Table, tree: &Spec) -> Result<Image, AllocError>
-    ensures { IfOk result (λ image. image ≡ root_image (variable_types (meanings_of table.now) (root tree.now))) }
+fn no_children(alloc: Global, count: usize) -> Result<Items<Option<Path>>, AllocError>
+    ensures { IfOk result (λ held. held ≡ replicate count None) }
 {
-    let types = variable_types(table, tree)?;
+    let mut held = Items::new(alloc);
+    for _ in 0..count {
+        held.push(None)?;
+    }
+    Ok(held)
+}
+
+fn root_part(alloc: Global, body: &ModuleBody) -> Result<Part, AllocError>
+    ensures { IfOk result (λ part. part ≡ root_part body.now) }
+{
     let mut vars = Values::none(alloc);
-    add_blanks(alloc, &mut vars, types.as_slice())?;
-    let mut parts = Items::new(alloc);
-    parts.push(Part {
+    add_blanks(alloc, &mut vars, body.variables.as_slice())?;
+    Ok(Part {
         path: Path::root(alloc),
         body: 0,
         state: None,
         vars,
-        modvars: Items::new(alloc),
+        modvars: no_children(alloc, body.module_variables)?,
         births: 0,
-    })?;
+    })
+}
+
+/// An image of that instance alone.
+pub(crate) fn root_image(alloc: Global, bodies: &ModuleBodies) -> Result<Image, AllocError>
+    ensures { IfOk result (λ image. image ≡ root_image (option_map (module_body bodies.now 0) (body bodies.now 0))) }
+{
+    let mut parts = Items::new(alloc);
+    if let Some(body) = bodies.get(0) {
+        parts.push(root_part(alloc, body)?)?;
+    }
     Ok(Image {
         parts,
         links: Items::new(alloc),

@@ -2,9 +2,7 @@
 use Rattle.std.proofs.Common.{◌≡◌, ◌∙◌, ℕ, List, [], ◌∷◌, map, refl, sym, ap, subst, Option, Some, None, ℤ, Result, Ok, Err}
 use Rattle.std.specs.Prelude.{slice_get}
 use Rattle.pascal_values.specs.declared.fault.Fault.{Fault}
-use Rattle.pascal_values.specs.declared.fault.Fault.TheVariants.{Unset}
 use Rattle.pascal_values.specs.Shapes.{place_of}
-use Rattle.estelle_tree.specs.declared.tree.name.Name.{Name}
 use Rattle.estelle_tree.specs.declared.tree.expression.Factor.{Factor}
 use Rattle.estelle_tree.specs.declared.tree.expression.Selector.{Selector, out-Selector}
 use Rattle.estelle_tree.specs.declared.tree.expression.Args.{Args}
@@ -21,19 +19,19 @@ use Rattle.estelle_model.specs.declared.meaning.Routine.{Routine}
 use Rattle.estelle_model.specs.declared.place.Place.{Place}
 use Rattle.estelle_model.specs.declared.place.Place.TheVariants.{Of, In}
 use Rattle.estelle_model.specs.declared.place.Environment.{Environment}
-use Rattle.estelle_model.specs.Types.{ordinal_of, item_of, field_of, bounds_of}
+use Rattle.estelle_model.specs.Types.{item_of, field_of, bounds_of}
 use Rattle.estelle_model.specs.Operators.{◌>>>◌}
 use Rattle.estelle_model.specs.States.{Logged, on_log}
-use Rattle.estelle_model.specs.Steps.{Running, Outcome, Step, and_then, ◌>>=◌, pure, fail, checked_at, checked}
+use Rattle.estelle_model.specs.Steps.{Step, ◌>>=◌, pure, checked}
 use Rattle.estelle_model.specs.Places.{deeper, child_step}
 use Rattle.estelle_model.specs.Expressions as spec
 use Rattle.estelle_model.specs.Expressions.{Operand, Access, Selecting, Written, reference_at, ordinal_step}
 use Rattle.estelle_model.proofs.ExpressionEquations.{selector_at, selector_opened, variable_opened}
-use Rattle.meaning_table.specs.Known.{Known, meanings_of}
+use Rattle.body_walker_blocks.specs.Scopes.{Scoped, meanings}
 use Rattle.body_walker_blocks.specs.Located.{Located}
-use Rattle.body_walker_blocks.specs.Accesses.{referred, exported, of_child, behind_module, begun, rest_of, behind_beginning, field, item, result_of, result_in}
+use Rattle.body_walker_blocks.specs.Accesses.{exported, of_child, behind_module, begun, rest_of, behind_beginning, field, item, result_of, result_in}
 use Rattle.body_walker_blocks.specs.Walked.{calling, expr, selector, ordinal, located, at, accessed, selected, indexed, target}
-use Rattle.body_walker_blocks.proofs.Plans.{Plan, First, Given, Last, Check, Finish, Refuse, run, either, Is}
+use Rattle.body_walker_blocks.proofs.Plans.{Plan, First, Last, Check, run, Is}
 use Rattle.body_walker_blocks.proofs.Chains.{chain}
 use Rattle.body_walker_blocks.proofs.Followed.{then_pure, then_then}
 
@@ -53,10 +51,10 @@ from_place a g d =
     then_then (g a.denoter) (λ p. pure (record { place = p; denoter = d a.denoter })) a.place
     ∙ sym (then_then (λ p. pure (record { place = p; denoter = a.denoter })) (λ l. located (Some (record { denoter = d l.denoter; place = g l.denoter l.place }))) a.place)
 
-module _ (t : Known) (h : Environment) where
+module _ (t : Scoped) (h : Environment) where
   -- the item at an index
   abbrev index_on : Operand Logged → Access Logged → Access Logged
-  index_on e a = record { denoter = item_of a.denoter; place = spec.index_step Logged on_log (meanings_of t) (calling t h) h a e }
+  index_on e a = record { denoter = item_of a.denoter; place = spec.index_step Logged on_log (meanings t) (calling t h) h a e }
 
   index_goes_on : (e : Operand Logged) → GoesOn (index_on e)
   index_goes_on e a = from_place a (λ d p. ordinal_step e.value >>= λ n. checked (place_of (bounds_of d).0 (bounds_of d).1 n) >>= λ k. pure (deeper p k)) item_of
@@ -77,12 +75,12 @@ module _ (t : Known) (h : Environment) where
 
   -- ---- one index after another
 
-  indexed_goes_on : (es : List (Operand Logged)) → GoesOn (spec.indexed Logged on_log (meanings_of t) (calling t h) h es)
+  indexed_goes_on : (es : List (Operand Logged)) → GoesOn (spec.indexed Logged on_log (meanings t) (calling t h) h es)
   indexed_goes_on [] a = sym (then_pure (located (Some a)))
   indexed_goes_on (e ∷ es) a =
       indexed_goes_on es (index_on e a)
-      ∙ ap (λ (p : Step Logged Located). p >>= λ l. located (Some (spec.indexed Logged on_log (meanings_of t) (calling t h) h es (at l)))) (index_goes_on e a)
-      ∙ then_then (λ l. located (Some (index_on e (at l)))) (λ l. located (Some (spec.indexed Logged on_log (meanings_of t) (calling t h) h es (at l)))) (located (Some a))
+      ∙ ap (λ (p : Step Logged Located). p >>= λ l. located (Some (spec.indexed Logged on_log (meanings t) (calling t h) h es (at l)))) (index_goes_on e a)
+      ∙ then_then (λ l. located (Some (index_on e (at l)))) (λ l. located (Some (spec.indexed Logged on_log (meanings t) (calling t h) h es (at l)))) (located (Some a))
       ∙ (λ i. located (Some a) >>= λ l. sym (indexed_goes_on es (index_on e (at l))) i)
 
   abbrev pub item_plan : Located → Expr → Plan Located
@@ -108,36 +106,36 @@ module _ (t : Known) (h : Environment) where
   -- ---- selectors
 
   abbrev pub select_plan : Located → Selector-F Factor Selector Args Elem Expr Simple Term Variable → Plan Located
-  select_plan l (Selector-F.Field x) = Check (field (meanings_of t x) l)
+  select_plan l (Selector-F.Field x) = Check (field (meanings t x) l)
   select_plan l (Selector-F.Index es) = Last (indexed t h l es)
 
-  fielded_steps : (m : Meaning) (l : Located) → located (Some (spec.fielded Logged on_log (meanings_of t) (calling t h) h m (at l))) ≡ checked (field m l)
+  fielded_steps : (m : Meaning) (l : Located) → located (Some (spec.fielded Logged on_log (meanings t) (calling t h) h m (at l))) ≡ checked (field m l)
   fielded_steps (Field k) l = refl
   fielded_steps _ l = refl
 
-  select_out : (l : Located) (s : Selector-F Factor Selector Args Elem Expr Simple Term Variable) → located (Some ((selector_at Logged on_log (meanings_of t) (calling t h) h s).over (at l))) ≡ run (select_plan l s)
+  select_out : (l : Located) (s : Selector-F Factor Selector Args Elem Expr Simple Term Variable) → located (Some ((selector_at Logged on_log (meanings t) (calling t h) h s).over (at l))) ≡ run (select_plan l s)
   unfolding indexed expr
-  select_out l (Selector-F.Field x) = fielded_steps (meanings_of t x) l
+  select_out l (Selector-F.Field x) = fielded_steps (meanings t x) l
   select_out l (Selector-F.Index es) = refl
 
   pub selected_steps : (l : Located) (s : Selector) (k : Selector-F Factor Selector Args Elem Expr Simple Term Variable) → out-Selector s ≡ k → Is (selected t h l s) (select_plan l k)
   unfolding selected selector
-  selected_steps l s k is = record { is = ap (λ (x : Selecting Logged). located (Some (x.over (at l)))) (selector_opened Logged on_log (meanings_of t) (calling t h) h s) ∙ select_out l (out-Selector s) ∙ ap (λ (x : Selector-F Factor Selector Args Elem Expr Simple Term Variable). run (select_plan l x)) is }
+  selected_steps l s k is = record { is = ap (λ (x : Selecting Logged). located (Some (x.over (at l)))) (selector_opened Logged on_log (meanings t) (calling t h) h s) ∙ select_out l (out-Selector s) ∙ ap (λ (x : Selector-F Factor Selector Args Elem Expr Simple Term Variable). run (select_plan l x)) is }
 
-  fielded_goes_on : (m : Meaning) → GoesOn (spec.fielded Logged on_log (meanings_of t) (calling t h) h m)
+  fielded_goes_on : (m : Meaning) → GoesOn (spec.fielded Logged on_log (meanings t) (calling t h) h m)
   fielded_goes_on (Field k) a = from_place a (λ d p. pure (deeper p k)) (λ d. field_of d k)
   fielded_goes_on _ a = sym (then_pure (located (Some a)))
 
-  over_goes_on : (s : Selector-F Factor Selector Args Elem Expr Simple Term Variable) → GoesOn (selector_at Logged on_log (meanings_of t) (calling t h) h s).over
+  over_goes_on : (s : Selector-F Factor Selector Args Elem Expr Simple Term Variable) → GoesOn (selector_at Logged on_log (meanings t) (calling t h) h s).over
   unfolding expr
-  over_goes_on (Selector-F.Field x) = fielded_goes_on (meanings_of t x)
+  over_goes_on (Selector-F.Field x) = fielded_goes_on (meanings t x)
   over_goes_on (Selector-F.Index es) = indexed_goes_on (map (expr t h) es)
 
   selector_goes_on : (s : Selector) → GoesOn (selector t h s).over
   unfolding selector
-  selector_goes_on s = subst (λ (x : Selecting Logged). GoesOn x.over) (sym (selector_opened Logged on_log (meanings_of t) (calling t h) h s)) (over_goes_on (out-Selector s))
+  selector_goes_on s = subst (λ (x : Selecting Logged). GoesOn x.over) (sym (selector_opened Logged on_log (meanings t) (calling t h) h s)) (over_goes_on (out-Selector s))
 
-  pub selectors_then : (ss : List Selector) (a : Access Logged) → located (Some (spec.selected Logged on_log (meanings_of t) (calling t h) h (map (selector t h) ss) a)) ≡ (located (Some a) >>= λ l. chain (selected t h) l ss)
+  pub selectors_then : (ss : List Selector) (a : Access Logged) → located (Some (spec.selected Logged on_log (meanings t) (calling t h) h (map (selector t h) ss) a)) ≡ (located (Some a) >>= λ l. chain (selected t h) l ss)
   unfolding selected
   selectors_then [] a = sym (then_pure (located (Some a)))
   selectors_then (s ∷ ss) a =
@@ -151,20 +149,20 @@ module _ (t : Known) (h : Environment) where
   referred_steps (Ok p) d = refl
   referred_steps (Err f) d = refl
 
-  exported_steps : (k : ℕ) (m : Meaning) (ss : List Selector) → located (spec.exported Logged on_log (meanings_of t) (calling t h) h k m (map (selector t h) ss)) ≡ (exported h k m >>= λ l. chain (selected t h) l ss)
+  exported_steps : (k : ℕ) (m : Meaning) (ss : List Selector) → located (spec.exported Logged on_log (meanings t) (calling t h) h k m (map (selector t h) ss)) ≡ (exported h k m >>= λ l. chain (selected t h) l ss)
   exported_steps k (Exported n d) ss =
       selectors_then ss (record { denoter = d; place = child_step Logged on_log h.path k >>= λ p. pure (Of p n []) })
       ∙ ap (λ (p : Step Logged Located). p >>= λ l. chain (selected t h) l ss) (then_then (λ p. pure (Of p n [])) (λ q. pure (placed d q)) (child_step Logged on_log h.path k))
   exported_steps k _ ss = refl
 
-  behind_out : (k : ℕ) (s : Selector-F Factor Selector Args Elem Expr Simple Term Variable) (ss : List Selector) → located (spec.behind_dot Logged on_log (meanings_of t) (calling t h) h k (selector_at Logged on_log (meanings_of t) (calling t h) h s).name (map (selector t h) ss)) ≡ (of_child t h k s >>= λ l. chain (selected t h) l ss)
-  behind_out k (Selector-F.Field x) ss = exported_steps k (meanings_of t x) ss
+  behind_out : (k : ℕ) (s : Selector-F Factor Selector Args Elem Expr Simple Term Variable) (ss : List Selector) → located (spec.behind_dot Logged on_log (meanings t) (calling t h) h k (selector_at Logged on_log (meanings t) (calling t h) h s).name (map (selector t h) ss)) ≡ (of_child t h k s >>= λ l. chain (selected t h) l ss)
+  behind_out k (Selector-F.Field x) ss = exported_steps k (meanings t x) ss
   behind_out k (Selector-F.Index es) ss = refl
 
-  behind_steps : (k : ℕ) (ss : List Selector) → located (spec.behind_module Logged on_log (meanings_of t) (calling t h) h k (map (selector t h) ss)) ≡ (behind_module t h k ss >>= λ l. chain (selected t h) l (rest_of ss))
+  behind_steps : (k : ℕ) (ss : List Selector) → located (spec.behind_module Logged on_log (meanings t) (calling t h) h k (map (selector t h) ss)) ≡ (behind_module t h k ss >>= λ l. chain (selected t h) l (rest_of ss))
   unfolding selector
   behind_steps k [] = refl
-  behind_steps k (s ∷ ss) = ap (λ (x : Selecting Logged). located (spec.behind_dot Logged on_log (meanings_of t) (calling t h) h k x.name (map (selector t h) ss))) (selector_opened Logged on_log (meanings_of t) (calling t h) h s) ∙ behind_out k (out-Selector s) ss
+  behind_steps k (s ∷ ss) = ap (λ (x : Selecting Logged). located (spec.behind_dot Logged on_log (meanings t) (calling t h) h k x.name (map (selector t h) ss))) (selector_opened Logged on_log (meanings t) (calling t h) h s) ∙ behind_out k (out-Selector s) ss
 
   accessed_then : (m : Meaning) (ss : List Selector) → accessed t h m ss ≡ (begun t h m ss >>= λ l. chain (selected t h) l (behind_beginning m ss))
   unfolding accessed
@@ -186,20 +184,20 @@ module _ (t : Known) (h : Environment) where
   target_plan (Called r) ss = Check (result_of h r)
   target_plan m ss = Last (accessed t h m ss)
 
-  result_steps : (r : Routine) (o : Option Denoter) → located (spec.result_of Logged on_log (meanings_of t) (calling t h) h r o) ≡ checked (result_in h r o)
+  result_steps : (r : Routine) (o : Option Denoter) → located (spec.result_of Logged on_log (meanings t) (calling t h) h r o) ≡ checked (result_in h r o)
   result_steps r None = refl
   result_steps r (Some d) = refl
 
-  target_out : (m : Meaning) (ss : List Selector) → located (spec.assigned Logged on_log (meanings_of t) (calling t h) h m (map (selector t h) ss)) ≡ run (target_plan m ss)
+  target_out : (m : Meaning) (ss : List Selector) → located (spec.assigned Logged on_log (meanings t) (calling t h) h m (map (selector t h) ss)) ≡ run (target_plan m ss)
   unfolding accessed
   target_out (Called r) ss = result_steps r r.result
   target_out _ ss = refl
 
-  pub target_steps : (v : Variable) (m : Meaning) → meanings_of t (out-Variable v).name ≡ m → Is (target t h v) (target_plan m (out-Variable v).selectors)
+  pub target_steps : (v : Variable) (m : Meaning) → meanings t (out-Variable v).name ≡ m → Is (target t h v) (target_plan m (out-Variable v).selectors)
   unfolding target spec.target selector
-  target_steps v m is = record { is = ap (λ (w : Written Logged). located (spec.assigned Logged on_log (meanings_of t) (calling t h) h (meanings_of t w.name) w.selectors)) (variable_opened Logged on_log (meanings_of t) (calling t h) h v) ∙ target_out (meanings_of t (out-Variable v).name) (out-Variable v).selectors ∙ ap (λ (k : Meaning). run (target_plan k (out-Variable v).selectors)) is }
+  target_steps v m is = record { is = ap (λ (w : Written Logged). located (spec.assigned Logged on_log (meanings t) (calling t h) h (meanings t w.name) w.selectors)) (variable_opened Logged on_log (meanings t) (calling t h) h v) ∙ target_out (meanings t (out-Variable v).name) (out-Variable v).selectors ∙ ap (λ (k : Meaning). run (target_plan k (out-Variable v).selectors)) is }
 
   -- what is no routine's name
-  pub target_other : (v : Variable) (m : Meaning) → meanings_of t (out-Variable v).name ≡ m → ((r : Routine) → m ≡ Called r → ⊥) → Is (target t h v) (Last (accessed t h m (out-Variable v).selectors))
+  pub target_other : (v : Variable) (m : Meaning) → meanings t (out-Variable v).name ≡ m → ((r : Routine) → m ≡ Called r → ⊥) → Is (target t h v) (Last (accessed t h m (out-Variable v).selectors))
   target_other v (Called r) is no_call = absurd (no_call r refl)
   target_other v m is no_call = target_steps v m is

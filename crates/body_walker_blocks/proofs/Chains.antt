@@ -1,13 +1,13 @@
 -- A step for each item of a list, from left to right.
-use Rattle.std.proofs.Common.{◌≡◌, ◌∙◌, ℕ, suc, ◌+◌, ◌<◌, ◌≤◌, List, [], ◌∷◌, length, get_or, drop, refl, sym, ap, subst, add-one, Result, Ok, Err}
+use Rattle.std.proofs.Common.{◌≡◌, ◌∙◌, ℕ, suc, ◌+◌, ◌<◌, ◌≤◌, List, [], ◌∷◌, length, get_or, drop, refl, sym, ap, add-one, Ok, Err}
 use Rattle.std.proofs.Math.ListN.{drop_of_length-le}
 use Rattle.std.proofs.Math.Seq.{drop-cons}
 use Rattle.estelle_model.specs.States.{Logged}
 use Rattle.estelle_model.specs.Steps.{Running, Step, and_then, ◌>>=◌, pure}
-use Rattle.body_walker_state.specs.declared.stop.Stop.{Stop}
-use Rattle.body_walker_state.specs.Follows.{Follows}
+use Rattle.body_walker_values.specs.declared.stop.Stop.{Stop}
+use Rattle.body_walker_state.specs.Follows.{Leads}
 use Rattle.body_walker_blocks.proofs.Followed.{follows_outcome, follows_stops}
-use Rattle.body_walker_blocks.proofs.Plans.{Plan, Last, Runs}
+use Rattle.body_walker_blocks.proofs.Plans.{Last, Runs}
 
 abbrev pub chain : {A X : Type 0} → (A → X → Step Logged A) → A → List X → Step Logged A
 chain f a [] = pure a
@@ -28,7 +28,7 @@ module _ {A X : Type 0} {f : A → X → Step Logged A} {xs : List X} {i : ℕ} 
   }
 
   -- an item stops
-  pub left_stops : {x : X} {e : Stop} {t : Running Logged} {zs : List X} → Left f xs i a s a0 s0 → i < length xs → x ≡ get_or xs i x → xs ≡ zs → Follows (f a x) s (Err e) t → Runs (Last (chain f a0 zs)) s0 (Err e) t
+  pub left_stops : {x : X} {e : Stop} {t : Running Logged} {zs : List X} → Left f xs i a s a0 s0 → i < length xs → x ≡ get_or xs i x → xs ≡ zs → Leads (f a x) s (Err e) t → Runs (Last (chain f a0 zs)) s0 (Err e) t
   left_stops {x} {e} {t} {zs} before h at own stops = record {
     follows = follows_outcome (chain f a0 zs) s0 (Err e) t (f a x >>= λ b. chain f b (drop (suc i) xs)) s
         (ap (λ ys. chain f a0 ys s0) (sym own) ∙ sym before.same ∙ ap (λ ys. chain f a ys s) (next_item xs i x h at)) (follows_stops (f a x) (λ b. chain f b (drop (suc i) xs)) s t e stops);

@@ -2,8 +2,7 @@
 use Rattle.std.proofs.Common.{◌≡◌, ◌∙◌, ℕ, Bool, true, false, List, [], ◌∷◌, map, refl, sym, ap, Option, Some, None, ℤ, Result, Ok, Err, cond}
 use Rattle.std.specs.Prelude.{not}
 use Rattle.pascal_values.specs.declared.fault.Fault.{Fault}
-use Rattle.pascal_values.specs.declared.fault.Fault.TheVariants.{Unset}
-use Rattle.pascal_values.specs.declared.value.Value.{Value, out-Value}
+use Rattle.pascal_values.specs.declared.value.Value.{Value}
 use Rattle.pascal_values.specs.declared.value.Value.TheVariants as pascal
 use Rattle.pascal_values.specs.Sets.{union}
 use Rattle.estelle_tree.specs.declared.span.Span.{Span}
@@ -24,16 +23,16 @@ use Rattle.estelle_tree.specs.declared.tree.expression.Variable.{Variable, out-V
 use Rattle.estelle_tree.specs.declared.tree.expression.Factor.TheOpen.{Factor-F}
 use Rattle.estelle_model.specs.declared.denoter.Host.TheVariants as hosts
 use Rattle.estelle_model.specs.declared.place.Environment.{Environment}
-use Rattle.estelle_model.specs.Operators.{◌>>>◌, bool_of, plus, minus, times, divided, modulo, signed, negation, related, one_member, members_from}
+use Rattle.estelle_model.specs.Operators.{◌>>>◌, bool_of, plus, minus, times, divided, modulo, negation, related, one_member, members_from}
 use Rattle.estelle_model.specs.States.{Logged, on_log}
-use Rattle.estelle_model.specs.Steps.{Running, Outcome, Step, and_then, ◌>>=◌, pure, fail, checked_at, checked}
+use Rattle.estelle_model.specs.Steps.{Outcome, Step, and_then, ◌>>=◌, pure, checked_at, checked}
 use Rattle.estelle_model.specs.Expressions as spec
 use Rattle.estelle_model.specs.Expressions.{Operand, computed, both, bool_step, conjunction, disjunction, simple_of, term_of, set_step, member_step}
 use Rattle.estelle_model.proofs.ExpressionEquations.{factor_at, elem_at, expr_at, factor_opened, args_opened, elem_opened, expr_opened, simple_opened, term_opened, variable_opened}
-use Rattle.meaning_table.specs.Known.{Known, meanings_of}
-use Rattle.body_walker_blocks.specs.Operands.{decides_sum, decides_product, is_false, truth, sum, product, with_sign, with_members}
+use Rattle.body_walker_blocks.specs.Scopes.{Scoped, meanings}
+use Rattle.body_walker_blocks.specs.Operands.{decides_sum, decides_product, truth, sum, product, with_sign, with_members}
 use Rattle.body_walker_blocks.specs.Walked.{calling, expr, simple, term, factor, elem, selector, ordinal, added, multiplied, set_of, valued, designated}
-use Rattle.body_walker_blocks.proofs.Plans.{Plan, First, Given, Last, Check, Finish, Refuse, run, either, Is}
+use Rattle.body_walker_blocks.proofs.Plans.{Plan, First, Given, Last, Check, Finish, run, either, Is}
 use Rattle.body_walker_blocks.proofs.Chains.{chain}
 use Rattle.body_walker_blocks.proofs.Followed.{then_pure, then_then}
 
@@ -111,7 +110,7 @@ multiplied_is op v q = record { is = product_out op v q ∙ (λ i. checked (deci
 
 -- ---- one layer of a tree
 
-module _ (t : Known) (h : Environment) where
+module _ (t : Scoped) (h : Environment) where
   -- a simple expression, and another behind a relational operator
   abbrev pub compared : Option (Relation × Simple) → Value → Plan Value
   compared None v = Finish v
@@ -120,25 +119,25 @@ module _ (t : Known) (h : Environment) where
   abbrev pub expr_plan : Simple → Option (Relation × Simple) → Plan Value
   expr_plan left right = First (simple t h left).value (compared right)
 
-  expr_out : (left : Simple) (right : Option (Relation × Simple)) (span : Span) → (expr_at Logged on_log (meanings_of t) (calling t h) h (record { left = left; right = right; span = span })).value ≡ run (expr_plan left right)
+  expr_out : (left : Simple) (right : Option (Relation × Simple)) (span : Span) → (expr_at Logged on_log (meanings t) (calling t h) h (record { left = left; right = right; span = span })).value ≡ run (expr_plan left right)
   unfolding simple
   expr_out left None span = sym (then_pure (simple t h left).value)
   expr_out left (Some r) span = refl
 
   pub expr_steps : (x : Expr) (right : Option (Relation × Simple)) → (out-Expr x).right ≡ right → Is (expr t h x).value (expr_plan (out-Expr x).left right)
   unfolding expr
-  expr_steps x right is = record { is = ap (λ (e : Operand Logged). e.value) (expr_opened Logged on_log (meanings_of t) (calling t h) h x) ∙ expr_out (out-Expr x).left (out-Expr x).right (out-Expr x).span ∙ ap (λ (o : Option (Relation × Simple)). run (expr_plan (out-Expr x).left o)) is }
+  expr_steps x right is = record { is = ap (λ (e : Operand Logged). e.value) (expr_opened Logged on_log (meanings t) (calling t h) h x) ∙ expr_out (out-Expr x).left (out-Expr x).right (out-Expr x).span ∙ ap (λ (o : Option (Relation × Simple)). run (expr_plan (out-Expr x).left o)) is }
 
   -- ---- terms from left to right
 
-  with_sign_then : (sign : Option Sign) (e : Operand Logged) → (spec.with_sign Logged on_log (meanings_of t) (calling t h) h sign e).value ≡ (e.value >>= λ v. checked (with_sign sign v))
+  with_sign_then : (sign : Option Sign) (e : Operand Logged) → (spec.with_sign Logged on_log (meanings t) (calling t h) h sign e).value ≡ (e.value >>= λ v. checked (with_sign sign v))
   with_sign_then None e = sym (then_pure e.value)
   with_sign_then (Some sign) e = refl
 
   abbrev pub add_term : Value → Adding × Term → Step Logged Value
   add_term v o = added t h o.0 v o.1
 
-  terms_then : (e : Operand Logged) (os : List (Adding × Term)) → (simple_of Logged on_log (meanings_of t) (calling t h) h e (map (λ o. (o.0, term t h o.1)) os)).value ≡ (e.value >>= λ v. chain add_term v os)
+  terms_then : (e : Operand Logged) (os : List (Adding × Term)) → (simple_of Logged on_log (meanings t) (calling t h) h e (map (λ o. (o.0, term t h o.1)) os)).value ≡ (e.value >>= λ v. chain add_term v os)
   terms_then e [] = sym (then_pure e.value)
   terms_then e (o ∷ os) =
       let one : Operand Logged = computed (spec.added_host o.0) (spec.added o.0 e.value (term t h o.1).value) in
@@ -146,15 +145,15 @@ module _ (t : Known) (h : Environment) where
       ∙ ap (λ (p : Step Logged Value). p >>= λ v. chain add_term v os) (added_then o.0 e.value (term t h o.1).value)
       ∙ then_then (λ v. add_term v o) (λ v. chain add_term v os) e.value
 
-  simple_opens : (x : Simple) → simple t h x ≡ simple_of Logged on_log (meanings_of t) (calling t h) h (spec.with_sign Logged on_log (meanings_of t) (calling t h) h (out-Simple x).sign (term t h (out-Simple x).first)) (map (λ o. (o.0, term t h o.1)) (out-Simple x).others)
+  simple_opens : (x : Simple) → simple t h x ≡ simple_of Logged on_log (meanings t) (calling t h) h (spec.with_sign Logged on_log (meanings t) (calling t h) h (out-Simple x).sign (term t h (out-Simple x).first)) (map (λ o. (o.0, term t h o.1)) (out-Simple x).others)
   unfolding simple term
-  simple_opens x = simple_opened Logged on_log (meanings_of t) (calling t h) h x
+  simple_opens x = simple_opened Logged on_log (meanings t) (calling t h) h x
 
   pub simple_steps : (x : Simple) → Is (simple t h x).value (First (term t h (out-Simple x).first).value (λ v. Given (with_sign (out-Simple x).sign v) (λ w. Last (chain add_term w (out-Simple x).others))))
   simple_steps x = record {
     is =
         let first : Operand Logged = term t h (out-Simple x).first in
-        let begun : Operand Logged = spec.with_sign Logged on_log (meanings_of t) (calling t h) h (out-Simple x).sign first in
+        let begun : Operand Logged = spec.with_sign Logged on_log (meanings t) (calling t h) h (out-Simple x).sign first in
         ap (λ (e : Operand Logged). e.value) (simple_opens x)
         ∙ terms_then begun (out-Simple x).others
         ∙ ap (λ (p : Step Logged Value). p >>= λ w. chain add_term w (out-Simple x).others) (with_sign_then (out-Simple x).sign first)
@@ -166,7 +165,7 @@ module _ (t : Known) (h : Environment) where
   abbrev pub multiply_factor : Value → Multiplying × Factor → Step Logged Value
   multiply_factor v o = multiplied t h o.0 v o.1
 
-  factors_then : (e : Operand Logged) (os : List (Multiplying × Factor)) → (term_of Logged on_log (meanings_of t) (calling t h) h e (map (λ o. (o.0, factor t h o.1)) os)).value ≡ (e.value >>= λ v. chain multiply_factor v os)
+  factors_then : (e : Operand Logged) (os : List (Multiplying × Factor)) → (term_of Logged on_log (meanings t) (calling t h) h e (map (λ o. (o.0, factor t h o.1)) os)).value ≡ (e.value >>= λ v. chain multiply_factor v os)
   factors_then e [] = sym (then_pure e.value)
   factors_then e (o ∷ os) =
       let one : Operand Logged = computed (spec.multiplied_host o.0) (spec.multiplied o.0 e.value (factor t h o.1).value) in
@@ -174,9 +173,9 @@ module _ (t : Known) (h : Environment) where
       ∙ ap (λ (p : Step Logged Value). p >>= λ v. chain multiply_factor v os) (multiplied_then o.0 e.value (factor t h o.1).value)
       ∙ then_then (λ v. multiply_factor v o) (λ v. chain multiply_factor v os) e.value
 
-  term_opens : (x : Term) → term t h x ≡ term_of Logged on_log (meanings_of t) (calling t h) h (factor t h (out-Term x).first) (map (λ o. (o.0, factor t h o.1)) (out-Term x).others)
+  term_opens : (x : Term) → term t h x ≡ term_of Logged on_log (meanings t) (calling t h) h (factor t h (out-Term x).first) (map (λ o. (o.0, factor t h o.1)) (out-Term x).others)
   unfolding term factor
-  term_opens x = term_opened Logged on_log (meanings_of t) (calling t h) h x
+  term_opens x = term_opened Logged on_log (meanings t) (calling t h) h x
 
   pub term_steps : (x : Term) → Is (term t h x).value (First (factor t h (out-Term x).first).value (λ v. Last (chain multiply_factor v (out-Term x).others)))
   term_steps x = record { is = ap (λ (e : Operand Logged). e.value) (term_opens x) ∙ factors_then (factor t h (out-Term x).first) (out-Term x).others }
@@ -194,13 +193,13 @@ module _ (t : Known) (h : Environment) where
 
   pub factor_steps : (x : Factor) → factor t h x ≡ factor_as (out-Factor x)
   unfolding factor expr elem valued designated selector
-  factor_steps x = factor_opened Logged on_log (meanings_of t) (calling t h) h x ∙ by (out-Factor x)
+  factor_steps x = factor_opened Logged on_log (meanings t) (calling t h) h x ∙ by (out-Factor x)
     where
-      by : (l : Factor-F Factor Selector Args Elem Expr Simple Term Variable) → factor_at Logged on_log (meanings_of t) (calling t h) h l ≡ factor_as l
+      by : (l : Factor-F Factor Selector Args Elem Expr Simple Term Variable) → factor_at Logged on_log (meanings t) (calling t h) h l ≡ factor_as l
       by (Factor-F.Number n span) = refl
       by (Factor-F.Char n span) = refl
-      by (Factor-F.Variable v) = ap (λ (w : spec.Written Logged). spec.valued Logged on_log (meanings_of t) (calling t h) h (meanings_of t w.name) w.selectors) (variable_opened Logged on_log (meanings_of t) (calling t h) h v)
-      by (Factor-F.Call x es span) = ap (λ (fs : List (Operand Logged)). spec.designated Logged on_log (meanings_of t) (calling t h) h (meanings_of t x) fs) (args_opened Logged on_log (meanings_of t) (calling t h) h es)
+      by (Factor-F.Variable v) = ap (λ (w : spec.Written Logged). spec.valued Logged on_log (meanings t) (calling t h) h (meanings t w.name) w.selectors) (variable_opened Logged on_log (meanings t) (calling t h) h v)
+      by (Factor-F.Call x es span) = ap (λ (fs : List (Operand Logged)). spec.designated Logged on_log (meanings t) (calling t h) h (meanings t x) fs) (args_opened Logged on_log (meanings t) (calling t h) h es)
       by (Factor-F.Paren e span) = refl
       by (Factor-F.Not e span) = refl
       by (Factor-F.Set es span) = refl
@@ -255,11 +254,11 @@ module _ (t : Known) (h : Environment) where
   abbrev pub elem_plan : Expr → Option Expr → Plan (List ℕ)
   elem_plan first last = First (ordinal t h first) (members_to last)
 
-  elem_out : (first : Expr) (last : Option Expr) (span : Span) → elem_at Logged on_log (meanings_of t) (calling t h) h (record { first = first; last = last; span = span }) ≡ run (elem_plan first last)
+  elem_out : (first : Expr) (last : Option Expr) (span : Span) → elem_at Logged on_log (meanings t) (calling t h) h (record { first = first; last = last; span = span }) ≡ run (elem_plan first last)
   unfolding expr
   elem_out first None span = refl
   elem_out first (Some e) span = refl
 
   pub elem_steps : (x : Elem) (last : Option Expr) → (out-Elem x).last ≡ last → Is (elem t h x) (elem_plan (out-Elem x).first last)
   unfolding elem
-  elem_steps x last is = record { is = elem_opened Logged on_log (meanings_of t) (calling t h) h x ∙ elem_out (out-Elem x).first (out-Elem x).last (out-Elem x).span ∙ ap (λ (o : Option Expr). run (elem_plan (out-Elem x).first o)) is }
+  elem_steps x last is = record { is = elem_opened Logged on_log (meanings t) (calling t h) h x ∙ elem_out (out-Elem x).first (out-Elem x).last (out-Elem x).span ∙ ap (λ (o : Option Expr). run (elem_plan (out-Elem x).first o)) is }

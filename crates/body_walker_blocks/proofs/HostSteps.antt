@@ -1,6 +1,5 @@
 -- The hosts of types, which need no evaluation.
-use Rattle.std.proofs.Common.{◌≡◌, ◌∙◌, ℕ, zero, suc, ◌+◌, ◌-◌, ◌<◌, ◌≤◌, List, [], ◌∷◌, length, get_or, drop, map, refl, sym, ap, add-one, arith, Option, Some, None}
-use Rattle.std.proofs.Math.ListN.{drop_of_length-le}
+use Rattle.std.proofs.Common.{◌≡◌, ◌∙◌, ℕ, zero, suc, ◌+◌, ◌-◌, ◌<◌, ◌≤◌, List, [], ◌∷◌, length, get_or, map, refl, sym, ap, add-one, arith, Option, Some, None}
 use Rattle.pascal_values.specs.declared.value.Value.{Value}
 use Rattle.estelle_tree.specs.declared.span.Span.{Span}
 use Rattle.estelle_tree.specs.declared.tree.name.Name.{Name}
@@ -27,7 +26,6 @@ use Rattle.estelle_model.specs.declared.meaning.Routine.{Routine}
 use Rattle.estelle_model.specs.declared.place.Place.TheVariants.{Of, In}
 use Rattle.estelle_model.specs.declared.place.Environment.{Environment}
 use Rattle.std.specs.Prelude.{slice_get}
-use Rattle.estelle_model.specs.Meant.{Meanings}
 use Rattle.estelle_model.specs.Types.{item_of, host_of}
 use Rattle.estelle_model.specs.Operators.{required_host}
 use Rattle.estelle_model.specs.States.{Logged, on_log}
@@ -36,11 +34,10 @@ use Rattle.estelle_model.specs.Places.{child_step}
 use Rattle.estelle_model.specs.Expressions as spec
 use Rattle.estelle_model.specs.Expressions.{Operand, Access, Selecting, computed, simple_of, term_of, result_host, reference_at}
 use Rattle.estelle_model.proofs.ExpressionEquations.{expr_at, selector_at, expr_opened, simple_opened, term_opened, selector_opened}
-use Rattle.meaning_table.specs.Known.{Known, meanings_of}
-use Rattle.body_walker_blocks.specs.Accesses.{rest_of, behind_beginning}
-use Rattle.body_walker_blocks.specs.Hosts.{item_behind, field_type, component_at, component, components, of_exported, of_child, exported_type, begun_type, behind_type, accessed_type}
+use Rattle.body_walker_blocks.specs.Scopes.{Scoped, meanings}
+use Rattle.body_walker_blocks.specs.Accesses.{rest_of}
+use Rattle.body_walker_blocks.specs.Hosts.{item_behind, field_type, component_at, component, components, of_exported, of_child, exported_type, behind_type, accessed_type}
 use Rattle.body_walker_blocks.specs.Walked.{calling, expr, simple, term, factor, selector, valued, designated}
-use Rattle.body_walker_blocks.proofs.Chains.{next_item}
 use Rattle.body_walker_blocks.proofs.ExpressionSteps.{factor_as, factor_steps}
 use Rattle.body_walker_blocks.proofs.CallSteps.{only_one}
 
@@ -51,20 +48,6 @@ pub item_turn : (d r t : Denoter) (n i : ℕ) → i < n → r ≡ item_of d → 
 item_turn d r t n i below is before =
     let left : n - i ≡ (n - (i + 1)) + 1 = omega (arith, below) in
     ap (λ (k : Denoter). item_behind k (n - (i + 1))) is ∙ sym (ap (λ (m : ℕ). item_behind d m) (left ∙ add-one (n - (i + 1)))) ∙ before
-
-module _ (meant : Meanings) where
-  -- one selector more
-  pub component_turn : (d r : Denoter) (ss : List Selector) (i : ℕ) (s : Selector) {t : Denoter} → i < length ss → s ≡ get_or ss i s → r ≡ component meant d s → components meant d (drop i ss) ≡ t → components meant r (drop (i + 1) ss) ≡ t
-  component_turn d r ss i s {t} below at is before =
-      rw add-one (ap (λ (k : Denoter). components meant k (drop (suc i) ss)) is ∙ sym (ap (λ (xs : List Selector). components meant d xs) (next_item ss i s below at)) ∙ before)
-
-  -- no selector is left
-  pub component_ends : (d : Denoter) (ss : List Selector) (i : ℕ) {t : Denoter} → length ss ≤ i → components meant d (drop i ss) ≡ t → d ≡ t
-  component_ends d ss i {t} none before = sym (ap (λ (xs : List Selector). components meant d xs) (drop_of_length-le ss none)) ∙ before
-
-  pub access_typed : (m : Meaning) (ss rest : List Selector) (d t : Denoter) → Some d ≡ begun_type meant m ss → rest ≡ behind_beginning m ss → t ≡ components meant d rest → Some t ≡ accessed_type meant m ss
-  access_typed m ss rest d t begun behind is =
-      ap (λ (k : Denoter). Some k) (is ∙ ap (λ (xs : List Selector). components meant d xs) behind) ∙ ap (λ (o : Option Denoter). behind_type meant o (behind_beginning m ss)) begun
 
 -- ---- the last item of a list
 
@@ -94,14 +77,14 @@ no_items : {A : Type 0} (xs : List A) → length xs < 1 → xs ≡ []
 no_items [] few = refl
 no_items (x ∷ xs) few = absurd (omega (arith, few))
 
-module _ (t : Known) (h : Environment) where
+module _ (t : Scoped) (h : Environment) where
   -- ---- expressions
 
   abbrev pub expr_host : Simple → Option (Relation × Simple) → Host
   expr_host left None = (simple t h left).host
   expr_host left (Some r) = hosts.Boolean
 
-  expr_out : (left : Simple) (right : Option (Relation × Simple)) (span : Span) → (expr_at Logged on_log (meanings_of t) (calling t h) h (record { left = left; right = right; span = span })).host ≡ expr_host left right
+  expr_out : (left : Simple) (right : Option (Relation × Simple)) (span : Span) → (expr_at Logged on_log (meanings t) (calling t h) h (record { left = left; right = right; span = span })).host ≡ expr_host left right
   unfolding simple
   expr_out left None span = refl
   expr_out left (Some r) span = refl
@@ -109,7 +92,7 @@ module _ (t : Known) (h : Environment) where
   pub host_of_expr : (x : Expr) (right : Option (Relation × Simple)) → (out-Expr x).right ≡ right → (expr t h x).host ≡ expr_host (out-Expr x).left right
   unfolding expr
   host_of_expr x right is =
-      ap (λ (e : Operand Logged). e.host) (expr_opened Logged on_log (meanings_of t) (calling t h) h x)
+      ap (λ (e : Operand Logged). e.host) (expr_opened Logged on_log (meanings t) (calling t h) h x)
       ∙ expr_out (out-Expr x).left (out-Expr x).right (out-Expr x).span
       ∙ ap (λ (o : Option (Relation × Simple)). expr_host (out-Expr x).left o) is
 
@@ -119,19 +102,19 @@ module _ (t : Known) (h : Environment) where
   signed_host None k = k
   signed_host (Some sign) k = hosts.Integer
 
-  sign_out : (sign : Option Sign) (e : Operand Logged) → (spec.with_sign Logged on_log (meanings_of t) (calling t h) h sign e).host ≡ signed_host sign e.host
+  sign_out : (sign : Option Sign) (e : Operand Logged) → (spec.with_sign Logged on_log (meanings t) (calling t h) h sign e).host ≡ signed_host sign e.host
   sign_out None e = refl
   sign_out (Some sign) e = refl
 
-  sums : (e : Operand Logged) (os : List (Adding × Term)) → (simple_of Logged on_log (meanings_of t) (calling t h) h e (map (λ o. (o.0, term t h o.1)) os)).host ≡ sum_host e.host os
+  sums : (e : Operand Logged) (os : List (Adding × Term)) → (simple_of Logged on_log (meanings t) (calling t h) h e (map (λ o. (o.0, term t h o.1)) os)).host ≡ sum_host e.host os
   sums e [] = refl
   sums e (o ∷ os) = sums (computed (spec.added_host o.0) (spec.added o.0 e.value (term t h o.1).value)) os
 
   simple_out : (x : Simple) → (simple t h x).host ≡ sum_host (signed_host (out-Simple x).sign (term t h (out-Simple x).first).host) (out-Simple x).others
   unfolding simple term
   simple_out x =
-      ap (λ (e : Operand Logged). e.host) (simple_opened Logged on_log (meanings_of t) (calling t h) h x)
-      ∙ sums (spec.with_sign Logged on_log (meanings_of t) (calling t h) h (out-Simple x).sign (term t h (out-Simple x).first)) (out-Simple x).others
+      ap (λ (e : Operand Logged). e.host) (simple_opened Logged on_log (meanings t) (calling t h) h x)
+      ∙ sums (spec.with_sign Logged on_log (meanings t) (calling t h) h (out-Simple x).sign (term t h (out-Simple x).first)) (out-Simple x).others
       ∙ ap (λ (k : Host). sum_host k (out-Simple x).others) (sign_out (out-Simple x).sign (term t h (out-Simple x).first))
 
   pub host_of_simple : (x : Simple) (os : List (Adding × Term)) (sign : Option Sign) → os ≡ (out-Simple x).others → length os < 1 → (out-Simple x).sign ≡ sign → (simple t h x).host ≡ signed_host sign (term t h (out-Simple x).first).host
@@ -148,13 +131,13 @@ module _ (t : Known) (h : Environment) where
 
   -- ---- terms
 
-  products : (e : Operand Logged) (os : List (Multiplying × Factor)) → (term_of Logged on_log (meanings_of t) (calling t h) h e (map (λ o. (o.0, factor t h o.1)) os)).host ≡ product_host e.host os
+  products : (e : Operand Logged) (os : List (Multiplying × Factor)) → (term_of Logged on_log (meanings t) (calling t h) h e (map (λ o. (o.0, factor t h o.1)) os)).host ≡ product_host e.host os
   products e [] = refl
   products e (o ∷ os) = products (computed (spec.multiplied_host o.0) (spec.multiplied o.0 e.value (factor t h o.1).value)) os
 
   term_out : (x : Term) → (term t h x).host ≡ product_host (factor t h (out-Term x).first).host (out-Term x).others
   unfolding term factor
-  term_out x = ap (λ (e : Operand Logged). e.host) (term_opened Logged on_log (meanings_of t) (calling t h) h x) ∙ products (factor t h (out-Term x).first) (out-Term x).others
+  term_out x = ap (λ (e : Operand Logged). e.host) (term_opened Logged on_log (meanings t) (calling t h) h x) ∙ products (factor t h (out-Term x).first) (out-Term x).others
 
   pub host_of_term : (x : Term) (os : List (Multiplying × Factor)) → os ≡ (out-Term x).others → length os < 1 → (term t h x).host ≡ (factor t h (out-Term x).first).host
   host_of_term x os own few = term_out x ∙ ap (λ (ps : List (Multiplying × Factor)). product_host (factor t h (out-Term x).first).host ps) (sym own ∙ no_items os few)
@@ -177,18 +160,18 @@ module _ (t : Known) (h : Environment) where
   call_host (RequiredFunction f) (e ∷ []) = required_host f (expr t h e).host
   call_host _ es = hosts.Integer
 
-  call_out : (m : Meaning) (es : List Expr) → (spec.designated Logged on_log (meanings_of t) (calling t h) h m (map (expr t h) es)).host ≡ call_host m es
+  call_out : (m : Meaning) (es : List Expr) → (spec.designated Logged on_log (meanings t) (calling t h) h m (map (expr t h) es)).host ≡ call_host m es
   call_out (Called r) es = refl
   call_out (RequiredFunction f) [] = refl
   call_out (RequiredFunction f) (e ∷ []) = refl
   call_out (RequiredFunction f) (e ∷ (d ∷ es)) = refl
   call_out _ es = refl
 
-  pub host_of_call : (x : Name) (es : List Expr) (m : Meaning) → meanings_of t x ≡ m → (designated t h x es).host ≡ call_host m es
+  pub host_of_call : (x : Name) (es : List Expr) (m : Meaning) → meanings t x ≡ m → (designated t h x es).host ≡ call_host m es
   unfolding designated
-  host_of_call x es m is = call_out (meanings_of t x) es ∙ ap (λ (k : Meaning). call_host k es) is
+  host_of_call x es m is = call_out (meanings t x) es ∙ ap (λ (k : Meaning). call_host k es) is
 
-  pub host_of_required : (x : Name) (es : List Expr) (f : Required) (e : Expr) → meanings_of t x ≡ RequiredFunction f → 1 ≤ length es → length es < 2 → e ≡ get_or es 0 e → (designated t h x es).host ≡ required_host f (expr t h e).host
+  pub host_of_required : (x : Name) (es : List Expr) (f : Required) (e : Expr) → meanings t x ≡ RequiredFunction f → 1 ≤ length es → length es < 2 → e ≡ get_or es 0 e → (designated t h x es).host ≡ required_host f (expr t h e).host
   host_of_required x es f e is some few at = host_of_call x es (RequiredFunction f) is ∙ ap (λ (ds : List Expr). call_host (RequiredFunction f) ds) (only_one t h es e some few at)
 
   wrong_host : (f : Required) (es : List Expr) → (length es ≡ 1 → ⊥) → call_host (RequiredFunction f) es ≡ hosts.Integer
@@ -196,11 +179,11 @@ module _ (t : Known) (h : Environment) where
   wrong_host f (e ∷ []) other = absurd (other refl)
   wrong_host f (e ∷ (d ∷ es)) other = refl
 
-  pub host_of_wrong : (x : Name) (es : List Expr) (f : Required) → meanings_of t x ≡ RequiredFunction f → (length es ≡ 1 → ⊥) → (designated t h x es).host ≡ hosts.Integer
+  pub host_of_wrong : (x : Name) (es : List Expr) (f : Required) → meanings t x ≡ RequiredFunction f → (length es ≡ 1 → ⊥) → (designated t h x es).host ≡ hosts.Integer
   host_of_wrong x es f is other = host_of_call x es (RequiredFunction f) is ∙ wrong_host f es other
 
   -- a name that is no function's
-  pub host_of_other : (x : Name) (es : List Expr) (m : Meaning) → meanings_of t x ≡ m → ((r : Routine) → m ≡ Called r → ⊥) → ((f : Required) → m ≡ RequiredFunction f → ⊥) → (designated t h x es).host ≡ hosts.Integer
+  pub host_of_other : (x : Name) (es : List Expr) (m : Meaning) → meanings t x ≡ m → ((r : Routine) → m ≡ Called r → ⊥) → ((f : Required) → m ≡ RequiredFunction f → ⊥) → (designated t h x es).host ≡ hosts.Integer
   host_of_other x es (Called r) is no_call no_function = absurd (no_call r refl)
   host_of_other x es (RequiredFunction f) is no_call no_function = absurd (no_function f refl)
   host_of_other x es m is no_call no_function = host_of_call x es m is
@@ -215,41 +198,41 @@ module _ (t : Known) (h : Environment) where
   host_at None = hosts.Integer
   host_at (Some d) = host_of d
 
-  indexed_type : (es : List Expr) (a : Access Logged) → (spec.indexed Logged on_log (meanings_of t) (calling t h) h (map (expr t h) es) a).denoter ≡ item_behind a.denoter (length es)
+  indexed_type : (es : List Expr) (a : Access Logged) → (spec.indexed Logged on_log (meanings t) (calling t h) h (map (expr t h) es) a).denoter ≡ item_behind a.denoter (length es)
   indexed_type [] a = refl
-  indexed_type (e ∷ es) a = indexed_type es (record { denoter = item_of a.denoter; place = spec.index_step Logged on_log (meanings_of t) (calling t h) h a (expr t h e) })
+  indexed_type (e ∷ es) a = indexed_type es (record { denoter = item_of a.denoter; place = spec.index_step Logged on_log (meanings t) (calling t h) h a (expr t h e) })
 
-  fielded_type : (m : Meaning) (a : Access Logged) → (spec.fielded Logged on_log (meanings_of t) (calling t h) h m a).denoter ≡ field_type m a.denoter
+  fielded_type : (m : Meaning) (a : Access Logged) → (spec.fielded Logged on_log (meanings t) (calling t h) h m a).denoter ≡ field_type m a.denoter
   fielded_type (Field k) a = refl
   fielded_type _ a = refl
 
-  over_type : (s : Selector-F Factor Selector Args Elem Expr Simple Term Variable) (a : Access Logged) → ((selector_at Logged on_log (meanings_of t) (calling t h) h s).over a).denoter ≡ component_at (meanings_of t) a.denoter s
+  over_type : (s : Selector-F Factor Selector Args Elem Expr Simple Term Variable) (a : Access Logged) → ((selector_at Logged on_log (meanings t) (calling t h) h s).over a).denoter ≡ component_at (meanings t) a.denoter s
   unfolding expr
   over_type (Selector-F.Index es) a = indexed_type es a
-  over_type (Selector-F.Field x) a = fielded_type (meanings_of t x) a
+  over_type (Selector-F.Field x) a = fielded_type (meanings t x) a
 
-  selector_type : (s : Selector) (a : Access Logged) → ((selector t h s).over a).denoter ≡ component (meanings_of t) a.denoter s
+  selector_type : (s : Selector) (a : Access Logged) → ((selector t h s).over a).denoter ≡ component (meanings t) a.denoter s
   unfolding selector
-  selector_type s a = ap (λ (x : Selecting Logged). (x.over a).denoter) (selector_opened Logged on_log (meanings_of t) (calling t h) h s) ∙ over_type (out-Selector s) a
+  selector_type s a = ap (λ (x : Selecting Logged). (x.over a).denoter) (selector_opened Logged on_log (meanings t) (calling t h) h s) ∙ over_type (out-Selector s) a
 
-  selected_type : (ss : List Selector) (a : Access Logged) → (spec.selected Logged on_log (meanings_of t) (calling t h) h (map (selector t h) ss) a).denoter ≡ components (meanings_of t) a.denoter ss
+  selected_type : (ss : List Selector) (a : Access Logged) → (spec.selected Logged on_log (meanings t) (calling t h) h (map (selector t h) ss) a).denoter ≡ components (meanings t) a.denoter ss
   selected_type [] a = refl
-  selected_type (s ∷ ss) a = selected_type ss ((selector t h s).over a) ∙ ap (λ (d : Denoter). components (meanings_of t) d ss) (selector_type s a)
+  selected_type (s ∷ ss) a = selected_type ss ((selector t h s).over a) ∙ ap (λ (d : Denoter). components (meanings t) d ss) (selector_type s a)
 
-  child_type : (k : ℕ) (m : Meaning) (ss : List Selector) → denoter_of (spec.exported Logged on_log (meanings_of t) (calling t h) h k m (map (selector t h) ss)) ≡ behind_type (meanings_of t) (of_exported m) ss
+  child_type : (k : ℕ) (m : Meaning) (ss : List Selector) → denoter_of (spec.exported Logged on_log (meanings t) (calling t h) h k m (map (selector t h) ss)) ≡ behind_type (meanings t) (of_exported m) ss
   child_type k (Exported n d) ss = ap (λ (r : Denoter). Some r) (selected_type ss (record { denoter = d; place = child_step Logged on_log h.path k >>= λ p. pure (Of p n []) }))
   child_type k _ ss = refl
 
-  dot_type : (k : ℕ) (s : Selector-F Factor Selector Args Elem Expr Simple Term Variable) (ss : List Selector) → denoter_of (spec.behind_dot Logged on_log (meanings_of t) (calling t h) h k (selector_at Logged on_log (meanings_of t) (calling t h) h s).name (map (selector t h) ss)) ≡ behind_type (meanings_of t) (of_child (meanings_of t) s) ss
-  dot_type k (Selector-F.Field x) ss = child_type k (meanings_of t x) ss
+  dot_type : (k : ℕ) (s : Selector-F Factor Selector Args Elem Expr Simple Term Variable) (ss : List Selector) → denoter_of (spec.behind_dot Logged on_log (meanings t) (calling t h) h k (selector_at Logged on_log (meanings t) (calling t h) h s).name (map (selector t h) ss)) ≡ behind_type (meanings t) (of_child (meanings t) s) ss
+  dot_type k (Selector-F.Field x) ss = child_type k (meanings t x) ss
   dot_type k (Selector-F.Index es) ss = refl
 
-  module_type : (k : ℕ) (ss : List Selector) → denoter_of (spec.behind_module Logged on_log (meanings_of t) (calling t h) h k (map (selector t h) ss)) ≡ behind_type (meanings_of t) (exported_type (meanings_of t) ss) (rest_of ss)
+  module_type : (k : ℕ) (ss : List Selector) → denoter_of (spec.behind_module Logged on_log (meanings t) (calling t h) h k (map (selector t h) ss)) ≡ behind_type (meanings t) (exported_type (meanings t) ss) (rest_of ss)
   unfolding selector
   module_type k [] = refl
-  module_type k (s ∷ ss) = ap (λ (x : Selecting Logged). denoter_of (spec.behind_dot Logged on_log (meanings_of t) (calling t h) h k x.name (map (selector t h) ss))) (selector_opened Logged on_log (meanings_of t) (calling t h) h s) ∙ dot_type k (out-Selector s) ss
+  module_type k (s ∷ ss) = ap (λ (x : Selecting Logged). denoter_of (spec.behind_dot Logged on_log (meanings t) (calling t h) h k x.name (map (selector t h) ss))) (selector_opened Logged on_log (meanings t) (calling t h) h s) ∙ dot_type k (out-Selector s) ss
 
-  type_of_access : (m : Meaning) (ss : List Selector) → denoter_of (spec.accessed Logged on_log (meanings_of t) (calling t h) h m (map (selector t h) ss)) ≡ accessed_type (meanings_of t) m ss
+  type_of_access : (m : Meaning) (ss : List Selector) → denoter_of (spec.accessed Logged on_log (meanings t) (calling t h) h m (map (selector t h) ss)) ≡ accessed_type (meanings t) m ss
   type_of_access (Own k d) ss = ap (λ (r : Denoter). Some r) (selected_type ss (record { denoter = d; place = pure (Of h.path k []) }))
   type_of_access (Exported k d) ss = ap (λ (r : Denoter). Some r) (selected_type ss (record { denoter = d; place = pure (Of h.path k []) }))
   type_of_access (Local k d) ss = ap (λ (r : Denoter). Some r) (selected_type ss (record { denoter = d; place = pure (In h.frame k []) }))
@@ -257,26 +240,26 @@ module _ (t : Known) (h : Environment) where
   type_of_access (Module k) ss = module_type k ss
   type_of_access _ ss = refl
 
-  access_host : (o : Option (Access Logged)) → (spec.of_access Logged on_log (meanings_of t) (calling t h) h o).host ≡ host_at (denoter_of o)
+  access_host : (o : Option (Access Logged)) → (spec.of_access Logged on_log (meanings t) (calling t h) h o).host ≡ host_at (denoter_of o)
   access_host None = refl
   access_host (Some a) = refl
 
   abbrev pub named_host : Meaning → List Selector → Host
   named_host (Constant v k) ss = k
   named_host (Called r) ss = result_host r.result
-  named_host m ss = host_at (accessed_type (meanings_of t) m ss)
+  named_host m ss = host_at (accessed_type (meanings t) m ss)
 
-  named_out : (m : Meaning) (ss : List Selector) → (spec.valued Logged on_log (meanings_of t) (calling t h) h m (map (selector t h) ss)).host ≡ named_host m ss
+  named_out : (m : Meaning) (ss : List Selector) → (spec.valued Logged on_log (meanings t) (calling t h) h m (map (selector t h) ss)).host ≡ named_host m ss
   named_out (Constant v k) ss = refl
   named_out (Called r) ss = refl
-  named_out m ss = access_host (spec.accessed Logged on_log (meanings_of t) (calling t h) h m (map (selector t h) ss)) ∙ ap host_at (type_of_access m ss)
+  named_out m ss = access_host (spec.accessed Logged on_log (meanings t) (calling t h) h m (map (selector t h) ss)) ∙ ap host_at (type_of_access m ss)
 
-  pub host_of_name : (x : Name) (ss : List Selector) (m : Meaning) → meanings_of t x ≡ m → (valued t h x ss).host ≡ named_host m ss
+  pub host_of_name : (x : Name) (ss : List Selector) (m : Meaning) → meanings t x ≡ m → (valued t h x ss).host ≡ named_host m ss
   unfolding valued
-  host_of_name x ss m is = named_out (meanings_of t x) ss ∙ ap (λ (k : Meaning). named_host k ss) is
+  host_of_name x ss m is = named_out (meanings t x) ss ∙ ap (λ (k : Meaning). named_host k ss) is
 
   -- a name that is neither a constant nor a routine's
-  pub host_of_access : (x : Name) (ss : List Selector) (m : Meaning) (o : Option Denoter) → meanings_of t x ≡ m → ((v : Value) (k : Host) → m ≡ Constant v k → ⊥) → ((r : Routine) → m ≡ Called r → ⊥) → o ≡ accessed_type (meanings_of t) m ss → (valued t h x ss).host ≡ host_at o
+  pub host_of_access : (x : Name) (ss : List Selector) (m : Meaning) (o : Option Denoter) → meanings t x ≡ m → ((v : Value) (k : Host) → m ≡ Constant v k → ⊥) → ((r : Routine) → m ≡ Called r → ⊥) → o ≡ accessed_type (meanings t) m ss → (valued t h x ss).host ≡ host_at o
   host_of_access x ss (Constant v k) o is no_constant no_call typed = absurd (no_constant v k refl)
   host_of_access x ss (Called r) o is no_constant no_call typed = absurd (no_call r refl)
   host_of_access x ss m o is no_constant no_call typed = host_of_name x ss m is ∙ ap host_at (sym typed)

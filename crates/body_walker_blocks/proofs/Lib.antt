@@ -11,4 +11,6 @@ pub mod CallSteps
 pub mod HostSteps
 pub mod LoopSteps
 pub mod StatementSteps
+pub mod ActionSteps
+pub mod InitSteps
 pub mod BlockSteps

@@ -1,11 +1,9 @@
 -- Loops turn by turn: each turn takes a unit.
-use Rattle.std.proofs.Common.{◌≡◌, ◌∙◌, ℕ, zero, suc, ◌+◌, ◌-◌, ◌<◌, ◌≤◌, Bool, true, false, refl, sym, ap, subst, add-one, arith, Option, Some, None, ℤ, pos, negsuc, ◌+ℤ◌, ◌-ℤ◌, Result, Ok, Err, cond}
+use Rattle.std.proofs.Common.{◌≡◌, ◌∙◌, ℕ, suc, ◌+◌, ◌-◌, ◌<◌, ◌≤◌, Bool, true, false, refl, sym, ap, subst, add-one, arith, Option, Some, None, ℤ, ◌-ℤ◌, Result, Ok, Err, cond}
 use Rattle.std.specs.Prelude.{nat_lt, nat_abs}
-use Rattle.std.specs.Int.RustNames.{int_le}
 use Rattle.std.proofs.lemmas.Bool.Decides.{nat_tests}
 use Rattle.std.proofs.lemmas.Int.{ints}
-use Rattle.pascal_values.specs.declared.fault.Fault.TheVariants.{Unset, StepLimit}
-use Rattle.pascal_values.specs.declared.value.Value.{Value}
+use Rattle.pascal_values.specs.declared.fault.Fault.TheVariants.{StepLimit}
 use Rattle.pascal_values.specs.declared.value.Value.TheVariants as pascal
 use Rattle.estelle_tree.specs.declared.tree.expression.Expr.{Expr}
 use Rattle.estelle_tree.specs.declared.tree.statement.Direction.{Direction}
@@ -16,23 +14,23 @@ use Rattle.estelle_model.specs.declared.denoter.Denoter.{Denoter}
 use Rattle.estelle_model.specs.declared.place.Place.{Place}
 use Rattle.estelle_model.specs.declared.place.Environment.{Environment}
 use Rattle.estelle_model.specs.States.{Logged, on_log}
-use Rattle.estelle_model.specs.Steps.{Running, Outcome, Step, Do, and_then, ◌>>=◌, ◌>>◌, pure, fail, spend}
-use Rattle.estelle_model.specs.Types.{ordinal_of}
+use Rattle.estelle_model.specs.Steps.{Running, Outcome, Step, Do, and_then, ◌>>=◌, ◌>>◌, pure, spend}
 use Rattle.estelle_model.specs.Operators.{bool_of}
-use Rattle.estelle_model.specs.Expressions.{bool_step, ordinal_step}
 use Rattle.estelle_model.specs.Calls.{max_depth}
 use Rattle.estelle_model.specs.Places.{store_ordinal, put}
 use Rattle.estelle_model.specs.Loops as loops
 use Rattle.estelle_model.specs.Loops.{next_of, comes_to, turns_of, count_turns}
 use Rattle.estelle_model.proofs.LoopLaws.{AtMost, NeverRaises, while_unrolls, repeat_unrolls}
-use Rattle.estelle_model.proofs.Units.{CallNever, pure_never, fail_never, of_value_never, store_ordinal_never}
+use Rattle.estelle_model.proofs.Units.{CallNever, pure_never, of_value_never, store_ordinal_never}
 use Rattle.estelle_model.proofs.UnitsOfExpressions.{expr_never}
 use Rattle.estelle_model.proofs.UnitsOfBlocks as units
-use Rattle.body_walker_state.specs.declared.stop.Stop.{Stop}
-use Rattle.body_walker_state.specs.Follows.{Follows}
-use Rattle.meaning_table.specs.Known.{Known, meanings_of}
+use Rattle.estelle_model.proofs.UnitsOfBlocks.{EntersNever}
+use Rattle.estelle_model.proofs.UnitsOfActions.{act_never}
+use Rattle.body_walker_values.specs.declared.stop.Stop.{Stop}
+use Rattle.body_walker_state.specs.Follows.{Leads}
+use Rattle.body_walker_blocks.specs.Scopes.{Scoped, meanings}
 use Rattle.body_walker_blocks.specs.Turns.{beginning, following}
-use Rattle.body_walker_blocks.specs.Walked.{no_action, no_actions, calling, expr, condition, ordinal, stmt, stmts, while_loop, repeat_loop, count_loop}
+use Rattle.body_walker_blocks.specs.Walked.{actions, acting, entering, calling, expr, condition, stmt, stmts, while_loop, repeat_loop, count_loop}
 use Rattle.body_walker_blocks.proofs.Followed.{follows_outcome, follows_then, follows_stops}
 use Rattle.body_walker_blocks.proofs.Plans.{Last, Runs, Is}
 
@@ -55,22 +53,26 @@ spend_takes s u does = by (nat_lt 0 s.left) refl does
 pub keeps_units : {A : Type 0} (p : Step Logged A) → NeverRaises p → (s u : Running Logged) (a : A) → p s ≡ Ok (a, u) → u.left ≤ s.left
 keeps_units {A} p never s u a does = subst (λ (o : Outcome Logged A). AtMost s.left o) does (never s)
 
-module _ (t : Known) (h : Environment) where
+module _ (t : Scoped) (h : Environment) where
+  enters_never : EntersNever Logged (entering t h)
+  unfolding entering
+  enters_never before never p r g = units.nested_never Logged on_log (meanings t) (actions t) (act_never Logged on_log t.subject (meanings t)) (max_depth - h.frame) before never p r g
+
   calls_never : CallNever Logged (calling t h)
   unfolding calling
-  calls_never r g = units.nested_never Logged on_log (meanings_of t) no_actions (λ enters never here a given. fail_never Logged (Unit {0}) Unset) (max_depth - h.frame) (pure tt) (pure_never Logged (Unit {0}) tt) h.path r g
+  calls_never r g = enters_never (pure tt) (pure_never Logged (Unit {0}) tt) h.path r g
 
   pub condition_never : (e : Expr) → NeverRaises (condition t h e)
   unfolding expr
-  condition_never e = of_value_never Logged Bool (λ v. bool_of v) (expr t h e).value (expr_never Logged on_log (meanings_of t) (calling t h) calls_never h e).value
+  condition_never e = of_value_never Logged Bool (λ v. bool_of v) (expr t h e).value (expr_never Logged on_log (meanings t) (calling t h) calls_never h e).value
 
   pub stmt_never : (x : Stmt) → NeverRaises (stmt t h x)
   unfolding stmt
-  stmt_never x = units.stmt_never Logged on_log (meanings_of t) no_action (λ here a given. fail_never Logged (Unit {0}) Unset) (calling t h) calls_never h x
+  stmt_never x = units.stmt_never Logged on_log (meanings t) (acting t h) (act_never Logged on_log t.subject (meanings t) (entering t h) enters_never) (calling t h) calls_never h x
 
   pub stmts_never : (x : Stmts) → NeverRaises (stmts t h x)
   unfolding stmts
-  stmts_never x = units.stmts_never Logged on_log (meanings_of t) no_action (λ here a given. fail_never Logged (Unit {0}) Unset) (calling t h) calls_never h x
+  stmts_never x = units.stmts_never Logged on_log (meanings t) (acting t h) (act_never Logged on_log t.subject (meanings t) (entering t h) enters_never) (calling t h) calls_never h x
 
 -- what is left of a loop does what the whole of it does
 pub record StillDoes (loop : Do Logged) (s s0 : Running Logged) : Type 0 where
@@ -81,7 +83,7 @@ loop_begins = record { same = refl }
 
 -- ---- `while`
 
-module _ (t : Known) (h : Environment) (e : Expr) (x : Stmt) where
+module _ (t : Scoped) (h : Environment) (e : Expr) (x : Stmt) where
   abbrev test : Step Logged Bool
   test = condition t h e
 
@@ -111,16 +113,16 @@ module _ (t : Known) (h : Environment) (e : Expr) (x : Stmt) where
   pub while_ends : {s s0 u : Running Logged} → StillDoes whole s s0 → test s ≡ Ok (false, u) → whole s0 ≡ Ok (tt, u)
   while_ends {s} {s0} {u} before tests = unrolled before ∙ ap (λ q. and_then q rest_of) tests
 
-  pub while_test_stops : {s s0 u : Running Logged} {f : Stop} → StillDoes whole s s0 → Follows test s (Err f) u → Runs (Last whole) s0 (Err f) u
+  pub while_test_stops : {s s0 u : Running Logged} {f : Stop} → StillDoes whole s s0 → Leads test s (Err f) u → Runs (Last whole) s0 (Err f) u
   while_test_stops {s} {s0} {u} {f} before stops = record { follows = follows_outcome whole s0 (Err f) u (test >>= rest_of) s (unrolled before) (follows_stops test rest_of s u f stops) }
 
-  pub while_spend_stops : {s s0 u v : Running Logged} {f : Stop} → StillDoes whole s s0 → test s ≡ Ok (true, u) → Follows spend u (Err f) v → Runs (Last whole) s0 (Err f) v
+  pub while_spend_stops : {s s0 u v : Running Logged} {f : Stop} → StillDoes whole s s0 → test s ≡ Ok (true, u) → Leads spend u (Err f) v → Runs (Last whole) s0 (Err f) v
   while_spend_stops {s} {s0} {u} {v} {f} before tests stops = record {
     follows = follows_outcome whole s0 (Err f) v (test >>= rest_of) s (unrolled before)
         (follows_then test rest_of s u v true (Err f) tests (follows_stops (spend >> body) (λ x. whole) u v f (follows_stops spend (λ x. body) u v f stops)));
   }
 
-  pub while_body_stops : {s s0 u v w : Running Logged} {f : Stop} → StillDoes whole s s0 → test s ≡ Ok (true, u) → spend u ≡ Ok (tt, v) → Follows body v (Err f) w → Runs (Last whole) s0 (Err f) w
+  pub while_body_stops : {s s0 u v w : Running Logged} {f : Stop} → StillDoes whole s s0 → test s ≡ Ok (true, u) → spend u ≡ Ok (tt, v) → Leads body v (Err f) w → Runs (Last whole) s0 (Err f) w
   while_body_stops {s} {s0} {u} {v} {w} {f} before tests spends stops = record {
     follows = follows_outcome whole s0 (Err f) w (test >>= rest_of) s (unrolled before)
         (follows_then test rest_of s u w true (Err f) tests (follows_stops (spend >> body) (λ x. whole) u w f (follows_then spend (λ x. body) u v w tt (Err f) spends stops)));
@@ -128,7 +130,7 @@ module _ (t : Known) (h : Environment) (e : Expr) (x : Stmt) where
 
 -- ---- `repeat`
 
-module _ (t : Known) (h : Environment) (x : Stmts) (e : Expr) where
+module _ (t : Scoped) (h : Environment) (x : Stmts) (e : Expr) where
   abbrev round_body : Do Logged
   round_body = stmts t h x
 
@@ -165,19 +167,19 @@ module _ (t : Known) (h : Environment) (x : Stmts) (e : Expr) where
       ∙ ap (λ q. and_then (and_then q (λ x. round_test)) done_or) does
       ∙ ap (λ q. and_then q done_or) tests
 
-  pub repeat_spend_stops : {s s0 u : Running Logged} {f : Stop} → StillDoes rounds s s0 → Follows spend s (Err f) u → Runs (Last rounds) s0 (Err f) u
+  pub repeat_spend_stops : {s s0 u : Running Logged} {f : Stop} → StillDoes rounds s s0 → Leads spend s (Err f) u → Runs (Last rounds) s0 (Err f) u
   repeat_spend_stops {s} {s0} {u} {f} before stops = record {
     follows = follows_outcome rounds s0 (Err f) u round s (round_unrolled before)
         (follows_stops (spend >> round_body >> round_test) done_or s u f (follows_stops (spend >> round_body) (λ x. round_test) s u f (follows_stops spend (λ x. round_body) s u f stops)));
   }
 
-  pub repeat_body_stops : {s s0 u v : Running Logged} {f : Stop} → StillDoes rounds s s0 → spend s ≡ Ok (tt, u) → Follows round_body u (Err f) v → Runs (Last rounds) s0 (Err f) v
+  pub repeat_body_stops : {s s0 u v : Running Logged} {f : Stop} → StillDoes rounds s s0 → spend s ≡ Ok (tt, u) → Leads round_body u (Err f) v → Runs (Last rounds) s0 (Err f) v
   repeat_body_stops {s} {s0} {u} {v} {f} before spends stops = record {
     follows = follows_outcome rounds s0 (Err f) v round s (round_unrolled before)
         (follows_stops (spend >> round_body >> round_test) done_or s v f (follows_stops (spend >> round_body) (λ x. round_test) s v f (follows_then spend (λ x. round_body) s u v tt (Err f) spends stops)));
   }
 
-  pub repeat_test_stops : {s s0 u v w : Running Logged} {f : Stop} → StillDoes rounds s s0 → spend s ≡ Ok (tt, u) → round_body u ≡ Ok (tt, v) → Follows round_test v (Err f) w → Runs (Last rounds) s0 (Err f) w
+  pub repeat_test_stops : {s s0 u v w : Running Logged} {f : Stop} → StillDoes rounds s s0 → spend s ≡ Ok (tt, u) → round_body u ≡ Ok (tt, v) → Leads round_test v (Err f) w → Runs (Last rounds) s0 (Err f) w
   repeat_test_stops {s} {s0} {u} {v} {w} {f} before spends does stops = record {
     follows = follows_outcome rounds s0 (Err f) w round s (round_unrolled before)
         (follows_stops (spend >> round_body >> round_test) done_or s w f (follows_then (spend >> round_body) (λ x. round_test) s v w tt (Err f) (ap (λ q. and_then q (λ x. round_body)) spends ∙ does) stops));
@@ -228,7 +230,7 @@ module _ (dir : Direction) (last : ℤ) (set : ℤ → Do Logged) (unset body : 
       ∙ ap (λ (k : ℕ). spend >> set n >> body >> count_turns k dir (next_of dir n) set unset body) (sym (turns_left dir n last comes))
       ∙ ap (λ (q : Do Logged). spend >> set n >> body >> q) (sym (counting_turns (next_of dir n)))
 
-module _ (t : Known) (h : Environment) (d : Denoter) (p : Place) (first : ℤ) (dir : Direction) (last : ℤ) (x : Stmt) where
+module _ (t : Scoped) (h : Environment) (d : Denoter) (p : Place) (first : ℤ) (dir : Direction) (last : ℤ) (x : Stmt) where
   abbrev set_to : ℤ → Do Logged
   set_to n = store_ordinal Logged on_log d p n
 
@@ -270,28 +272,28 @@ module _ (t : Known) (h : Environment) (d : Denoter) (p : Place) (first : ℤ) (
   pub count_takes : {n : ℤ} {s s0 u v w : Running Logged} → TurnsFrom (Some n) s s0 → spend s ≡ Ok (tt, u) → set_to n u ≡ Ok (tt, v) → turn_body v ≡ Ok (tt, w) → w.left < s.left
   count_takes {n} {s} {s0} {u} {v} {w} before spends sets does = omega (arith, spend_takes s u spends, keeps_units (set_to n) (store_ordinal_never Logged on_log d p n) u v tt sets, keeps_units turn_body (stmt_never t h x) v w tt does)
 
-  pub count_ends : {s s0 : Running Logged} {r : Result (Unit {0}) Stop} {u : Running Logged} → TurnsFrom None s s0 → Follows unset s r u → Runs (Last turns) s0 r u
+  pub count_ends : {s s0 : Running Logged} {r : Result (Unit {0}) Stop} {u : Running Logged} → TurnsFrom None s s0 → Leads unset s r u → Runs (Last turns) s0 r u
   count_ends {s} {s0} {r} {u} before does = record { follows = follows_outcome turns s0 r u unset s (sym before.same) does }
 
-  pub count_spend_stops : {n : ℤ} {s s0 u : Running Logged} {f : Stop} → TurnsFrom (Some n) s s0 → Follows spend s (Err f) u → Runs (Last turns) s0 (Err f) u
+  pub count_spend_stops : {n : ℤ} {s s0 u : Running Logged} {f : Stop} → TurnsFrom (Some n) s s0 → Leads spend s (Err f) u → Runs (Last turns) s0 (Err f) u
   count_spend_stops {n} {s} {s0} {u} {f} before stops = record {
     follows = follows_outcome turns s0 (Err f) u (turn n) s (turn_unrolled before)
         (follows_stops (spend >> set_to n >> turn_body) (λ x. behind (following dir n last)) s u f (follows_stops (spend >> set_to n) (λ x. turn_body) s u f (follows_stops spend (λ x. set_to n) s u f stops)));
   }
 
-  pub count_set_stops : {n : ℤ} {s s0 u v : Running Logged} {f : Stop} → TurnsFrom (Some n) s s0 → spend s ≡ Ok (tt, u) → Follows (set_to n) u (Err f) v → Runs (Last turns) s0 (Err f) v
+  pub count_set_stops : {n : ℤ} {s s0 u v : Running Logged} {f : Stop} → TurnsFrom (Some n) s s0 → spend s ≡ Ok (tt, u) → Leads (set_to n) u (Err f) v → Runs (Last turns) s0 (Err f) v
   count_set_stops {n} {s} {s0} {u} {v} {f} before spends stops = record {
     follows = follows_outcome turns s0 (Err f) v (turn n) s (turn_unrolled before)
         (follows_stops (spend >> set_to n >> turn_body) (λ x. behind (following dir n last)) s v f (follows_stops (spend >> set_to n) (λ x. turn_body) s v f (follows_then spend (λ x. set_to n) s u v tt (Err f) spends stops)));
   }
 
-  pub count_body_stops : {n : ℤ} {s s0 u v w : Running Logged} {f : Stop} → TurnsFrom (Some n) s s0 → spend s ≡ Ok (tt, u) → set_to n u ≡ Ok (tt, v) → Follows turn_body v (Err f) w → Runs (Last turns) s0 (Err f) w
+  pub count_body_stops : {n : ℤ} {s s0 u v w : Running Logged} {f : Stop} → TurnsFrom (Some n) s s0 → spend s ≡ Ok (tt, u) → set_to n u ≡ Ok (tt, v) → Leads turn_body v (Err f) w → Runs (Last turns) s0 (Err f) w
   count_body_stops {n} {s} {s0} {u} {v} {w} {f} before spends sets stops = record {
     follows = follows_outcome turns s0 (Err f) w (turn n) s (turn_unrolled before)
         (follows_stops (spend >> set_to n >> turn_body) (λ x. behind (following dir n last)) s w f (follows_then (spend >> set_to n) (λ x. turn_body) s v w tt (Err f) (ap (λ o. and_then o (λ x. set_to n)) spends ∙ sets) stops));
   }
 
-pub count_same : (t : Known) (h : Environment) (d : Denoter) (p : Place) (first first' : ℤ) (dir : Direction) (last last' : ℤ) (x : Stmt) → first' ≡ first → last' ≡ last → Is (count_loop t h d p first dir last x) (Last (count_loop t h d p first' dir last' x))
+pub count_same : (t : Scoped) (h : Environment) (d : Denoter) (p : Place) (first first' : ℤ) (dir : Direction) (last last' : ℤ) (x : Stmt) → first' ≡ first → last' ≡ last → Is (count_loop t h d p first dir last x) (Last (count_loop t h d p first' dir last' x))
 count_same t h d p first first' dir last last' x begins ends = record { is = ap (λ (n : ℤ). count_loop t h d p n dir last x) (sym begins) ∙ ap (λ (n : ℤ). count_loop t h d p first' dir n x) (sym ends) }
 
 pub none_comes : (o : Option ℤ) → ((n : ℤ) → o ≡ Some n → ⊥) → o ≡ None

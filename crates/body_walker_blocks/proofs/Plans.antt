@@ -5,10 +5,10 @@ use Rattle.std.proofs.lemmas.Result.{err_from_is_err_and}
 use Rattle.pascal_values.specs.declared.fault.Fault.{Fault}
 use Rattle.estelle_model.specs.States.{Logged}
 use Rattle.estelle_model.specs.Steps.{Running, Step, ◌>>=◌, pure, fail, checked_at, checked}
-use Rattle.body_walker_state.specs.declared.stop.Stop.{Stop}
-use Rattle.body_walker_state.specs.declared.stop.Stop.TheVariants as stop
-use Rattle.body_walker_state.specs.Gives.{Gives}
-use Rattle.body_walker_state.specs.Follows.{Follows}
+use Rattle.body_walker_values.specs.declared.stop.Stop.{Stop}
+use Rattle.body_walker_values.specs.declared.stop.Stop.TheVariants as stop
+use Rattle.body_walker_values.specs.Gives.{Gives}
+use Rattle.body_walker_state.specs.Follows.{Leads}
 use Rattle.body_walker_blocks.proofs.Followed.{follows_as, follows_then, follows_stops, follows_checked, follows_given, follows_refused}
 
 pub data Plan (B : Type 0) : Type 1 where
@@ -40,7 +40,7 @@ pub record Is {B : Type 0} (step : Step Logged B) (plan : Plan B) : Type 1 where
 
 -- a plan was followed to a result
 pub record Runs {B : Type 0} (plan : Plan B) (old : Running Logged) (result : Result B Stop) (new : Running Logged) : Type 1 where
-  pub follows : Follows (run plan) old result new
+  pub follows : Leads (run plan) old result new
 
 module _ {B : Type 0} where
   -- ---- how plans are followed
@@ -48,7 +48,7 @@ module _ {B : Type 0} where
   pub then : {A : Type 0} {p : Step Logged A} {f : A → Plan B} {s t u : Running Logged} {a : A} {r : Result B Stop} → p s ≡ Ok (a, t) → Runs (f a) t r u → Runs (First p f) s r u
   then {A} {p} {f} {s} {t} {u} {a} {r} e h = record { follows = follows_then p (λ b. run (f b)) s t u a r e h.follows }
 
-  pub stops : {A : Type 0} {p : Step Logged A} {f : A → Plan B} {s t : Running Logged} {e : Stop} → Follows p s (Err e) t → Runs (First p f) s (Err e) t
+  pub stops : {A : Type 0} {p : Step Logged A} {f : A → Plan B} {s t : Running Logged} {e : Stop} → Leads p s (Err e) t → Runs (First p f) s (Err e) t
   stops {A} {p} {f} {s} {t} {e} h = record { follows = follows_stops p (λ b. run (f b)) s t e h }
 
   pub with : {A : Type 0} {x : Result A Fault} {f : A → Plan B} {s u : Running Logged} {a : A} {r : Result B Stop} → x ≡ Ok a → Runs (f a) s r u → Runs (Given x f) s r u
@@ -57,7 +57,7 @@ module _ {B : Type 0} where
   pub without : {A : Type 0} {x : Result A Fault} {f : A → Plan B} {s : Running Logged} {e : Stop} → Gives x (Err e) → Runs (Given x f) s (Err e) s
   without {A} {x} {f} {s} {e} h = record { follows = follows_refused x (λ b. run (f b)) s e h }
 
-  pub last : {p : Step Logged B} {s : Running Logged} {r : Result B Stop} {t : Running Logged} → Follows p s r t → Runs (Last p) s r t
+  pub last : {p : Step Logged B} {s : Running Logged} {r : Result B Stop} {t : Running Logged} → Leads p s r t → Runs (Last p) s r t
   last h = record { follows = h }
 
   pub comes : {p : Step Logged B} {s : Running Logged} {b : B} {t : Running Logged} → p s ≡ Ok (b, t) → Runs (Last p) s (Ok b) t
@@ -83,7 +83,7 @@ module _ {B : Type 0} where
   pub itself : {p : Step Logged B} → Is p (Last p)
   itself = record { is = refl }
 
-  pub leaves : {p : Step Logged B} {q : Plan B} {s : Running Logged} {r : Result B Stop} {t : Running Logged} → Is p q → Runs q s r t → Follows p s r t
+  pub leaves : {p : Step Logged B} {q : Plan B} {s : Running Logged} {r : Result B Stop} {t : Running Logged} → Is p q → Runs q s r t → Leads p s r t
   leaves {p} {q} {s} {r} {t} e h = follows_as p (run q) s r t e.is h.follows
 
   pub ends : {p : Step Logged B} {q : Plan B} {s : Running Logged} {b : B} {t : Running Logged} → Is p q → Runs q s (Ok b) t → p s ≡ Ok (b, t)
@@ -93,7 +93,7 @@ module _ {B : Type 0} where
   faults {p} {q} {s} {f} {t} e h = leaves {p = p} {q = q} {s = s} {r = Err (stop.Fault f)} {t = t} e h
 
   -- by a `?`
-  pub exits : {p : Step Logged B} {q : Plan B} {s : Running Logged} (r : Result B Stop) {t : Running Logged} {e : Stop} → IsErrAnd r (λ y. y ≡ e) → Is p q → Runs q s (Err e) t → Follows p s r t
+  pub exits : {p : Step Logged B} {q : Plan B} {s : Running Logged} (r : Result B Stop) {t : Running Logged} {e : Stop} → IsErrAnd r (λ y. y ≡ e) → Is p q → Runs q s (Err e) t → Leads p s r t
   exits {p} {q} {s} r {t} {e} h is runs =
       let y = err_from_is_err_and r h in
-      subst (λ (o : Result B Stop). Follows p s o t) (sym (y.1 ∙ ap (λ (x : Stop). Err x) y.2)) (leaves {p = p} {q = q} {s = s} {r = Err e} {t = t} is runs)
+      subst (λ (o : Result B Stop). Leads p s o t) (sym (y.1 ∙ ap (λ (x : Stop). Err x) y.2)) (leaves {p = p} {q = q} {s = s} {r = Err e} {t = t} is runs)

@@ -1,17 +1,15 @@
 -- Statements step by step.
-use Rattle.std.proofs.Common.{◌≡◌, ◌∙◌, ℕ, Bool, true, false, List, [], ◌∷◌, map, refl, sym, ap, Option, Some, None, ℤ, Result, Ok, Err, cond}
+use Rattle.std.proofs.Common.{◌≡◌, ◌∙◌, Bool, true, false, List, [], ◌∷◌, map, refl, sym, ap, Option, Some, None, ℤ, cond}
 use Rattle.std.specs.Prelude.{slice_get}
 use Rattle.pascal_values.specs.declared.fault.Fault.TheVariants as fault
-use Rattle.pascal_values.specs.declared.value.Value.{Value}
 use Rattle.pascal_values.specs.declared.value.Value.TheVariants as pascal
 use Rattle.estelle_tree.specs.declared.tree.name.Name.{Name}
 use Rattle.estelle_tree.specs.declared.tree.type_expr.Const.{Const}
 use Rattle.estelle_tree.specs.declared.tree.expression.Expr.{Expr}
-use Rattle.estelle_tree.specs.declared.tree.expression.Args.{Args, out-Args}
+use Rattle.estelle_tree.specs.declared.tree.expression.Args.{Args}
 use Rattle.estelle_tree.specs.declared.tree.expression.Variable.{Variable}
 use Rattle.estelle_tree.specs.declared.tree.statement.Direction.{Direction}
-use Rattle.estelle_tree.specs.declared.tree.statement.Stmt.{Stmt, out-Stmt, roll-Stmt, roll-out-Stmt}
-use Rattle.estelle_tree.specs.declared.tree.statement.Stmt.TheVariants as of
+use Rattle.estelle_tree.specs.declared.tree.statement.Stmt.{Stmt, out-Stmt}
 use Rattle.estelle_tree.specs.declared.span.Span.{Span}
 use Rattle.estelle_tree.specs.declared.tree.statement.Stmts.{Stmts, out-Stmts}
 use Rattle.estelle_tree.specs.declared.tree.statement.Case.{Case, out-Case}
@@ -24,25 +22,25 @@ use Rattle.estelle_model.specs.declared.place.Place.{Place}
 use Rattle.estelle_model.specs.declared.place.Place.TheVariants.{Of, In}
 use Rattle.estelle_model.specs.declared.place.Environment.{Environment}
 use Rattle.estelle_model.specs.States.{Logged, on_log}
-use Rattle.estelle_model.specs.Steps.{Running, Step, Do, ◌>>=◌, ◌>>◌, pure, fail, checked, all}
+use Rattle.estelle_model.specs.Steps.{Do, ◌>>=◌, ◌>>◌, pure, fail, checked, all}
 use Rattle.estelle_model.specs.Places.{store, store_ordinal, put}
 use Rattle.estelle_model.specs.Loops as loops
 use Rattle.estelle_model.specs.Expressions as spec
-use Rattle.estelle_model.specs.Expressions.{Operand, Access, reference_at, bool_step, ordinal_step}
+use Rattle.estelle_model.specs.Expressions.{Operand, Access, reference_at}
 use Rattle.estelle_model.specs.Statements as statements
-use Rattle.estelle_model.specs.Statements.{is_labelled, chosen, or_nothing}
+use Rattle.estelle_model.specs.Statements.{is_labelled, chosen}
 use Rattle.estelle_model.proofs.ExpressionEquations.{args_opened}
 use Rattle.estelle_model.proofs.StatementEquations.{stmt_at, stmt_opened, branch_opened, stmts_opened}
-use Rattle.meaning_table.specs.Known.{Known, meanings_of}
+use Rattle.body_walker_blocks.specs.Scopes.{Scoped, meanings}
 use Rattle.body_walker_blocks.specs.Located.{Located}
 use Rattle.body_walker_blocks.specs.Accesses.{is_variable}
 use Rattle.body_walker_blocks.specs.Labels.{exprs_of, labelled}
-use Rattle.body_walker_blocks.specs.Walked.{no_action, calling, expr, condition, ordinal, invoked, located, accessed, target, stmt, stmts, branch, assign, procedure, select, count, while_loop, repeat_loop, count_loop}
-use Rattle.body_walker_blocks.proofs.Plans.{Plan, First, Last, Check, Finish, Refuse, run, either, Is}
+use Rattle.body_walker_blocks.specs.Walked.{acting, calling, expr, condition, ordinal, invoked, located, accessed, target, stmt, stmts, branch, assign, procedure, select, count, while_loop, repeat_loop, count_loop, init, release, connect, disconnect, attach, detach, output}
+use Rattle.body_walker_blocks.proofs.Plans.{Plan, First, Last, Finish, Refuse, run, either, Is}
 use Rattle.body_walker_blocks.proofs.Chains.{chain}
 use Rattle.body_walker_blocks.proofs.Followed.{then_then}
 
-module _ (t : Known) (h : Environment) where
+module _ (t : Scoped) (h : Environment) where
   -- ---- one after another
 
   abbrev pub do_stmt : Unit {0} → Stmt → Do Logged
@@ -54,7 +52,7 @@ module _ (t : Known) (h : Environment) where
 
   pub stmts_steps : (x : Stmts) → Is (stmts t h x) (Last (chain do_stmt tt (out-Stmts x).stmts))
   unfolding stmts stmt
-  stmts_steps x = record { is = stmts_opened Logged on_log (meanings_of t) no_action (calling t h) h x ∙ in_turn tt (out-Stmts x).stmts }
+  stmts_steps x = record { is = stmts_opened Logged on_log (meanings t) (acting t h) (calling t h) h x ∙ in_turn tt (out-Stmts x).stmts }
 
   -- ---- what an access comes to, and then something at its place
 
@@ -69,34 +67,34 @@ module _ (t : Known) (h : Environment) where
 
   -- ---- assignments and procedure statements
 
-  assign_out : (o : Option (Access Logged)) (e : Expr) → statements.assign_to Logged on_log (meanings_of t) no_action (calling t h) h o (expr t h e).value ≡ (located o >>= λ l. (expr t h e).value >>= λ v. store Logged on_log l.denoter l.place v)
+  assign_out : (o : Option (Access Logged)) (e : Expr) → statements.assign_to Logged on_log (meanings t) (acting t h) (calling t h) h o (expr t h e).value ≡ (located o >>= λ l. (expr t h e).value >>= λ v. store Logged on_log l.denoter l.place v)
   unfolding at_place
   assign_out None e = refl
   assign_out (Some a) e = located_then (Some a) (λ d p. (expr t h e).value >>= λ v. store Logged on_log d p v)
 
   pub assign_steps : (v : Variable) (e : Expr) → Is (assign t h v e) (First (target t h v) (λ l. First (expr t h e).value (λ w. Last (store Logged on_log l.denoter l.place w))))
   unfolding assign statements.assign target expr
-  assign_steps v e = record { is = assign_out (spec.target Logged on_log (meanings_of t) (calling t h) h v) e }
+  assign_steps v e = record { is = assign_out (spec.target Logged on_log (meanings t) (calling t h) h v) e }
 
   abbrev pub procedure_plan : Meaning → List Expr → Plan (Unit {0})
   procedure_plan (Called r) es = First (invoked t h r es) (λ v. Finish tt)
   procedure_plan _ es = Refuse fault.Unset
 
-  invoke_out : (m : Meaning) (es : List Expr) → statements.invoke_of Logged on_log (meanings_of t) no_action (calling t h) h m (map (expr t h) es) ≡ run (procedure_plan m es)
+  invoke_out : (m : Meaning) (es : List Expr) → statements.invoke_of Logged on_log (meanings t) (acting t h) (calling t h) h m (map (expr t h) es) ≡ run (procedure_plan m es)
   invoke_out (Called r) es = sym (then_then (λ given. calling t h r given) (λ v. pure tt) (spec.give_all r.parameters (map (expr t h) es) spec.no_arguments))
   invoke_out _ es = refl
 
-  arguments_out : (es : Option Args) → statements.arguments Logged on_log (meanings_of t) no_action (calling t h) h es ≡ map (expr t h) (exprs_of es)
+  pub arguments_out : (es : Option Args) → statements.arguments Logged on_log (meanings t) (acting t h) (calling t h) h es ≡ map (expr t h) (exprs_of es)
   unfolding expr
   arguments_out None = refl
-  arguments_out (Some es) = args_opened Logged on_log (meanings_of t) (calling t h) h es
+  arguments_out (Some es) = args_opened Logged on_log (meanings t) (calling t h) h es
 
-  pub procedure_steps : (x : Name) (es : Option Args) (m : Meaning) → meanings_of t x ≡ m → Is (procedure t h x es) (procedure_plan m (exprs_of es))
+  pub procedure_steps : (x : Name) (es : Option Args) (m : Meaning) → meanings t x ≡ m → Is (procedure t h x es) (procedure_plan m (exprs_of es))
   unfolding procedure statements.invoke
-  procedure_steps x es m is = record { is = ap (λ (fs : List (Operand Logged)). statements.invoke_of Logged on_log (meanings_of t) no_action (calling t h) h (meanings_of t x) fs) (arguments_out es) ∙ invoke_out (meanings_of t x) (exprs_of es) ∙ ap (λ (k : Meaning). run (procedure_plan k (exprs_of es))) is }
+  procedure_steps x es m is = record { is = ap (λ (fs : List (Operand Logged)). statements.invoke_of Logged on_log (meanings t) (acting t h) (calling t h) h (meanings t x) fs) (arguments_out es) ∙ invoke_out (meanings t x) (exprs_of es) ∙ ap (λ (k : Meaning). run (procedure_plan k (exprs_of es))) is }
 
   -- what is no routine's name
-  pub procedure_other : (x : Name) (es : Option Args) (m : Meaning) → meanings_of t x ≡ m → ((r : Routine) → m ≡ Called r → ⊥) → Is (procedure t h x es) (Refuse fault.Unset)
+  pub procedure_other : (x : Name) (es : Option Args) (m : Meaning) → meanings t x ≡ m → ((r : Routine) → m ≡ Called r → ⊥) → Is (procedure t h x es) (Refuse fault.Unset)
   procedure_other x es (Called r) is no_call = absurd (no_call r refl)
   procedure_other x es m is no_call = procedure_steps x es m is
 
@@ -110,15 +108,15 @@ module _ (t : Known) (h : Environment) where
   choice true x o = refl
   choice false x o = refl
 
-  chosen_out : (n : ℤ) (cs : List Case) → chosen (meanings_of t) n (map (branch t h) cs) ≡ run (select_plan (labelled (meanings_of t) n cs))
+  chosen_out : (n : ℤ) (cs : List Case) → chosen (meanings t) n (map (branch t h) cs) ≡ run (select_plan (labelled (meanings t) n cs))
   unfolding branch stmt
   chosen_out n [] = refl
   chosen_out n (c ∷ cs) =
-      ap (λ (b : List Const × Do Logged). cond (is_labelled (meanings_of t) n b.0) b.1 (chosen (meanings_of t) n (map (branch t h) cs))) (branch_opened Logged on_log (meanings_of t) no_action (calling t h) h c)
-      ∙ ap (λ (p : Do Logged). cond (is_labelled (meanings_of t) n (out-Case c).labels) (stmt t h (out-Case c).body) p) (chosen_out n cs)
-      ∙ choice (is_labelled (meanings_of t) n (out-Case c).labels) (out-Case c).body (labelled (meanings_of t) n cs)
+      ap (λ (b : List Const × Do Logged). cond (is_labelled (meanings t) n b.0) b.1 (chosen (meanings t) n (map (branch t h) cs))) (branch_opened Logged on_log (meanings t) (acting t h) (calling t h) h c)
+      ∙ ap (λ (p : Do Logged). cond (is_labelled (meanings t) n (out-Case c).labels) (stmt t h (out-Case c).body) p) (chosen_out n cs)
+      ∙ choice (is_labelled (meanings t) n (out-Case c).labels) (out-Case c).body (labelled (meanings t) n cs)
 
-  pub select_steps : (e : Expr) (cs : List Case) → Is (select t h e cs) (First (ordinal t h e) (λ n. select_plan (labelled (meanings_of t) n cs)))
+  pub select_steps : (e : Expr) (cs : List Case) → Is (select t h e cs) (First (ordinal t h e) (λ n. select_plan (labelled (meanings t) n cs)))
   unfolding select statements.select expr
   select_steps e cs = record { is = λ i. ordinal t h e >>= λ n. chosen_out n cs i }
 
@@ -131,13 +129,13 @@ module _ (t : Known) (h : Environment) where
   count_plan b m first dir last body = either b (counted_plan m first dir last body) (Refuse fault.Unset)
 
   abbrev over : Option (Access Logged) → Expr → Direction → Expr → Stmt → Do Logged
-  over o first dir last body = statements.count_over Logged on_log (meanings_of t) no_action (calling t h) h o (ordinal t h first) dir (ordinal t h last) (stmt t h body)
+  over o first dir last body = statements.count_over Logged on_log (meanings t) (acting t h) (calling t h) h o (ordinal t h first) dir (ordinal t h last) (stmt t h body)
 
   count_some : (a : Access Logged) (first : Expr) (dir : Direction) (last : Expr) (body : Stmt) → over (Some a) first dir last body ≡ (ordinal t h first >>= λ i. ordinal t h last >>= λ j. located (Some a) >>= λ l. count_loop t h l.denoter l.place i dir j body)
   unfolding at_place
   count_some a first dir last body = λ k. ordinal t h first >>= λ i. ordinal t h last >>= λ j. located_then (Some a) (λ d p. loops.count_loop dir i j (λ n. store_ordinal Logged on_log d p n) (put Logged on_log p pascal.Unset) (stmt t h body)) k
 
-  count_out : (m : Meaning) (first : Expr) (dir : Direction) (last : Expr) (body : Stmt) → over (spec.accessed Logged on_log (meanings_of t) (calling t h) h m []) first dir last body ≡ run (count_plan (is_variable m) m first dir last body)
+  count_out : (m : Meaning) (first : Expr) (dir : Direction) (last : Expr) (body : Stmt) → over (spec.accessed Logged on_log (meanings t) (calling t h) h m []) first dir last body ≡ run (count_plan (is_variable m) m first dir last body)
   unfolding accessed
   count_out (Own k d) first dir last body = count_some (record { denoter = d; place = pure (Of h.path k []) }) first dir last body
   count_out (Exported k d) first dir last body = count_some (record { denoter = d; place = pure (Of h.path k []) }) first dir last body
@@ -145,9 +143,9 @@ module _ (t : Known) (h : Environment) where
   count_out (Var k d) first dir last body = count_some (record { denoter = d; place = checked (reference_at (slice_get h.references k)) }) first dir last body
   count_out _ first dir last body = refl
 
-  pub count_steps : (x : Name) (first : Expr) (dir : Direction) (last : Expr) (body : Stmt) (b : Bool) → is_variable (meanings_of t x) ≡ b → Is (count t h x first dir last body) (count_plan b (meanings_of t x) first dir last body)
+  pub count_steps : (x : Name) (first : Expr) (dir : Direction) (last : Expr) (body : Stmt) (b : Bool) → is_variable (meanings t x) ≡ b → Is (count t h x first dir last body) (count_plan b (meanings t x) first dir last body)
   unfolding count statements.count expr
-  count_steps x first dir last body b is = record { is = count_out (meanings_of t x) first dir last body ∙ ap (λ (c : Bool). run (count_plan c (meanings_of t x) first dir last body)) is }
+  count_steps x first dir last body b is = record { is = count_out (meanings t x) first dir last body ∙ ap (λ (c : Bool). run (count_plan c (meanings t x) first dir last body)) is }
 
   -- ---- statements
 
@@ -165,7 +163,13 @@ module _ (t : Known) (h : Environment) where
   stmt_plan (Stmt-F.Repeat body test span) = Last (repeat_loop t h body test)
   stmt_plan (Stmt-F.Count x first dir last body span) = Last (count t h x first dir last body)
   stmt_plan (Stmt-F.Case e cases semicolon span) = Last (select t h e cases)
-  stmt_plan _ = Refuse fault.Unset
+  stmt_plan (Stmt-F.Init x b es span) = Last (init t h x b es)
+  stmt_plan (Stmt-F.Release x span) = Last (release t h x)
+  stmt_plan (Stmt-F.Connect a b span) = Last (connect t h a b)
+  stmt_plan (Stmt-F.Disconnect a span) = Last (disconnect t h a)
+  stmt_plan (Stmt-F.Attach p x q span) = Last (attach t h p x q)
+  stmt_plan (Stmt-F.Detach p span) = Last (detach t h p)
+  stmt_plan (Stmt-F.Output p m es span) = Last (output t h p m es)
 
   chosen_part : (b : Bool) (x : Stmt) (o : Option Stmt) → cond b (stmt t h x) (run (else_plan o)) ≡ run (either b (Last (stmt t h x)) (else_plan o))
   chosen_part true x o = refl
@@ -174,39 +178,17 @@ module _ (t : Known) (h : Environment) where
   choose_out : (test : Expr) (then_part : Stmt) (else_part : Option Stmt) → (condition t h test >>= λ b. cond b (stmt t h then_part) (run (else_plan else_part))) ≡ run (First (condition t h test) (λ b. either b (Last (stmt t h then_part)) (else_plan else_part)))
   choose_out test then_part else_part = λ i. condition t h test >>= λ b. chosen_part b then_part else_part i
 
-  stmt_out : (l : Stmt-F Stmt Case Stmts) → stmt_at Logged on_log (meanings_of t) no_action (calling t h) h l ≡ run (stmt_plan l)
-  unfolding stmt stmts branch expr assign procedure select count statements.choose
+  stmt_out : (l : Stmt-F Stmt Case Stmts) → stmt_at Logged on_log (meanings t) (acting t h) (calling t h) h l ≡ run (stmt_plan l)
+  unfolding stmt stmts branch expr assign procedure select count statements.choose init release connect disconnect attach detach output
   stmt_out (Stmt-F.If test then_part None span) = choose_out test then_part None
   stmt_out (Stmt-F.If test then_part (Some else_part) span) = choose_out test then_part (Some else_part)
   stmt_out _ = refl
 
   pub stmt_steps : (x : Stmt) (l : Stmt-F Stmt Case Stmts) → out-Stmt x ≡ l → Is (stmt t h x) (stmt_plan l)
   unfolding stmt
-  stmt_steps x l is = record { is = stmt_opened Logged on_log (meanings_of t) no_action (calling t h) h x ∙ stmt_out (out-Stmt x) ∙ ap (λ (k : Stmt-F Stmt Case Stmts). run (stmt_plan k)) is }
+  stmt_steps x l is = record { is = stmt_opened Logged on_log (meanings t) (acting t h) (calling t h) h x ∙ stmt_out (out-Stmt x) ∙ ap (λ (k : Stmt-F Stmt Case Stmts). run (stmt_plan k)) is }
 
   -- `if`, with or without `else`
   pub if_steps : (x : Stmt) (test : Expr) (then_part : Stmt) (else_part : Option Stmt) (span : Span) (o : Option Stmt) → out-Stmt x ≡ Stmt-F.If test then_part else_part span → else_part ≡ o
       → Is (stmt t h x) (First (condition t h test) (λ b. either b (Last (stmt t h then_part)) (else_plan o)))
   if_steps x test then_part else_part span o is has = stmt_steps x (Stmt-F.If test then_part o span) (is ∙ ap (λ (p : Option Stmt). Stmt-F.If test then_part p span) has)
-
-  -- a statement of Estelle
-  pub stmt_other : (x : Stmt) → (x ≡ of.Empty → ⊥) → ((v : Variable) (e : Expr) (span : Span) → x ≡ of.Assign v e span → ⊥) → ((y : Name) (es : Option Args) (span : Span) → x ≡ of.Call y es span → ⊥) → ((body : Stmts) (span : Span) → x ≡ of.Begin body span → ⊥)
-      → ((test : Expr) (then_part : Stmt) (else_part : Option Stmt) (span : Span) → x ≡ of.If test then_part else_part span → ⊥) → ((test : Expr) (body : Stmt) (span : Span) → x ≡ of.While test body span → ⊥) → ((body : Stmts) (test : Expr) (span : Span) → x ≡ of.Repeat body test span → ⊥)
-      → ((y : Name) (first : Expr) (dir : Direction) (last : Expr) (body : Stmt) (span : Span) → x ≡ of.Count y first dir last body span → ⊥) → ((e : Expr) (cases : List Case) (semicolon : Bool) (span : Span) → x ≡ of.Case e cases semicolon span → ⊥)
-      → Is (stmt t h x) (Refuse fault.Unset)
-  stmt_other x empty assigned called begun chosen_ whiled repeated counted selected_ = by (out-Stmt x) refl
-    where
-      rolled : (l : Stmt-F Stmt Case Stmts) → out-Stmt x ≡ l → x ≡ roll-Stmt l
-      rolled l is = sym (roll-out-Stmt x) ∙ ap roll-Stmt is
-
-      by : (l : Stmt-F Stmt Case Stmts) → out-Stmt x ≡ l → Is (stmt t h x) (Refuse fault.Unset)
-      by Stmt-F.Empty is = absurd (empty (rolled Stmt-F.Empty is ∙ of.rolls-Empty))
-      by (Stmt-F.Assign v e span) is = absurd (assigned v e span (rolled (Stmt-F.Assign v e span) is ∙ of.rolls-Assign v e span))
-      by (Stmt-F.Call y es span) is = absurd (called y es span (rolled (Stmt-F.Call y es span) is ∙ of.rolls-Call y es span))
-      by (Stmt-F.Begin body span) is = absurd (begun body span (rolled (Stmt-F.Begin body span) is ∙ of.rolls-Begin body span))
-      by (Stmt-F.If test then_part else_part span) is = absurd (chosen_ test then_part else_part span (rolled (Stmt-F.If test then_part else_part span) is ∙ of.rolls-If test then_part else_part span))
-      by (Stmt-F.While test body span) is = absurd (whiled test body span (rolled (Stmt-F.While test body span) is ∙ of.rolls-While test body span))
-      by (Stmt-F.Repeat body test span) is = absurd (repeated body test span (rolled (Stmt-F.Repeat body test span) is ∙ of.rolls-Repeat body test span))
-      by (Stmt-F.Count y first dir last body span) is = absurd (counted y first dir last body span (rolled (Stmt-F.Count y first dir last body span) is ∙ of.rolls-Count y first dir last body span))
-      by (Stmt-F.Case e cases semicolon span) is = absurd (selected_ e cases semicolon span (rolled (Stmt-F.Case e cases semicolon span) is ∙ of.rolls-Case e cases semicolon span))
-      by l is = stmt_steps x l is

@@ -1,5 +1,5 @@
 -- How much of a tree is left to walk: each function's part weighs less than what calls it.
-use Rattle.std.proofs.Common.{◌≡◌, ◌∙◌, ℕ, zero, suc, ◌+◌, ◌*◌, ◌-◌, ◌<◌, ◌≤◌, List, [], ◌∷◌, map, length, get_or, refl, sym, ap, cond, Option, Some, None, Bool, true, false, ℤ, arith}
+use Rattle.std.proofs.Common.{◌≡◌, ◌∙◌, ℕ, zero, suc, ◌+◌, ◌<◌, ◌≤◌, List, [], ◌∷◌, map, length, get_or, refl, sym, ap, cond, Option, Some, None, Bool, true, false, ℤ, arith}
 use Rattle.estelle_tree.specs.declared.span.Span.{Span}
 use Rattle.estelle_tree.specs.declared.tree.type_expr.Sign.{Sign}
 use Rattle.estelle_tree.specs.declared.tree.expression.Relation.{Relation}
@@ -14,7 +14,7 @@ use Rattle.estelle_tree.specs.declared.tree.expression.Simple.{Simple, out-Simpl
 use Rattle.estelle_tree.specs.declared.tree.expression.Term.{Term, out-Term}
 use Rattle.estelle_tree.specs.declared.tree.expression.Variable.{Variable, out-Variable}
 use Rattle.estelle_tree.specs.declared.tree.expression.Factor.TheOpen.{Factor-F, Selector-F, Args-F, Elem-F, Expr-F, Simple-F, Term-F, Variable-F}
-use Rattle.estelle_tree.specs.declared.tree.expression.Factor.TheFolds.{map-Factor, map-Selector, map-Args, map-Elem, map-Expr, map-Simple, map-Term, map-Variable, fold-Factor, fold-Selector, fold-Args, fold-Elem, fold-Expr, fold-Simple, fold-Term, fold-Variable, fold_out-Factor, fold_out-Selector, fold_out-Args, fold_out-Elem, fold_out-Expr, fold_out-Simple, fold_out-Term, fold_out-Variable}
+use Rattle.estelle_tree.specs.declared.tree.expression.Factor.TheFolds.{map-Factor, map-Selector, map-Elem, map-Expr, fold-Factor, fold-Selector, fold-Args, fold-Elem, fold-Expr, fold-Simple, fold-Term, fold-Variable, fold_out-Factor, fold_out-Selector, fold_out-Args, fold_out-Elem, fold_out-Expr, fold_out-Simple, fold_out-Term, fold_out-Variable}
 use Rattle.estelle_tree.specs.declared.tree.statement.Stmt.{Stmt, out-Stmt}
 use Rattle.estelle_tree.specs.declared.tree.statement.Case.{Case, out-Case}
 use Rattle.estelle_tree.specs.declared.tree.statement.Stmts.{Stmts, out-Stmts}
@@ -26,7 +26,7 @@ use Rattle.estelle_model.specs.declared.meaning.Meaning.{Meaning}
 use Rattle.estelle_model.specs.declared.meaning.Meaning.TheVariants.{Module}
 use Rattle.body_walker_blocks.specs.Accesses.{rest_of, behind_beginning}
 use Rattle.body_walker_blocks.specs.Labels.{exprs_of, labelled}
-use Rattle.estelle_tree.specs.declared.tree.statement.Stmt.TheFolds.{map-Stmt, map-Case, map-Stmts, fold-Stmt, fold-Case, fold-Stmts, fold_out-Stmt, fold_out-Case, fold_out-Stmts}
+use Rattle.estelle_tree.specs.declared.tree.statement.Stmt.TheFolds.{map-Stmt, fold-Stmt, fold-Case, fold-Stmts, fold_out-Stmt, fold_out-Case, fold_out-Stmts}
 
 -- ---- lists
 
@@ -64,7 +64,7 @@ abbrev factor_layer : Factor-F ℕ ℕ ℕ ℕ ℕ ℕ ℕ ℕ → ℕ
 factor_layer (Factor-F.Number n span) = 1
 factor_layer (Factor-F.Char n span) = 1
 factor_layer (Factor-F.Variable v) = v + 3
-factor_layer (Factor-F.Call x es span) = es + 6
+factor_layer (Factor-F.Call x es span) = es + 7
 factor_layer (Factor-F.Paren e span) = e + 1
 factor_layer (Factor-F.Not e span) = e + 1
 factor_layer (Factor-F.Set es span) = total same es + 2
@@ -122,7 +122,7 @@ abbrev pub factor_weight : Factor-F Factor Selector Args Elem Expr Simple Term V
 factor_weight (Factor-F.Number n span) = 1
 factor_weight (Factor-F.Char n span) = 1
 factor_weight (Factor-F.Variable v) = of_variable v + 3
-factor_weight (Factor-F.Call x es span) = of_args es + 6
+factor_weight (Factor-F.Call x es span) = of_args es + 7
 factor_weight (Factor-F.Paren e span) = of_expr e + 1
 factor_weight (Factor-F.Not e span) = of_factor e + 1
 factor_weight (Factor-F.Set es span) = total of_elem es + 2
@@ -207,6 +207,8 @@ stmt_layer (Stmt-F.While test body span) = of_expr test + body + 3
 stmt_layer (Stmt-F.Repeat body test span) = of_expr test + body + 3
 stmt_layer (Stmt-F.Count x first dir last body span) = of_expr first + of_expr last + body + 6
 stmt_layer (Stmt-F.Case e cases semicolon span) = of_expr e + total same cases + 4
+stmt_layer (Stmt-F.Init x b es span) = of_arguments es + 4
+stmt_layer (Stmt-F.Output p m es span) = of_arguments es + 4
 stmt_layer _ = 1
 
 abbrev case_layer : Case-F ℕ ℕ ℕ → ℕ
@@ -233,6 +235,8 @@ stmt_weight (Stmt-F.While test body span) = of_expr test + of_stmt body + 3
 stmt_weight (Stmt-F.Repeat body test span) = of_expr test + of_stmts body + 3
 stmt_weight (Stmt-F.Count x first dir last body span) = of_expr first + of_expr last + of_stmt body + 6
 stmt_weight (Stmt-F.Case e cases semicolon span) = of_expr e + total of_case cases + 4
+stmt_weight (Stmt-F.Init x b es span) = of_arguments es + 4
+stmt_weight (Stmt-F.Output p m es span) = of_arguments es + 4
 stmt_weight _ = 1
 
 stmt_out : (l : Stmt-F Stmt Case Stmts) → stmt_layer (map-Stmt Stmt Case Stmts ℕ ℕ ℕ of_stmt of_case of_stmts l) ≡ stmt_weight l

@@ -1,5 +1,5 @@
 -- Where variable accesses begin, and their components.
-use Rattle.std.specs.Prelude.{ℕ, Bool, true, false, List, [], ◌∷◌, ◌++◌, length, map, slice_get, Option, Some, None, ℤ, Result, Ok, Err}
+use Rattle.std.specs.Prelude.{ℕ, Bool, true, false, List, [], ◌∷◌, length, slice_get, Option, Some, None, ℤ, Result, Ok, Err}
 use Rattle.pascal_values.specs.declared.fault.Fault.{Fault}
 use Rattle.pascal_values.specs.declared.fault.Fault.TheVariants.{Unset}
 use Rattle.pascal_values.specs.Shapes.{place_of}
@@ -17,7 +17,6 @@ use Rattle.estelle_model.specs.declared.meaning.Meaning.{Meaning}
 use Rattle.estelle_model.specs.declared.meaning.Meaning.TheVariants.{Own, Exported, Local, Var, Module, Field}
 use Rattle.estelle_model.specs.declared.meaning.Routine.{Routine}
 use Rattle.estelle_model.specs.declared.meaning.Passing.{Passing}
-use Rattle.estelle_model.specs.declared.place.Place.{Place}
 use Rattle.estelle_model.specs.declared.place.Place.TheVariants.{Of, In}
 use Rattle.estelle_model.specs.declared.place.Environment.{Environment}
 use Rattle.estelle_model.specs.Types.{item_of, field_of, bounds_of}
@@ -28,7 +27,7 @@ use Rattle.estelle_model.specs.Steps.{Step, ◌>>=◌, pure, fail, checked}
 use Rattle.estelle_model.specs.Meant as meant
 use Rattle.estelle_model.specs.Places.{deeper, child_step}
 use Rattle.estelle_model.specs.Expressions.{reference_at}
-use Rattle.meaning_table.specs.Known.{Known, meanings_of}
+use Rattle.body_walker_blocks.specs.Scopes.{Scoped, meanings}
 use Rattle.body_walker_blocks.specs.Located.{Located}
 
 abbrev pub of_instance : Path → ℕ → Denoter → Located
@@ -44,22 +43,22 @@ abbrev pub exported : Environment → ℕ → Meaning → Step Logged Located
 exported h m (Exported k t) = child_step Logged on_log h.path m >>= λ p. pure (of_instance p k t)
 exported h m _ = fail Unset
 
-abbrev pub of_child : Known → Environment → ℕ → Selector-F Factor Selector Args Elem Expr Simple Term Variable → Step Logged Located
-of_child known h m (Selector-F.Field x) = exported h m (meanings_of known x)
-of_child known h m (Selector-F.Index es) = fail Unset
+abbrev pub of_child : Scoped → Environment → ℕ → Selector-F Factor Selector Args Elem Expr Simple Term Variable → Step Logged Located
+of_child t h m (Selector-F.Field x) = exported h m (meanings t x)
+of_child t h m (Selector-F.Index es) = fail Unset
 
-abbrev pub behind_module : Known → Environment → ℕ → List Selector → Step Logged Located
-behind_module known h m [] = fail Unset
-behind_module known h m (s ∷ ss) = of_child known h m (out-Selector s)
+abbrev pub behind_module : Scoped → Environment → ℕ → List Selector → Step Logged Located
+behind_module t h m [] = fail Unset
+behind_module t h m (s ∷ ss) = of_child t h m (out-Selector s)
 
 -- where an access begins
-abbrev pub begun : Known → Environment → Meaning → List Selector → Step Logged Located
-begun known h (Own k t) ss = pure (of_instance h.path k t)
-begun known h (Exported k t) ss = pure (of_instance h.path k t)
-begun known h (Local k t) ss = pure (in_frame h k t)
-begun known h (Var k t) ss = checked (referred h k t)
-begun known h (Module m) ss = behind_module known h m ss
-begun known h _ ss = fail Unset
+abbrev pub begun : Scoped → Environment → Meaning → List Selector → Step Logged Located
+begun t h (Own k d) ss = pure (of_instance h.path k d)
+begun t h (Exported k d) ss = pure (of_instance h.path k d)
+begun t h (Local k d) ss = pure (in_frame h k d)
+begun t h (Var k d) ss = checked (referred h k d)
+begun t h (Module m) ss = behind_module t h m ss
+begun t h _ ss = fail Unset
 
 abbrev pub rest_of : List Selector → List Selector
 rest_of [] = []

@@ -4,33 +4,33 @@ ghost use Rattle.std.specs.Prelude.{◌≡◌};
 ghost use Rattle.estelle_model.specs.declared.place.Environment.{Environment};
 ghost use Rattle.std.specs.Option.{option_copied};
 ghost use Rattle.estelle_model.specs.Expressions as expressions;
-ghost use Rattle.meaning_table.specs.Known.{meanings_of};
+ghost use Rattle.body_walker_blocks.specs.Scopes.{meanings};
 ghost use Rattle.body_walker_blocks.specs.Walked as walked;
 ghost use Rattle.body_walker_blocks.specs.Hosts as spec;
 
 use crate::places::behind_beginning;
-use body_walker_state::{field_of, host_of, item_of, required_host};
+use crate::scope::Scope;
+use body_walker_values::{field_of, host_of, item_of, required_host};
 use estelle_model::{Denoter, Host, Meaning, Type};
 use estelle_tree::{Adding, Expr, Factor, Multiplying, Name, Selector, Sequence, Simple, Term};
-use meaning_table::Table;
 
 /// The host of an expression's type.
 #[cycle(hosts)]
-pub fn host(table: &Table, node: &Expr) -> Host
-    ensures { (here : Environment) → result ≡ (walked.expr table.now here node.now).host }
+pub fn host(scope: &Scope, node: &Expr) -> Host
+    ensures { (here : Environment) → result ≡ (walked.expr scope.now here node.now).host }
 {
     match node.right {
-        None => simple_host(table, &node.left),
+        None => simple_host(scope, &node.left),
         Some(_) => Host::Boolean,
     }
 }
 
 #[cycle(hosts)]
-fn simple_host(table: &Table, node: &Simple) -> Host
-    ensures { (here : Environment) → result ≡ (walked.simple table.now here node.now).host }
+fn simple_host(scope: &Scope, node: &Simple) -> Host
+    ensures { (here : Environment) → result ≡ (walked.simple scope.now here node.now).host }
 {
     match (node.others.items(), node.sign) {
-        ([], None) => term_host(table, &node.first),
+        ([], None) => term_host(scope, &node.first),
         ([], Some(_)) => Host::Integer,
         ([.., last], _) => added_host(last.0),
     }
@@ -46,11 +46,11 @@ fn added_host(operator: Adding) -> Host
 }
 
 #[cycle(hosts)]
-fn term_host(table: &Table, node: &Term) -> Host
-    ensures { (here : Environment) → result ≡ (walked.term table.now here node.now).host }
+fn term_host(scope: &Scope, node: &Term) -> Host
+    ensures { (here : Environment) → result ≡ (walked.term scope.now here node.now).host }
 {
     match node.others.items() {
-        [] => factor_host(table, &node.first),
+        [] => factor_host(scope, &node.first),
         [.., last] => multiplied_host(last.0),
     }
 }
@@ -65,17 +65,17 @@ fn multiplied_host(operator: Multiplying) -> Host
 }
 
 #[cycle(hosts)]
-fn factor_host(table: &Table, node: &Factor) -> Host
-    ensures { (here : Environment) → result ≡ (walked.factor table.now here node.now).host }
+fn factor_host(scope: &Scope, node: &Factor) -> Host
+    ensures { (here : Environment) → result ≡ (walked.factor scope.now here node.now).host }
 {
     match node {
         Factor::Number { .. } => Host::Integer,
         Factor::Char { .. } => Host::Char,
         Factor::Variable(variable) => {
-            named_host(table, &variable.name, variable.selectors.items())
+            named_host(scope, &variable.name, variable.selectors.items())
         }
-        Factor::Call { name, args, .. } => call_host(table, name, args.exprs.items()),
-        Factor::Paren { inner, .. } => host(table, inner.get()),
+        Factor::Call { name, args, .. } => call_host(scope, name, args.exprs.items()),
+        Factor::Paren { inner, .. } => host(scope, inner.get()),
         Factor::Not { .. } => Host::Boolean,
         Factor::Set { .. } => Host::Integer,
     }
@@ -83,16 +83,16 @@ fn factor_host(table: &Table, node: &Factor) -> Host
 
 /// The host of a function designator's type.
 #[cycle(hosts)]
-fn call_host(table: &Table, name: &Name, exprs: &[Expr]) -> Host
-    ensures { (here : Environment) → result ≡ (walked.designated table.now here name.now exprs.now).host }
+fn call_host(scope: &Scope, name: &Name, exprs: &[Expr]) -> Host
+    ensures { (here : Environment) → result ≡ (walked.designated scope.now here name.now exprs.now).host }
 {
-    match table.meaning(name) {
+    match scope.meaning(name) {
         Meaning::Called(routine) => result_host(&routine.result),
         Meaning::RequiredFunction(required) => {
             let [argument] = exprs else {
                 return Host::Integer;
             };
-            required_host(*required, host(table, argument))
+            required_host(*required, host(scope, argument))
         }
         _ => Host::Integer,
     }
@@ -108,14 +108,14 @@ fn result_host(type_: &Option<Type>) -> Host
 }
 
 /// The host of the type of a name with selectors.
-fn named_host(table: &Table, name: &Name, selectors: &[Selector]) -> Host
-    ensures { (here : Environment) → result ≡ (walked.valued table.now here name.now selectors.now).host }
+fn named_host(scope: &Scope, name: &Name, selectors: &[Selector]) -> Host
+    ensures { (here : Environment) → result ≡ (walked.valued scope.now here name.now selectors.now).host }
 {
-    let meaning = table.meaning(name);
+    let meaning = scope.meaning(name);
     match meaning {
         Meaning::Constant { host, .. } => *host,
         Meaning::Called(routine) => result_host(&routine.result),
-        _ => match accessed_type(table, meaning, selectors) {
+        _ => match accessed_type(scope, meaning, selectors) {
             None => Host::Integer,
             Some(denoter) => host_of(denoter),
         },
@@ -124,43 +124,43 @@ fn named_host(table: &Table, name: &Name, selectors: &[Selector]) -> Host
 
 /// The type of a variable access, where it is one.
 fn accessed_type<'t>(
-    table: &'t Table,
+    scope: &'t Scope,
     meaning: &'t Meaning,
     selectors: &[Selector],
 ) -> Option<&'t Denoter>
-    ensures { option_copied result ≡ spec.accessed_type (meanings_of table.now) meaning.now selectors.now }
+    ensures { option_copied result ≡ spec.accessed_type (meanings scope.now) meaning.now selectors.now }
 {
-    let mut denoter = begun_type(table, meaning, selectors)?;
+    let mut denoter = begun_type(scope, meaning, selectors)?;
     for selector in behind_beginning(meaning, selectors) {
-        denoter = component(table, denoter, selector);
+        denoter = component(scope, denoter, selector);
     }
     Some(denoter)
 }
 
 /// The type of where an access begins.
 fn begun_type<'t>(
-    table: &'t Table,
+    scope: &'t Scope,
     meaning: &'t Meaning,
     selectors: &[Selector],
 ) -> Option<&'t Denoter>
-    ensures { option_copied result ≡ spec.begun_type (meanings_of table.now) meaning.now selectors.now }
+    ensures { option_copied result ≡ spec.begun_type (meanings scope.now) meaning.now selectors.now }
 {
     match meaning {
         Meaning::Own { denoter, .. }
         | Meaning::Exported { denoter, .. }
         | Meaning::Local { denoter, .. }
         | Meaning::Var { denoter, .. } => Some(denoter.denoter()),
-        Meaning::Module(_) => exported_type(table, selectors),
+        Meaning::Module(_) => exported_type(scope, selectors),
         _ => None,
     }
 }
 
 /// The type of a child's exported variable.
-fn exported_type<'t>(table: &'t Table, selectors: &[Selector]) -> Option<&'t Denoter>
-    ensures { option_copied result ≡ spec.exported_type (meanings_of table.now) selectors.now }
+fn exported_type<'t>(scope: &'t Scope, selectors: &[Selector]) -> Option<&'t Denoter>
+    ensures { option_copied result ≡ spec.exported_type (meanings scope.now) selectors.now }
 {
     match selectors {
-        [Selector::Field(name), ..] => match table.meaning(name) {
+        [Selector::Field(name), ..] => match scope.meaning(name) {
             Meaning::Exported { denoter, .. } => Some(denoter.denoter()),
             _ => None,
         },
@@ -169,12 +169,12 @@ fn exported_type<'t>(table: &'t Table, selectors: &[Selector]) -> Option<&'t Den
 }
 
 /// The type of a component.
-fn component<'t>(table: &Table, denoter: &'t Denoter, selector: &Selector) -> &'t Denoter
-    ensures { result.now ≡ spec.component (meanings_of table.now) denoter.now selector.now }
+fn component<'t>(scope: &Scope, denoter: &'t Denoter, selector: &Selector) -> &'t Denoter
+    ensures { result.now ≡ spec.component (meanings scope.now) denoter.now selector.now }
 {
     match selector {
         Selector::Index(exprs) => item_behind(denoter, exprs.items().len()),
-        Selector::Field(name) => match table.meaning(name) {
+        Selector::Field(name) => match scope.meaning(name) {
             Meaning::Field(number) => field_of(denoter, *number),
             _ => denoter,
         },

@@ -2,15 +2,15 @@
 
 ghost use Rattle.std.specs.Prelude.{◌≡◌, IfOk};
 ghost use Rattle.std.specs.Option.{option_copied};
-ghost use Rattle.meaning_table.specs.Known.{meanings_of};
-ghost use Rattle.body_walker_state.specs.Gives.{Gives};
+ghost use Rattle.body_walker_blocks.specs.Scopes.{meanings};
+ghost use Rattle.body_walker_values.specs.Gives.{Gives};
 ghost use Rattle.estelle_model.specs.Statements.{is_labelled};
 ghost use Rattle.body_walker_blocks.specs.Labels as spec;
 
-use body_walker_state::{Stop, ordinal_of, signed};
+use crate::scope::Scope;
+use body_walker_values::{Stop, ordinal_of, signed};
 use estelle_model::Meaning;
 use estelle_tree::{Args, Case, Const, Expr, Name, Sequence, Sign, Stmt};
-use meaning_table::Table;
 use pascal_values::{Fault, Value};
 use std::alloc::AllocError;
 
@@ -38,42 +38,42 @@ fn signed_ordinal(sign: Option<Sign>, value: &Value) -> Result<i64, Stop>
 }
 
 /// The ordinal of a named constant.
-fn named_ordinal(table: &Table, sign: Option<Sign>, name: &Name) -> Result<i64, Stop>
-    ensures { Gives (spec.named_ordinal (meanings_of table.now) sign name.now) result }
+fn named_ordinal(scope: &Scope, sign: Option<Sign>, name: &Name) -> Result<i64, Stop>
+    ensures { Gives (spec.named_ordinal (meanings scope.now) sign name.now) result }
 {
-    match table.meaning(name) {
+    match scope.meaning(name) {
         Meaning::Constant { value, .. } => signed_ordinal(sign, value),
         _ => Err(Stop::Fault(Fault::Unset)),
     }
 }
 
 /// The ordinal of a label.
-fn label_ordinal(table: &Table, label: &Const) -> Result<i64, Stop>
-    ensures { Gives (spec.label_ordinal (meanings_of table.now) label.now) result }
+fn label_ordinal(scope: &Scope, label: &Const) -> Result<i64, Stop>
+    ensures { Gives (spec.label_ordinal (meanings scope.now) label.now) result }
 {
     match label {
         Const::Number { sign, value, .. } => signed_ordinal(*sign, &Value::Int(*value)),
-        Const::Name { sign, name, .. } => named_ordinal(table, *sign, name),
+        Const::Name { sign, name, .. } => named_ordinal(scope, *sign, name),
         Const::Char { value, .. } => Ok(i64::from(*value)),
     }
 }
 
 /// Whether a label has this ordinal. What is no constant has none.
-fn is_label(table: &Table, number: i64, label: &Const) -> Result<bool, AllocError>
-    ensures { IfOk result (λ b. b ≡ spec.is_label (meanings_of table.now) number label.now) }
+fn is_label(scope: &Scope, number: i64, label: &Const) -> Result<bool, AllocError>
+    ensures { IfOk result (λ b. b ≡ spec.is_label (meanings scope.now) number label.now) }
 {
-    match label_ordinal(table, label) {
+    match label_ordinal(scope, label) {
         Ok(ordinal) => Ok(ordinal == number),
         Err(Stop::Fault(_)) => Ok(false),
         Err(Stop::Memory) => Err(AllocError),
     }
 }
 
-fn has_label(table: &Table, number: i64, labels: &[Const]) -> Result<bool, AllocError>
-    ensures { IfOk result (λ b. b ≡ is_labelled (meanings_of table.now) number labels.now) }
+fn has_label(scope: &Scope, number: i64, labels: &[Const]) -> Result<bool, AllocError>
+    ensures { IfOk result (λ b. b ≡ is_labelled (meanings scope.now) number labels.now) }
 {
     for label in labels {
-        if is_label(table, number, label)? {
+        if is_label(scope, number, label)? {
             return Ok(true);
         }
     }
@@ -82,14 +82,14 @@ fn has_label(table: &Table, number: i64, labels: &[Const]) -> Result<bool, Alloc
 
 /// The statement of the first case with a label of this ordinal, if there is one.
 pub fn labelled<'s>(
-    table: &Table,
+    scope: &Scope,
     number: i64,
     cases: &'s [Case],
 ) -> Result<Option<&'s Stmt>, AllocError>
-    ensures { IfOk result (λ o. option_copied o ≡ spec.labelled (meanings_of table.now) number cases.now) }
+    ensures { IfOk result (λ o. option_copied o ≡ spec.labelled (meanings scope.now) number cases.now) }
 {
     for case in cases {
-        if has_label(table, number, case.labels.items())? {
+        if has_label(scope, number, case.labels.items())? {
             return Ok(Some(&case.body));
         }
     }

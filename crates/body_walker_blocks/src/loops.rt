@@ -7,48 +7,49 @@ ghost use Rattle.body_walker_blocks.specs.Turns as turns;
 
 use crate::expressions::{condition, ordinal};
 use crate::places::is_variable;
+use crate::scope::Scope;
 use crate::statements::{stmt, stmts};
 use crate::variables::accessed;
-use body_walker_state::{Stop, Walk};
+use body_walker_state::Walk;
+use body_walker_values::Stop;
 use estelle_model::{Denoter, Environment, Place};
 use estelle_tree::{Direction, Expr, Name, Stmt, Stmts};
-use meaning_table::Table;
 use pascal_values::{Fault, Value};
 use std::alloc::Global;
 
 #[cycle(walk)]
 pub fn while_loop(
-    table: &Table,
+    scope: &Scope,
     alloc: Global,
     here: &Environment,
     walk: &mut Walk,
     test: &Expr,
     body: &Stmt,
 ) -> Result<(), Stop>
-    ensures { Follows (walked.while_loop table.now here.now test.now body.now) walk.old result walk.new }
+    ensures { Follows (walked.while_loop scope.now here.now test.now body.now) walk.old result walk.new }
 {
-    while condition(table, alloc, here, walk, test)? {
+    while condition(scope, alloc, here, walk, test)? {
         walk.spend()?;
-        stmt(table, alloc, here, walk, body)?;
+        stmt(scope, alloc, here, walk, body)?;
     }
     Ok(())
 }
 
 #[cycle(walk)]
 pub fn repeat_loop(
-    table: &Table,
+    scope: &Scope,
     alloc: Global,
     here: &Environment,
     walk: &mut Walk,
     body: &Stmts,
     test: &Expr,
 ) -> Result<(), Stop>
-    ensures { Follows (walked.repeat_loop table.now here.now body.now test.now) walk.old result walk.new }
+    ensures { Follows (walked.repeat_loop scope.now here.now body.now test.now) walk.old result walk.new }
 {
     loop {
         walk.spend()?;
-        stmts(table, alloc, here, walk, body)?;
-        if condition(table, alloc, here, walk, test)? {
+        stmts(scope, alloc, here, walk, body)?;
+        if condition(scope, alloc, here, walk, test)? {
             return Ok(());
         }
     }
@@ -57,7 +58,7 @@ pub fn repeat_loop(
 /// A `for`, whose bounds are evaluated once.
 #[cycle(walk)]
 pub fn count(
-    table: &Table,
+    scope: &Scope,
     alloc: Global,
     here: &Environment,
     walk: &mut Walk,
@@ -67,24 +68,24 @@ pub fn count(
     last: &Expr,
     body: &Stmt,
 ) -> Result<(), Stop>
-    ensures { Follows (walked.count table.now here.now variable.now first.now direction last.now body.now) walk.old result walk.new }
+    ensures { Follows (walked.count scope.now here.now variable.now first.now direction last.now body.now) walk.old result walk.new }
 {
-    let meaning = table.meaning(variable);
+    let meaning = scope.meaning(variable);
     if !is_variable(meaning) {
         return Err(Stop::Fault(Fault::Unset));
     }
-    let first = ordinal(table, alloc, here, walk, first)?;
-    let last = ordinal(table, alloc, here, walk, last)?;
-    let to = accessed(table, alloc, here, walk, meaning, &[])?;
+    let first = ordinal(scope, alloc, here, walk, first)?;
+    let last = ordinal(scope, alloc, here, walk, last)?;
+    let to = accessed(scope, alloc, here, walk, meaning, &[])?;
     count_loop(
-        table, alloc, here, walk, to.denoter, &to.place, first, direction, last, body,
+        scope, alloc, here, walk, to.denoter, &to.place, first, direction, last, body,
     )
 }
 
 /// The turns of a `for`: its variable is set before each, and unset at the end.
 #[cycle(walk)]
 fn count_loop(
-    table: &Table,
+    scope: &Scope,
     alloc: Global,
     here: &Environment,
     walk: &mut Walk,
@@ -95,13 +96,13 @@ fn count_loop(
     last: i64,
     body: &Stmt,
 ) -> Result<(), Stop>
-    ensures { Follows (walked.count_loop table.now here.now denoter.now place.now first direction last body.now) walk.old result walk.new }
+    ensures { Follows (walked.count_loop scope.now here.now denoter.now place.now first direction last body.now) walk.old result walk.new }
 {
     let mut coming = beginning(direction, first, last);
     while let Some(number) = coming {
         walk.spend()?;
         walk.store_ordinal(alloc, denoter, place, number)?;
-        stmt(table, alloc, here, walk, body)?;
+        stmt(scope, alloc, here, walk, body)?;
         coming = following(direction, number, last);
     }
     walk.put(alloc, place, Value::Unset)

@@ -1,15 +1,16 @@
 //! Where variable accesses begin, and their components.
 
 ghost use Rattle.std.specs.Prelude.{◌≡◌, IfOk};
-ghost use Rattle.body_walker_state.specs.Gives.{Gives};
+ghost use Rattle.body_walker_values.specs.Gives.{Gives};
 ghost use Rattle.body_walker_state.specs.Follows.{Follows};
 ghost use Rattle.body_walker_blocks.specs.Accesses as spec;
 
 use crate::reached::Reached;
-use body_walker_state::{Stop, Walk, bounds_of, copy_place, deeper, field_of, item_of};
+use crate::scope::Scope;
+use body_walker_state::Walk;
+use body_walker_values::{Stop, bounds_of, copy_place, deeper, field_of, item_of};
 use estelle_model::{Environment, Meaning, Passing, Place, Routine, Type};
 use estelle_tree::{Items, Path, Selector, Sequence};
-use meaning_table::Table;
 use pascal_values::{Fault, position};
 use std::alloc::{AllocError, Global};
 
@@ -95,31 +96,31 @@ fn exported<'t>(
 
 /// Where an access begins: a variable of a child behind a module variable.
 fn behind_module<'t>(
-    table: &'t Table,
+    scope: &'t Scope,
     alloc: Global,
     here: &Environment,
     walk: &Walk,
     holder: u32,
     selectors: &[Selector],
 ) -> Result<Reached<'t>, Stop>
-    ensures { Follows (spec.behind_module table.now here.now holder selectors.now) walk.now result walk.now }
+    ensures { Follows (spec.behind_module scope.now here.now holder selectors.now) walk.now result walk.now }
 {
     match selectors {
-        [Selector::Field(name), ..] => { exported(alloc, here, walk, holder, table.meaning(name)) }
+        [Selector::Field(name), ..] => { exported(alloc, here, walk, holder, scope.meaning(name)) }
         _ => Err(Stop::Fault(Fault::Unset)),
     }
 }
 
 /// Where an access begins.
 pub fn begun<'t>(
-    table: &'t Table,
+    scope: &'t Scope,
     alloc: Global,
     here: &Environment,
     walk: &Walk,
     meaning: &'t Meaning,
     selectors: &[Selector],
 ) -> Result<Reached<'t>, Stop>
-    ensures { Follows (spec.begun table.now here.now meaning.now selectors.now) walk.now result walk.now }
+    ensures { Follows (spec.begun scope.now here.now meaning.now selectors.now) walk.now result walk.now }
 {
     match meaning {
         Meaning::Own { number, denoter } => {
@@ -132,7 +133,7 @@ pub fn begun<'t>(
         }
         Meaning::Local { number, denoter } => Ok(in_frame(alloc, here, *number, denoter)),
         Meaning::Var { number, denoter } => referred(alloc, here, *number, denoter),
-        Meaning::Module(holder) => behind_module(table, alloc, here, walk, *holder, selectors),
+        Meaning::Module(holder) => behind_module(scope, alloc, here, walk, *holder, selectors),
         _ => Err(Stop::Fault(Fault::Unset)),
     }
 }

@@ -6,27 +6,28 @@ ghost use Rattle.body_walker_blocks.specs.Walked as walked;
 use crate::expressions::ordinal;
 use crate::places::{begun, behind_beginning, field, item, result_of};
 use crate::reached::Reached;
-use body_walker_state::{Stop, Walk};
+use crate::scope::Scope;
+use body_walker_state::Walk;
+use body_walker_values::Stop;
 use estelle_model::{Environment, Meaning};
 use estelle_tree::{Expr, Selector, Sequence, Variable};
-use meaning_table::Table;
 use std::alloc::Global;
 
 /// A variable by what its name means, and its selectors.
 #[cycle(walk)]
 pub fn accessed<'t>(
-    table: &'t Table,
+    scope: &'t Scope,
     alloc: Global,
     here: &Environment,
     walk: &mut Walk,
     meaning: &'t Meaning,
     selectors: &[Selector],
 ) -> Result<Reached<'t>, Stop>
-    ensures { Follows (walked.accessed table.now here.now meaning.now selectors.now) walk.old result walk.new }
+    ensures { Follows (walked.accessed scope.now here.now meaning.now selectors.now) walk.old result walk.new }
 {
-    let mut reached = begun(table, alloc, here, walk, meaning, selectors)?;
+    let mut reached = begun(scope, alloc, here, walk, meaning, selectors)?;
     for selector in behind_beginning(meaning, selectors) {
-        reached = selected(table, alloc, here, walk, reached, selector)?;
+        reached = selected(scope, alloc, here, walk, reached, selector)?;
     }
     Ok(reached)
 }
@@ -34,36 +35,36 @@ pub fn accessed<'t>(
 /// The component that a selector selects.
 #[cycle(walk)]
 fn selected<'t>(
-    table: &'t Table,
+    scope: &'t Scope,
     alloc: Global,
     here: &Environment,
     walk: &mut Walk,
     reached: Reached<'t>,
     selector: &Selector,
 ) -> Result<Reached<'t>, Stop>
-    ensures { Follows (walked.selected table.now here.now reached.entry selector.now) walk.old result walk.new }
+    ensures { Follows (walked.selected scope.now here.now reached.entry selector.now) walk.old result walk.new }
 {
     match selector {
-        Selector::Field(name) => field(table.meaning(name), reached),
-        Selector::Index(exprs) => indexed(table, alloc, here, walk, reached, exprs.items()),
+        Selector::Field(name) => field(scope.meaning(name), reached),
+        Selector::Index(exprs) => indexed(scope, alloc, here, walk, reached, exprs.items()),
     }
 }
 
 /// An item behind one index after another, each tested directly after its evaluation.
 #[cycle(walk)]
 fn indexed<'t>(
-    table: &'t Table,
+    scope: &'t Scope,
     alloc: Global,
     here: &Environment,
     walk: &mut Walk,
     array: Reached<'t>,
     exprs: &[Expr],
 ) -> Result<Reached<'t>, Stop>
-    ensures { Follows (walked.indexed table.now here.now array.entry exprs.now) walk.old result walk.new }
+    ensures { Follows (walked.indexed scope.now here.now array.entry exprs.now) walk.old result walk.new }
 {
     let mut reached = array;
     for index in exprs {
-        let number = ordinal(table, alloc, here, walk, index)?;
+        let number = ordinal(scope, alloc, here, walk, index)?;
         reached = item(reached, number)?;
     }
     Ok(reached)
@@ -72,19 +73,19 @@ fn indexed<'t>(
 /// What stands on the left of an assignment: a variable, or the result of the function that runs.
 #[cycle(walk)]
 pub fn target<'t>(
-    table: &'t Table,
+    scope: &'t Scope,
     alloc: Global,
     here: &Environment,
     walk: &mut Walk,
     variable: &Variable,
 ) -> Result<Reached<'t>, Stop>
-    ensures { Follows (walked.target table.now here.now variable.now) walk.old result walk.new }
+    ensures { Follows (walked.target scope.now here.now variable.now) walk.old result walk.new }
 {
-    let meaning = table.meaning(&variable.name);
+    let meaning = scope.meaning(&variable.name);
     match meaning {
         Meaning::Called(routine) => result_of(alloc, here, routine),
         _ => accessed(
-            table,
+            scope,
             alloc,
             here,
             walk,

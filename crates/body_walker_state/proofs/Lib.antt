@@ -1,7 +1,6 @@
-pub mod TypeLemmas
-pub mod ValueLemmas
 pub mod OrderLemmas
 pub mod PartLemmas
-pub mod FrameLemmas
 pub mod FollowLemmas
+pub mod BodyLemmas
+pub mod StoreLemmas
 pub mod WalkLemmas

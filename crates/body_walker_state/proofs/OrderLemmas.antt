@@ -17,7 +17,7 @@ use Rattle.estelle_model.specs.Core.{Instance}
 use Rattle.estelle_model.specs.Jobs.{instance_of}
 use Rattle.estelle_model.proofs.Maps.{total, apart}
 use Rattle.body_walker_state.specs.InOrder.{entries_of, are_in_order, instance_in, StandsAt}
-use Rattle.body_walker_state.proofs.ValueLemmas.{same_some}
+use Rattle.body_walker_values.proofs.ValueLemmas.{same_some}
 
 pub holds_of : (b : Bool) → b ≡ true → T b
 holds_of true e = tt
@@ -54,7 +54,7 @@ not_equal x y e = ap is_eq (total.antisymm y x ∙ ap ordering_reverse e)
 not_equal_greater : (x y : Path) → path_cmp x y ≡ Greater → eq_by_cmp path_cmp y x ≡ false
 not_equal_greater x y e = ap is_eq (total.antisymm y x ∙ ap ordering_reverse e)
 
-pub equal_itself : (p : Path) → eq_by_cmp path_cmp p p ≡ true
+equal_itself : (p : Path) → eq_by_cmp path_cmp p p ≡ true
 equal_itself p = ap is_eq (tied_itself total p)
 
 -- ---- below all
@@ -79,7 +79,7 @@ other (p ∷ ps) (suc k) d e l = other ps k d e (omega arith)
 abbrev pub IsBelow : Part → Part → Type 0
 IsBelow a b = path_cmp a.path b.path ≡ Less
 
-later : (p : Part) (ps : List Part) (k : ℕ) (d : Part) → get_or (p ∷ ps) (k + 1) d ≡ get_or ps k d
+pub later : (p : Part) (ps : List Part) (k : ℕ) (d : Part) → get_or (p ∷ ps) (k + 1) d ≡ get_or ps k d
 later p ps k d = ap (λ n. get_or (p ∷ ps) n d) {y = suc k} (omega arith)
 
 pub in_order_of : (ps : List Part) → AllAdjacentBelow IsBelow ps (length ps) → T (are_in_order ps)
@@ -92,7 +92,7 @@ in_order_of (p ∷ (q ∷ ps)) h =
     (both (is_lt (path_cmp p.path q.path)) (below_all path_cmp p.path (entries_of ps)) (of_less (path_cmp p.path q.path) less) (below_less p.path q.path (entries_of ps) less (left_of _ (are_in_order ps) rest)))
     rest
 
-pub below_of : (ps : List Part) → T (are_in_order ps) → AllAdjacentBelow IsBelow ps (length ps)
+below_of : (ps : List Part) → T (are_in_order ps) → AllAdjacentBelow IsBelow ps (length ps)
 below_of [] h k d l = absurd (omega arith)
 below_of (p ∷ []) h k d l = absurd (omega arith)
 below_of (p ∷ (q ∷ ps)) h zero d l = less_of (path_cmp p.path q.path) (left_of _ (below_all path_cmp p.path (entries_of ps)) (left_of _ (are_in_order (q ∷ ps)) h))
@@ -101,7 +101,7 @@ below_of (p ∷ (q ∷ ps)) h (suc k) d l =
     ∙ below_of (q ∷ ps) (right_of (below_all path_cmp p.path (entries_of (q ∷ ps))) _ h) k d (omega arith)
 
 -- two neighbours in another order
-pub not_in_order : (ps : List Part) (k : ℕ) (d : Part) → k + 1 < length ps → ¬ (path_cmp (get_or ps k d).path (get_or ps (k + 1) d).path ≡ Less) → are_in_order ps ≡ false
+not_in_order : (ps : List Part) (k : ℕ) (d : Part) → k + 1 < length ps → ¬ (path_cmp (get_or ps k d).path (get_or ps (k + 1) d).path ≡ Less) → are_in_order ps ≡ false
 not_in_order ps k d l not_less = by (are_in_order ps) refl
   where
     by : (b : Bool) → are_in_order ps ≡ b → b ≡ false

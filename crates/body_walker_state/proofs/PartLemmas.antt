@@ -1,24 +1,23 @@
 -- The instances that parts in path order show, and a part that changes.
-use Rattle.std.proofs.Common.{◌≡◌, ℕ, zero, suc, Bool, true, false, List, [], ◌∷◌, map as each, Option, Some, None, refl, sym, ap, subst, cond, ◌∙◌}
-use Rattle.std.specs.Prelude.{◌&&◌, slice_get, slice_set, T, fold}
+use Rattle.std.proofs.Common.{◌≡◌, ℕ, zero, suc, ◌+◌, ◌≤◌, Bool, true, false, List, [], ◌∷◌, length, map as each, Option, Some, None, Result, Ok, Err, refl, sym, ap, subst, cond, ◌∙◌, arith}
+use Rattle.std.specs.Prelude.{◌&&◌, slice_get, slice_set, T, filter, OnOk}
+use Rattle.std.specs.declared.alloc.AllocError.{AllocError}
+use Rattle.std.specs.List.{insert, AllWithin}
+use Rattle.std.specs.List.Sorted.{IsPartitionPoint}
 use Rattle.std.specs.FinMap as map
-use Rattle.std.specs.FinMap.Entries.{below_all}
+use Rattle.std.specs.FinMap.Entries.{below_all, by_order, put, where_key, is_sorted-put, is_sorted-where_key, find-where_key}
 use Rattle.std.specs.Cmp.{tied_itself}
-use Rattle.std.specs.Ordering.{is_lt, eq_by_cmp}
-use Rattle.std.specs.declared.cmp.Ordering.TheVariants.{Less, Equal}
+use Rattle.std.specs.Ordering.{is_lt, eq_by_cmp, ordering_reverse}
+use Rattle.std.specs.declared.cmp.Ordering.TheVariants.{Less, Equal, Greater}
 use Rattle.estelle_model.specs.declared.image.Part.{Part}
 use Rattle.estelle_tree.specs.Paths.{Path, path_cmp}
-use Rattle.estelle_model.specs.Core.{Instance, Instances}
+use Rattle.estelle_model.specs.Core.{Instance}
 use Rattle.estelle_model.specs.Effects.{changed_in, put_back}
-use Rattle.estelle_model.specs.Jobs.{part_of_entry, instance_of, insert_part}
+use Rattle.estelle_model.specs.Jobs.{part_of_entry, instance_of}
 use Rattle.estelle_model.proofs.Maps.{total, apart, or_else, equal_of, get_inserted}
-use Rattle.body_walker_state.specs.InOrder.{entries_of, are_in_order, instance_in}
-use Rattle.body_walker_state.proofs.ValueLemmas.{same_some}
-use Rattle.body_walker_state.proofs.OrderLemmas.{left_of, right_of, below_at, found_at}
-
--- the instances of parts
-abbrev pub instances_of : List Part → Instances
-instances_of ps = fold insert_part map.empty ps
+use Rattle.body_walker_state.specs.InOrder.{entry_of, entries_of, are_in_order, instance_in, instances_of, StandsAt}
+use Rattle.body_walker_values.proofs.ValueLemmas.{same_some}
+use Rattle.body_walker_state.proofs.OrderLemmas.{left_of, right_of, below_at, found_at, later}
 
 as_parts : (ps : List Part) → each part_of_entry (entries_of ps) ≡ ps
 as_parts [] = refl
@@ -35,7 +34,7 @@ shown ps h q =
     ∙ ap (or_else (instance_in ps q)) (map.get-empty path_cmp q)
     ∙ or_none (instance_in ps q)
 
-pub listed : (ps : List Part) → T (are_in_order ps) → map.entries (instances_of ps) ≡ entries_of ps
+listed : (ps : List Part) → T (are_in_order ps) → map.entries (instances_of ps) ≡ entries_of ps
 listed ps h =
     ap map.entries (map.same_map total apart (instances_of ps) (map.from_sorted {R = path_cmp} (entries_of ps)) (λ q. shown ps h q ∙ sym (map.get-from_sorted path_cmp (entries_of ps) q h)))
     ∙ map.entries-from_sorted path_cmp (entries_of ps) h
@@ -97,3 +96,79 @@ module _ (new : Part) where
       ∙ (λ i. cond (eq_by_cmp path_cmp q (sym is i)) (Some (sym makes i)) (shown ps h q i))
       ∙ sym (found_set ps k part h e same q)
       ∙ sym (shown (slice_set ps k new) order q))
+
+-- ---- a part that is put in its place
+
+greater_of : (x y : Path) → path_cmp x y ≡ Less → path_cmp y x ≡ Greater
+greater_of x y e = total.antisymm y x ∙ ap ordering_reverse e
+
+less_of : (x y : Path) → path_cmp x y ≡ Greater → path_cmp y x ≡ Less
+less_of x y e = total.antisymm y x ∙ ap ordering_reverse e
+
+module _ (new : Part) where
+  abbrev putting : List Part → List (Path × Instance)
+  putting ps = put path_cmp new.path (instance_of new) (entries_of ps)
+
+  behind_first : (q : Part) (ps : List Part) → path_cmp q.path new.path ≡ Less → putting (q ∷ ps) ≡ entry_of q ∷ putting ps
+  behind_first q ps e = ap (λ o. by_order o (entry_of new ∷ (entry_of q ∷ entries_of ps)) ((q.path, instance_of new) ∷ entries_of ps) (entry_of q ∷ putting ps)) (greater_of q.path new.path e)
+
+  -- between those below it and those above it
+  entries_inserted : (ps : List Part) (k : ℕ) → k ≤ length ps → AllWithin (λ (y : Part). path_cmp y.path new.path ≡ Less) ps 0 k → AllWithin (λ (y : Part). path_cmp y.path new.path ≡ Greater) ps k (length ps) → entries_of (insert ps k new) ≡ putting ps
+  entries_inserted [] zero l low high = refl
+  entries_inserted [] (suc k) l low high = absurd (omega arith)
+  entries_inserted (q ∷ ps) zero l low high = sym (ap (λ o. by_order o (entry_of new ∷ (entry_of q ∷ entries_of ps)) ((q.path, instance_of new) ∷ entries_of ps) (entry_of q ∷ putting ps)) (less_of q.path new.path (high 0 q (omega arith) (omega arith))))
+  entries_inserted (q ∷ ps) (suc k) l low high =
+      ap (λ es. entry_of q ∷ es) (entries_inserted ps k (omega arith)
+      (λ j d a b. subst (λ (r : Part). path_cmp r.path new.path ≡ Less) (later q ps j d) (low (j + 1) d (omega arith) (omega arith)))
+      (λ j d a b. subst (λ (r : Part). path_cmp r.path new.path ≡ Greater) (later q ps j d) (high (j + 1) d (omega arith) (omega arith))))
+      ∙ sym (behind_first q ps (low 0 q (omega arith) (omega arith)))
+
+  -- in the place of one with its path
+  pub entries_replaced : (ps : List Part) (k : ℕ) → T (are_in_order ps) → StandsAt ps new.path k → entries_of (slice_set ps k new) ≡ putting ps
+  entries_replaced [] k h stands = let e = stands.1 in absurd (cc)
+  entries_replaced (q ∷ ps) zero h stands =
+      let same : q.path ≡ new.path = ap (λ (r : Part). r.path) (same_some q stands.0 stands.1) ∙ stands.2 in
+      let tied : path_cmp new.path q.path ≡ Equal = ap (path_cmp new.path) same ∙ tied_itself total new.path in
+      sym (ap (λ o. by_order o (entry_of new ∷ (entry_of q ∷ entries_of ps)) ((q.path, instance_of new) ∷ entries_of ps) (entry_of q ∷ putting ps)) tied ∙ ap (λ (p : Path). (p, instance_of new) ∷ entries_of ps) same)
+  entries_replaced (q ∷ ps) (suc k) h stands =
+      let less : path_cmp q.path new.path ≡ Less = subst (λ (p : Path). path_cmp q.path p ≡ Less) stands.2 (below_at q.path ps k stands.0 (left_of _ (are_in_order ps) h) stands.1) in
+      ap (λ es. entry_of q ∷ es) (entries_replaced ps k (right_of (below_all path_cmp q.path (entries_of ps)) _ h) stands) ∙ sym (behind_first q ps less)
+
+  pub order_put : (ps qs : List Part) → T (are_in_order ps) → entries_of qs ≡ putting ps → T (are_in_order qs)
+  order_put ps qs h e = subst (λ es. T (map.is_sorted path_cmp es)) (sym e) (is_sorted-put path_cmp total new.path (instance_of new) (entries_of ps) h)
+
+  -- a call that puts it between them may fail
+  pub may_insert : (ps qs : List Part) (k : ℕ) (r : Result (Unit {0}) AllocError) → k ≤ length ps → IsPartitionPoint (λ (y : Part). path_cmp y.path new.path ≡ Less) (λ (y : Part). path_cmp y.path new.path ≡ Greater) ps k → OnOk r (qs ≡ insert ps k new) → OnOk r (entries_of qs ≡ putting ps)
+  may_insert ps qs k (Ok u) l point e = ap entries_of e ∙ entries_inserted ps k l point.0 point.1
+  may_insert ps qs k (Err e) l point h = tt
+
+  -- the instance is inserted
+  pub put_inserts : (ps qs : List Part) → T (are_in_order ps) → entries_of qs ≡ putting ps → instances_of qs ≡ map.insert (instances_of ps) new.path (instance_of new)
+  put_inserts ps qs h e = map.same_entries_map (instances_of qs) (map.insert (instances_of ps) new.path (instance_of new)) (
+      listed qs (order_put ps qs h e) ∙ e ∙ ap (put path_cmp new.path (instance_of new)) (sym (listed ps h))
+      ∙ sym (map.entries-insert total (instances_of ps) new.path (instance_of new)))
+
+-- ---- parts that are removed
+
+module _ (keep : Path → Bool) where
+  entries_kept : (ps : List Part) → entries_of (filter (λ (p : Part). keep p.path) ps) ≡ where_key path_cmp keep (entries_of ps)
+  entries_kept [] = refl
+  entries_kept (q ∷ ps) = by (keep q.path) (entries_kept ps)
+    where
+      by : (b : Bool) → entries_of (filter (λ (p : Part). keep p.path) ps) ≡ where_key path_cmp keep (entries_of ps) → entries_of (cond b (q ∷ filter (λ (p : Part). keep p.path) ps) (filter (λ (p : Part). keep p.path) ps)) ≡ cond b (entry_of q ∷ where_key path_cmp keep (entries_of ps)) (where_key path_cmp keep (entries_of ps))
+      by true e = ap (λ es. entry_of q ∷ es) e
+      by false e = e
+
+  pub order_kept : (ps : List Part) → T (are_in_order ps) → T (are_in_order (filter (λ (p : Part). keep p.path) ps))
+  order_kept ps h = subst (λ es. T (map.is_sorted path_cmp es)) (sym (entries_kept ps)) (is_sorted-where_key path_cmp keep (entries_of ps) h)
+
+  alike : (q x : Path) → path_cmp q x ≡ Equal → keep x ≡ keep q
+  alike q x e = ap keep (sym (apart q x e))
+
+  pub kept_retains : (ps : List Part) → T (are_in_order ps) → instances_of (filter (λ (p : Part). keep p.path) ps) ≡ map.retain_keys (instances_of ps) keep
+  kept_retains ps h = map.same_map total apart _ _ (λ q.
+      shown (filter (λ (p : Part). keep p.path) ps) (order_kept ps h) q
+      ∙ ap (map.find path_cmp q) (entries_kept ps)
+      ∙ find-where_key path_cmp keep q (alike q) (entries_of ps)
+      ∙ ap (λ o. cond (keep q) o None) (sym (shown ps h q))
+      ∙ sym (map.get-retain_keys (instances_of ps) keep q (alike q)))

@@ -1,20 +1,19 @@
 //! The parts of an image, by their paths.
 
-ghost use Rattle.std.specs.Prelude.{◌≡◌, ℕ, ◌<◌, vec_len, slice_get, if◌then◌else◌, slice_set, option_map, Some, None, MatchOption, IfOk, OnOk, OnErr};
+ghost use Rattle.std.specs.Prelude.{◌≡◌, ◌≤◌, vec_len, slice_get, if◌then◌else◌, not, filter, option_map, Some, None, MatchOption, IfOk, OnOk, OnErr};
 ghost use Rattle.std.specs.Option.{option_copied};
-ghost use Rattle.estelle_model.specs.declared.image.Part.{Part};
-ghost use Rattle.estelle_tree.specs.Paths.{path_cmp};
+ghost use Rattle.std.specs.List.{insert};
+ghost use Rattle.std.specs.FinMap.{put};
+ghost use Rattle.estelle_tree.specs.Paths.{path_cmp, is_inside};
 ghost use Rattle.estelle_model.specs.Jobs.{instance_of};
 ghost use Rattle.estelle_model.specs.Places.{held_in};
-ghost use Rattle.body_walker_state.specs.Gives.{Gives};
-ghost use Rattle.body_walker_state.specs.InOrder.{are_in_order, InOrder, instance_in, StandsAt, with_value, with_state};
+ghost use Rattle.body_walker_values.specs.Gives.{Gives};
+ghost use Rattle.body_walker_state.specs.InOrder.{entries_of, are_in_order, InOrder, instance_in, StandsAt};
 
-use crate::copies::{copy_links, copy_parts};
-use crate::stop::Stop;
-use crate::values::put_below;
+use body_walker_values::{Stop, copy_parts};
 use estelle_model::{Image, Part};
-use estelle_tree::{Items, Link, Path};
-use pascal_values::{Fault, Value};
+use estelle_tree::{Items, Path};
+use pascal_values::Fault;
 use std::alloc::{AllocError, Global};
 use std::cmp::Ordering;
 
@@ -44,7 +43,7 @@ fn rise(parts: &[Part]) -> bool
 }
 
 /// The place of the part with a path.
-pub(crate) fn find_part(parts: &[Part], path: &Path) -> Option<usize>
+pub fn find_part(parts: &[Part], path: &Path) -> Option<usize>
     requires { InOrder parts.now }
     ensures { MatchOption result (instance_in parts.now path.now ≡ None) (λ k. StandsAt parts.now path.now k) }
 {
@@ -71,15 +70,15 @@ fn nth(parts: &[Part], place: usize) -> Option<&Part>
     parts.get(place)
 }
 
-/// The parts that a walk shows: its own, or the lent ones.
-pub(crate) fn shown_parts<'p>(lent: &'p [Part], own: &'p Vec<Part>, is_own: bool) -> &'p [Part]
+/// The parts that are shown: the own ones, or the lent ones.
+pub fn shown_parts<'p>(lent: &'p [Part], own: &'p Vec<Part>, is_own: bool) -> &'p [Part]
     ensures { result.now ≡ (if is_own then own.now.items else lent.now) }
 {
     if is_own { own } else { lent }
 }
 
-/// Copies the lent parts in place of its own ones, unless these are shown.
-pub(crate) fn own_parts(
+/// Copies the lent parts in place of the own ones, unless these are shown.
+pub fn own_parts(
     alloc: Global,
     lent: &[Part],
     own: &mut Vec<Part>,
@@ -94,8 +93,8 @@ pub(crate) fn own_parts(
     Ok(())
 }
 
-/// The parts that a walk shows: its own, or copies of the lent ones.
-pub(crate) fn kept_parts(
+/// The parts that are shown: the own ones, or copies of the lent ones.
+pub fn kept_parts(
     alloc: Global,
     lent: &[Part],
     own: Vec<Part>,
@@ -110,61 +109,41 @@ pub(crate) fn kept_parts(
     }
 }
 
-/// The links that a walk shows: its own, or copies of the lent ones.
-pub(crate) fn kept_links(
-    alloc: Global,
-    lent: &[Link],
-    own: Items<Link>,
-    has_links: bool,
-) -> Result<Items<Link>, AllocError>
-    ensures { IfOk result (λ links. links ≡ (if has_links then own else lent.now)) }
+/// Puts a part in its place.
+pub fn insert_part(parts: &mut Vec<Part>, part: Part) -> Result<(), AllocError>
+    requires { InOrder parts.old.items }
+    ensures ok { OnOk result (entries_of parts.new.items ≡ put path_cmp part.path (instance_of part) (entries_of parts.old.items)) }
+    ensures err { OnErr result (parts.new.items ≡ parts.old.items) }
 {
-    if has_links {
-        Ok(own)
-    } else {
-        copy_links(alloc, lent)
+    match parts.binary_search_by(|each| compare(&each.path, &part.path)) {
+        Ok(place) => {
+            parts[place] = part;
+            Ok(())
+        }
+        Err(place) => insert_at(parts, place, part),
     }
 }
 
-/// The parts of an image, moved.
-pub(crate) fn into_vec(alloc: Global, parts: Items<Part>) -> Result<Vec<Part>, AllocError>
-    ensures { IfOk result (λ moved. moved.items ≡ parts) }
+fn insert_at(parts: &mut Vec<Part>, place: usize, part: Part) -> Result<(), AllocError>
+    requires { place ≤ vec_len parts.old }
+    ensures ok { OnOk result (parts.new.items ≡ insert parts.old.items place part) }
+    ensures err { OnErr result (parts.new.items ≡ parts.old.items) }
 {
-    let mut left = parts;
-    let mut moved = Vec::new(alloc);
-    while let Some(part) = left.pop() {
-        moved.push(part)?;
+    match parts.insert(place, part) {
+        Ok(()) => Ok(()),
+        Err(_) => Err(AllocError),
     }
-    moved.reverse();
-    Ok(moved)
 }
 
-/// Puts a value at a way of a variable of the part at a place.
-pub(crate) fn put_in_part(
-    parts: &mut Vec<Part>,
-    place: usize,
-    variable: u32,
-    way: &[u32],
-    value: Value,
-)
-    requires { place < vec_len parts.old }
-    ensures { (part : Part) → slice_get parts.old.items place ≡ Some part → parts.new.items ≡ slice_set parts.old.items place (with_value part variable way.now value) }
+/// Removes the parts at and below an instance.
+pub fn keep_outside(parts: &mut Vec<Part>, path: &Path)
+    ensures { parts.new.items ≡ filter (λ p. not (is_inside path.now p.path)) parts.old.items }
 {
-    let part = &mut parts[place];
-    put_below(&mut part.vars, variable, way, value);
-}
-
-/// Sets the state of the part at a place.
-pub(crate) fn set_state(parts: &mut Vec<Part>, place: usize, state: u32)
-    requires { place < vec_len parts.old }
-    ensures { (part : Part) → slice_get parts.old.items place ≡ Some part → parts.new.items ≡ slice_set parts.old.items place (with_state part state) }
-{
-    let part = &mut parts[place];
-    part.state = Some(state);
+    parts.retain(|part| !path.is_at_or_above(&part.path));
 }
 
 /// The child that a module variable of an instance holds.
-pub(crate) fn child_of(alloc: Global, part: &Part, number: u32) -> Result<Path, Stop>
+pub fn child_of(alloc: Global, part: &Part, number: u32) -> Result<Path, Stop>
     ensures { Gives (held_in (slice_get part.now.modvars number)) result }
 {
     match part.modvars.get(number as usize) {

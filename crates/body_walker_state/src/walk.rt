@@ -1,100 +1,106 @@
 //! The walk, and the steps that it takes.
 
-ghost use Rattle.std.specs.Prelude.{◌≡◌, [], Some, IfOk};
+ghost use Rattle.std.specs.Prelude.{◌≡◌, [], option_map, Some, IfOk, OnOk};
+ghost use Rattle.std.specs.Option.{option_copied};
+ghost use Rattle.std.specs.FinMap as maps;
 ghost use Rattle.estelle_model.specs.declared.place.Place.TheVariants.{Of};
 ghost use Rattle.estelle_model.specs.States.{Logged, on_log};
 ghost use Rattle.estelle_model.specs.Steps.{spend};
 ghost use Rattle.estelle_model.specs.Places.{load, put, store, store_ordinal, child_step};
 ghost use Rattle.estelle_model.specs.Meant.{Meanings};
+ghost use Rattle.estelle_model.specs.Effects.{changed_in};
 ghost use Rattle.estelle_model.specs.Subject.{Subject};
 ghost use Rattle.estelle_model.specs.Actions.{enter_state};
 ghost use Rattle.estelle_model.specs.Calls.{enter, leave};
 ghost use Rattle.estelle_model.specs.Blocks.{fresh, enter_values};
-ghost use Rattle.estelle_model.specs.Jobs.{Shows};
-ghost use Rattle.plain_jobs.specs.Computed.{core_of, log_from};
+ghost use Rattle.estelle_model.specs.Jobs.{instance_of, Shows, all_logged};
+ghost use Rattle.estelle_model.specs.Computed.{core_of, log_from};
+ghost use Rattle.body_walker_state.specs.Progress.{running, after};
 ghost use Rattle.body_walker_state.specs.Follows.{Follows};
 ghost use Rattle.body_walker_state.specs.InOrder.{InOrder};
+ghost use Rattle.body_walker_state.specs.Alterations.{altered};
+ghost use Rattle.body_walker_state.specs.Entries.{effect_of};
 
-use crate::fitting::fits;
-use crate::frames::{part_in, pop_frame, push_frame, result_number, with_locals};
-use crate::ordinals::value_in;
-use crate::parts::{
-    child_of, find_part, into_vec, kept_links, kept_parts, own_parts, part_at, put_in_part,
-    set_state, shown_parts,
+use crate::alteration::Alteration;
+use crate::bodies::ModuleBodies;
+use crate::instances::InstanceMap;
+use crate::links::LinkList;
+use crate::log::{Log, LogEntry};
+use crate::parts::child_of;
+use body_walker_values::{
+    Stop, below, below_frame, fits, host_of, loaded, may_store, part_in, pop_frame, push_frame,
+    put_in_frame, result_number, value_in, with_locals,
 };
-use crate::stop::Stop;
-use crate::types::host_of;
-use crate::values::{below, below_frame, loaded, put_in_frame};
-use estelle_model::{Denoter, Image, Part, Place, Routine};
+use estelle_model::{Denoter, Effect, Image, Part, Place, Routine};
 use estelle_tree::{Items, Link, Path, Sequence};
 use pascal_values::{Fault, Value, Values};
 use std::alloc::{AllocError, Global};
 use std::marker::Model;
 
-/// A run of a body, before or after one of its steps. Contracts see it as a run on a log with no effect.
+/// A run of a block on a log of its effects, before or after one of its steps.
 #[derive(Drop)]
 pub struct Walk<'a> {
-    lent: &'a [Part],
-    /// In place of the lent parts, once one has changed.
-    own: Vec<Part>,
-    is_own: bool,
-    links: &'a [Link],
-    /// In place of the lent links, where the image is not lent.
-    own_links: Items<Link>,
-    has_links: bool,
+    bodies: &'a ModuleBodies<'a>,
+    instances: InstanceMap<'a>,
+    links: LinkList<'a>,
+    log: Log,
     frames: Vec<Value>,
     left: u32,
 }
 
 impl<'a> Model for Walk<'a> {
-    ghost use Rattle.estelle_model.specs.States.{Logged};
-    ghost use Rattle.estelle_model.specs.Steps.{Running};
     ghost use Rattle.std.specs.Coded.{codes};
     ghost use Rattle.std.specs.FinMap.{code};
     ghost use Rattle.pascal_values.specs.contracts.value.Value as of_value;
+    ghost use Rattle.estelle_tree.specs.contracts.tree.specification.Spec as of_specs;
+    ghost use Rattle.body_walker_state.specs.Progress.{Progress};
 
-    ghost Value = { Running Logged };
+    ghost Value = { Progress };
 
-    ghost coded = { Prim.hlevel (codes, code, of_value.the_row.coded) };
+    ghost coded = { Prim.hlevel (codes, code, of_value.the_row.coded, of_specs.the_row.coded) };
 
-    ghost use Rattle.body_walker_state.specs.Shown.{shown_by, HasOrder};
+    ghost use Rattle.body_walker_state.specs.Shown.{shown_by};
 
     ghost view = { shown_by };
-
-    ghost invariant = { HasOrder };
 }
 
 impl<'a> Walk<'a> {
     /// Before the first step, with so many units. It borrows the image.
-    pub fn new(alloc: Global, image: &'a Image, budget: u32) -> Walk<'a>
+    pub fn new(
+        alloc: Global,
+        bodies: &'a ModuleBodies<'a>,
+        image: &'a Image,
+        budget: u32,
+    ) -> Walk<'a>
         requires { InOrder image.now.parts }
-        ensures { result ≡ fresh (log_from (core_of image.now)) budget }
+        ensures { running result ≡ fresh (log_from (core_of bodies.now image.now)) budget }
     {
         Walk {
-            lent: image.parts.as_slice(),
-            own: Vec::new(alloc),
-            is_own: false,
-            links: image.links.as_slice(),
-            own_links: Items::new(alloc),
-            has_links: false,
+            bodies,
+            instances: InstanceMap::lent(alloc, image.parts.as_slice()),
+            links: LinkList::lent(alloc, image.links.as_slice()),
+            log: Log::none(alloc),
             frames: Vec::new(alloc),
             left: budget,
         }
     }
 
     /// Before the first step, with so many units. It takes the image, and changes it in place.
-    pub fn owning(alloc: Global, image: Image, budget: u32) -> Result<Walk<'a>, AllocError>
+    pub fn owning(
+        alloc: Global,
+        bodies: &'a ModuleBodies<'a>,
+        image: Image,
+        budget: u32,
+    ) -> Result<Walk<'a>, AllocError>
         requires { InOrder image.parts }
-        ensures { IfOk result (λ walk. walk ≡ fresh (log_from (core_of image)) budget) }
+        ensures { IfOk result (λ walk. running walk ≡ fresh (log_from (core_of bodies.now image)) budget) }
     {
         let Image { parts, links } = image;
         Ok(Walk {
-            lent: &[],
-            own: into_vec(alloc, parts)?,
-            is_own: true,
-            links: &[],
-            own_links: links,
-            has_links: true,
+            bodies,
+            instances: InstanceMap::owning(alloc, parts)?,
+            links: LinkList::owning(alloc, links)?,
+            log: Log::none(alloc),
             frames: Vec::new(alloc),
             left: budget,
         })
@@ -129,16 +135,10 @@ impl<'a> Walk<'a> {
                 path,
                 variable,
                 way,
-            } => {
-                let parts = shown_parts(self.lent, &self.own, self.is_own);
-                match part_at(parts, path) {
-                    Some(part) => loaded(
-                        alloc,
-                        below(part.vars.items(), *variable, way.as_slice()),
-                    ),
-                    None => Err(Stop::Fault(Fault::NoModule)),
-                }
-            }
+            } => match self.instances.get(path) {
+                Some(part) => loaded(alloc, below(part.vars.items(), *variable, way.as_slice())),
+                None => Err(Stop::Fault(Fault::NoModule)),
+            },
             Place::In {
                 frame,
                 variable,
@@ -155,14 +155,13 @@ impl<'a> Walk<'a> {
     pub fn child(&self, alloc: Global, path: &Path, number: u32) -> Result<Path, Stop>
         ensures { Follows (child_step Logged on_log path.now number) self.now result self.now }
     {
-        let parts = shown_parts(self.lent, &self.own, self.is_own);
-        match part_at(parts, path) {
+        match self.instances.get(path) {
             Some(part) => child_of(alloc, part, number),
             None => Err(Stop::Fault(Fault::NoModule)),
         }
     }
 
-    /// Puts a value at a place, fit or not.
+    /// Puts a value at a place, which it must belong to where that is of an instance.
     pub fn put(&mut self, alloc: Global, place: &Place, value: Value) -> Result<(), Stop>
         ensures { Follows (put Logged on_log place.now value) self.old result self.new }
     {
@@ -194,15 +193,19 @@ impl<'a> Walk<'a> {
     ) -> Result<(), Stop>
         ensures { Follows (put Logged on_log (Of path.now variable way.now) value) self.old result self.new }
     {
-        match find_part(shown_parts(self.lent, &self.own, self.is_own), path) {
-            Some(place) => {
-                own_parts(alloc, self.lent, &mut self.own, self.is_own)?;
-                self.is_own = true;
-                put_in_part(&mut self.own, place, variable, way, value);
-                Ok(())
-            }
-            None => Err(Stop::Fault(Fault::NoModule)),
+        let Some(part) = self.instances.get(path) else {
+            return Err(Stop::Fault(Fault::NoModule));
+        };
+        if !may_store(self.bodies.types(part.body), variable, way, &value) {
+            return Err(Stop::Fault(Fault::Unset));
         }
+        let by = Alteration::Store {
+            variable,
+            way,
+            value,
+        };
+        self.instances.alter(alloc, path, by)?;
+        Ok(())
     }
 
     /// Stores a value, which must fit the type.
@@ -277,48 +280,69 @@ impl<'a> Walk<'a> {
         self.frames = Vec::new(alloc);
     }
 
+    /// The instance with a path.
+    pub fn instance(&self, path: &Path) -> Option<&Part>
+        ensures { option_map instance_of (option_copied result) ≡ maps.get self.now.instances path.now }
+    {
+        self.instances.get(path)
+    }
+
+    /// The links as they are now.
+    pub fn links(&self) -> &[Link]
+        ensures { result.now ≡ self.now.links }
+    {
+        self.links.items()
+    }
+
+    /// Alters the record of an instance, if it is there.
+    pub fn keep(&mut self, alloc: Global, path: &Path, by: Alteration) -> Result<(), AllocError>
+        ensures { OnOk result (self.new ≡ record self.old { instances = changed_in path.now (altered by.entry) self.old.instances }) }
+    {
+        self.instances.alter(alloc, path, by)
+    }
+
+    /// Makes an effect, and logs it.
+    pub fn make(&mut self, alloc: Global, entry: LogEntry) -> Result<(), AllocError>
+        ensures { OnOk result (self.new ≡ after (effect_of entry) self.old) }
+    {
+        self.instances.make(alloc, &entry)?;
+        self.links.make(alloc, &entry)?;
+        self.log.add(entry)
+    }
+
     /// An instance enters a state, if one is said.
     pub fn enter_state(&mut self, alloc: Global, path: &Path, to: Option<u32>) -> Result<(), Stop>
         ensures { (s : Subject) (known : Meanings) → Follows (enter_state Logged on_log s known path.now to) self.old result self.new }
     {
         match to {
-            Some(state) => self.keep_state(alloc, path, state),
-            None => Ok(()),
-        }
-    }
-
-    fn keep_state(&mut self, alloc: Global, path: &Path, state: u32) -> Result<(), Stop>
-        ensures { (s : Subject) (known : Meanings) → Follows (enter_state Logged on_log s known path.now (Some state)) self.old result self.new }
-    {
-        match find_part(shown_parts(self.lent, &self.own, self.is_own), path) {
-            Some(place) => {
-                own_parts(alloc, self.lent, &mut self.own, self.is_own)?;
-                self.is_own = true;
-                set_state(&mut self.own, place, state);
+            Some(state) => {
+                self.keep(alloc, path, Alteration::Enter { state })?;
                 Ok(())
             }
             None => Ok(()),
         }
     }
 
-    /// An image that shows the instances and links as they are now.
-    pub fn into_image(self, alloc: Global) -> Result<Image, AllocError>
-        ensures { IfOk result (λ image. Shows image self.entry.state.image) }
+    /// An image that shows the instances and links as they are now, and all effects, as they are handed on.
+    pub fn into_made(
+        self,
+        alloc: Global,
+        bodies: &ModuleBodies,
+    ) -> Result<(Image, Items<Effect>), AllocError>
+        ensures { IfOk result (λ made. Shows made.0 (running self.entry).state.image × (made.1 ≡ all_logged bodies.now self.entry.log)) }
     {
         let Walk {
-            lent,
-            own,
-            is_own,
+            bodies: _,
+            instances,
             links,
-            own_links,
-            has_links,
+            log,
             frames: _,
             left: _,
         } = self;
-        let parts = kept_parts(alloc, lent, own, is_own)?;
-        Ok(Image {
-            parts: Items::from_vec(parts),
-            links: kept_links(alloc, links, own_links, has_links)?,
-        })
+        let image = Image {
+            parts: instances.into_parts(alloc)?,
+            links: links.into_items(alloc)?,
+        };
+        Ok((image, log.into_effects(alloc, bodies)?))
     }
 }

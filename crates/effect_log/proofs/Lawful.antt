@@ -39,7 +39,7 @@ use Rattle.effect_log.proofs.After.{filed-of, queues-of, queue-found}
 
 -- a link that may stand lies between points that are there
 linked-ends : (s : Subject) (x : Instances) (k : LinkKind) (a b : IpAddr) → MayLinkAs s x k a b → IsIp s x a × IsIp s x b
-linked-ends s x Connection a b h = there-connected s x h.0 a b h.1
+linked-ends s x Connection a b h = there-connected s x h.0 a b h.3
 linked-ends s x Attachment a b h = there-attached s x a b h.2
 
 linked-down : (s : Subject) (x : Instances) (k : LinkKind) (a b : IpAddr) → MayLinkAs s x k a b → is_connection k ≡ false → (n : ℕ) × (b.path ≡ child a.path n)

@@ -1,6 +1,6 @@
 -- An input that was run is none to refuse, and one that is refused has one reason.
 use Rattle.std.proofs.Common.{◌≡◌, ℕ, Bool, true, false, List, length, drop, Option, Some, None, sym, ap, ◌∙◌, subst, refl, arith}
-use Rattle.std.specs.Prelude.{IfSome, IsNone, IsTrue}
+use Rattle.std.specs.Prelude.{IfSome, IsSomeAnd, IsNone, IsTrue}
 use Rattle.std.proofs.lemmas.Bool.Decides.{nat_tests}
 use Rattle.estelle_tree.specs.declared.token.Placed.{Placed}
 use Rattle.estelle_tree.specs.declared.tree.specification.Spec.{Spec}
@@ -19,7 +19,8 @@ use Rattle.estelle_cli.specs.declared.outcome.Refusal.TheVariants.{TooLong, Byte
 use Rattle.estelle_cli.specs.Input.{HasTokens, IsTextOf, Reads, HasNoTokens, HasTextAfterEnd, HasNoTree, BreaksRule, Refuses, Same, place_of}
 use Rattle.pascal_values.specs.declared.fault.Fault.{Fault}
 use Rattle.estelle_cli.specs.declared.task.Task.{Task}
-use Rattle.estelle_cli.specs.declared.task.Task.TheVariants.{Run, Check, Show}
+use Rattle.estelle_cli.specs.declared.task.Task.TheVariants.{Run, Check, Show, Make}
+use Rattle.estelle_cli.specs.Tasks.{ReadsInput}
 use Rattle.estelle_cli.specs.Answers.{IsOutput}
 
 none_some : (r : Option ℕ) (at : ℕ) → IsNone r → r ≡ Some at → ⊥
@@ -104,6 +105,16 @@ one_rule one input n m p q a b =
 pub at_task : (o : Option Task) (task : Task) (P : Task → Type 0) → Some task ≡ o → P task → IfSome o P
 at_task o task P e h = subst (λ (u : Option Task). IfSome u P) e h
 
+-- what the task that is asked for has
+pub of_task : (o : Option Task) (task : Task) (P : Task → Type 0) → Some task ≡ o → IsSomeAnd o P → P task
+of_task o task P e h = subst (λ (u : Option Task). IsSomeAnd u P) (sym e) h
+
+pub none_asked : (o : Option Task) (P : Task → Type 0) → None ≡ o → IsSomeAnd o P → ⊥
+none_asked o P e h = subst (λ (u : Option Task). IsSomeAnd u P) (sym e) h
+
+pub and_task : (o : Option Task) (task : Task) (P : Task → Type 0) → Some task ≡ o → P task → IsSomeAnd o P
+and_task o task P e h = subst (λ (u : Option Task). IsSomeAnd u P) e h
+
 -- ---- one reason
 
 module _ (one : OneTree) (input : List ℕ) where
@@ -165,10 +176,11 @@ module _ (one : OneTree) where
   reads_refused left t reads r input is refuses = read_or_refused r input t (at_some (λ i. Reads i t) left input is reads) refuses
 
   -- an input of which something is written is none to refuse
-  pub output_refused : (task : Task) (left : Option (List ℕ)) (fault : Option Fault) (text : List ℕ) → IsOutput task left fault text → (r : Refusal) (input : List ℕ) → left ≡ Some input → Refuses r input → ⊥
-  output_refused (Run limits) left fault text h = reads_refused left h.2.specification h.2.input
-  output_refused Check left fault text h = reads_refused left h.1.specification h.1.input
-  output_refused Show left fault text h = reads_refused left h.1.specification h.1.input
+  pub output_refused : (task : Task) (left : Option (List ℕ)) (fault : Option Fault) (text : List ℕ) → IsOutput task left fault text → ReadsInput task → (r : Refusal) (input : List ℕ) → left ≡ Some input → Refuses r input → ⊥
+  output_refused (Run limits) left fault text h reads = reads_refused left h.2.specification h.2.input
+  output_refused Check left fault text h reads = reads_refused left h.1.specification h.1.input
+  output_refused Show left fault text h reads = reads_refused left h.1.specification h.1.input
+  output_refused (Make n) left fault text h reads = absurd reads
 
   pub refused_read : (left : Option (List ℕ)) (r : Refusal) (input : List ℕ) (t : Spec) → IfSome left (Refuses r) → left ≡ Some input → Reads input t → ⊥
   refused_read left r input t h is reads = read_or_refused r input t reads (at_some (Refuses r) left input is h)

@@ -7,6 +7,7 @@ use Rattle.outside.specs.Bytes.{AppendsFront}
 use Rattle.pascal_values.specs.declared.fault.Fault.{Fault}
 use Rattle.estelle_tree.specs.declared.tree.specification.Spec.{Spec}
 use Rattle.estelle_printer.specs.Canonical.{IsCanonicalText}
+use Rattle.spec_maker.specs.Ring.{ring, IsRing}
 use Rattle.scope_rules.specs.NameRules.{names_of}
 use Rattle.estelle_model.specs.declared.event.Event.{Event}
 use Rattle.estelle_model.specs.declared.event.End.{End}
@@ -22,12 +23,15 @@ use Rattle.estelle_cli.specs.declared.outcome.Place.{Place}
 use Rattle.estelle_cli.specs.declared.outcome.Refusal.{Refusal}
 use Rattle.estelle_cli.specs.declared.outcome.Refusal.TheVariants.{TooLong, Bytes, TextAfterEnd, Syntax, NotBuilt, Rule}
 use Rattle.estelle_cli.specs.declared.task.Task.{Task}
-use Rattle.estelle_cli.specs.declared.task.Task.TheVariants.{Run, Check, Show}
+use Rattle.estelle_cli.specs.declared.task.Task.TheVariants.{Run, Check, Show, Make}
 use Rattle.estelle_cli.specs.declared.outcome.Outcome.{Outcome}
 use Rattle.estelle_cli.specs.declared.outcome.Outcome.TheVariants as outcome
 use Rattle.estelle_cli.specs.declared.outcome.Status.{Status}
 use Rattle.estelle_cli.specs.declared.outcome.Status.TheVariants as status
-use Rattle.estelle_cli.specs.Input.{Reads, Refuses}
+use Rattle.estelle_cli.specs.declared.outcome.Stop.{Stop}
+use Rattle.estelle_cli.specs.declared.outcome.Stop.TheVariants as stop
+use Rattle.estelle_cli.specs.Tasks.{ReadsInput}
+use Rattle.estelle_cli.specs.Input.{Reads, Refuses, HasStopped}
 
 -- ---- what is written to out
 
@@ -74,11 +78,18 @@ pub record IsShown (left : Option (List ℕ)) (written : List ℕ) : Type 0 wher
   pub input : IfSome left (λ bytes. Reads bytes specification)
   pub canonical : IsCanonicalText specification written
 
--- what a task writes of an input, and the fault with which its run ended, if it did
+-- the text is the canonical one of the ring of so many stations
+pub record IsMade (n : ℕ) (written : List ℕ) : Type 0 where
+  pub specification : Spec
+  pub made : IsRing n specification
+  pub text : written ≡ ring n
+
+-- what a task writes, of an input where it reads one, and the fault with which its run ended, if it did
 abbrev pub IsOutput : Task → Option (List ℕ) → Option Fault → List ℕ → Type 0
 IsOutput (Run limits) left fault written = (e : End) × EndsWith fault e × IsTrace limits left e written
 IsOutput Check left fault written = (fault ≡ None) × IsAccepted left × (written ≡ accepted_line)
 IsOutput Show left fault written = (fault ≡ None) × IsShown left written
+IsOutput (Make n) left fault written = (fault ≡ None) × IsMade n written
 
 -- out has grown by just that
 pub record Writes (task : Task) (left : Option (List ℕ)) (fault : Option Fault) (held held' : Option (List ℕ)) : Type 0 where
@@ -170,6 +181,17 @@ MayRefuse status.WriteFault = ⊥
 MayRefuse status.ClockFault = ⊥
 MayRefuse status.PascalFault = ⊥
 
+-- what comes only of an input
+abbrev pub NeedsInput : Status → Type 0
+NeedsInput status.Refused = Unit {0}
+NeedsInput status.ReadFault = Unit {0}
+NeedsInput status.Done = ⊥
+NeedsInput status.Usage = ⊥
+NeedsInput status.WriteFault = ⊥
+NeedsInput status.ClockFault = ⊥
+NeedsInput status.Memory = ⊥
+NeedsInput status.PascalFault = ⊥
+
 -- what may be answered where nothing fails: the task is done, or memory is wanted
 abbrev pub MayFinish : Status → Type 0
 MayFinish status.Done = Unit {0}
@@ -194,6 +216,11 @@ MayBeUsage status.PascalFault = ⊥
 
 -- ---- inside
 
+-- why a task was not done: without an input that is want of memory alone
+abbrev pub HasFailed : Task → Option (List ℕ) → ℕ → ℕ → Stop → Type 0
+HasFailed (Make n) left before now e = e ≡ stop.Memory
+HasFailed task left before now e = HasStopped left before now e
+
 -- how the writing of an output came out
 abbrev pub Emits : List ℕ → Option Fault → Option (List ℕ) → Option (List ℕ) → ℕ → ℕ → Outcome → Type 0
 Emits written fault held held' faults faults' outcome.Done = (fault ≡ None) × Appends held held' written
@@ -215,13 +242,13 @@ IsRefusedOr refusal outcome.WriteFault = ⊥
 -- why a call ended so: by what the source had left and has, what out held and holds, and their counts
 abbrev pub Explains : Task → Option (List ℕ) → Option (List ℕ) → ℕ → ℕ → Option (List ℕ) → Option (List ℕ) → ℕ → ℕ → Outcome → Type 0
 Explains task left left' reads reads' held held' writes writes' outcome.Done =
-    Writes task left None held held' × IsAtEnd left'
+    Writes task left None held held' × (ReadsInput task → IsAtEnd left')
 Explains task left left' reads reads' held held' writes writes' (outcome.PascalFault kind) =
-    Writes task left (Some kind) held held' × IsAtEnd left'
+    Writes task left (Some kind) held held' × (ReadsInput task → IsAtEnd left')
 Explains task left left' reads reads' held held' writes writes' (outcome.Refused refusal words) =
-    IfSome left (Refuses refusal) × (words ≡ refusal_line refusal) × IsQuiet held held' writes writes'
+    IfSome left (Refuses refusal) × (words ≡ refusal_line refusal) × IsQuiet held held' writes writes' × ReadsInput task
 Explains task left left' reads reads' held held' writes writes' outcome.ReadFault =
-    Rose reads reads' × IsQuiet held held' writes writes'
+    Rose reads reads' × IsQuiet held held' writes writes' × ReadsInput task
 Explains task left left' reads reads' held held' writes writes' outcome.WriteFault =
     Rose writes writes' × WritesPrefix task left held held'
 Explains task left left' reads reads' held held' writes writes' outcome.Memory = IsQuiet held held' writes writes'

@@ -1,12 +1,12 @@
 -- What the words of the command line ask for, as far as it is built.
-use Rattle.std.specs.Prelude.{ℕ, zero, suc, List, Option, Some, None, option_and_then}
+use Rattle.std.specs.Prelude.{ℕ, zero, suc, ◌≤◌, ⊤, List, Option, Some, None, option_and_then}
 use Rattle.estelle_words.specs.Words.{meaning}
 use Rattle.estelle_words.specs.declared.command.Settings.{Settings}
 use Rattle.estelle_words.specs.declared.command.Command.{Command}
 use Rattle.estelle_words.specs.declared.command.Command.TheVariants as command
 use Rattle.plain_world.specs.declared.world.Limits.{Limits}
 use Rattle.estelle_cli.specs.declared.task.Task.{Task}
-use Rattle.estelle_cli.specs.declared.task.Task.TheVariants.{Run, Check, Show}
+use Rattle.estelle_cli.specs.declared.task.Task.TheVariants.{Run, Check, Show, Make}
 
 abbrev pub limits_of : Settings → Limits
 limits_of set = record { turns = set.turns; budget = set.budget }
@@ -22,7 +22,7 @@ task_by command.Run set = run_by set.seed set.workers (limits_of set)
 task_by command.Check set = Some Check
 task_by command.Show set = Some Show
 task_by command.Replay set = None
-task_by command.Make set = None
+task_by command.Make set = Some (Make set.stations)
 task_by command.Trial set = None
 
 -- the task that settings stand for, if it is built
@@ -32,3 +32,17 @@ task_of set = task_by set.command set
 -- what the words ask for, where they have a meaning and it is built
 abbrev pub asked : List (List ℕ) → Option Task
 asked words = option_and_then task_of (meaning words)
+
+-- it is done with the input
+abbrev pub ReadsInput : Task → Type 0
+ReadsInput (Run limits) = ⊤
+ReadsInput Check = ⊤
+ReadsInput Show = ⊤
+ReadsInput (Make n) = ⊥
+
+-- a ring has 2 to 200 stations
+abbrev pub IsInRange : Task → Type 0
+IsInRange (Run limits) = ⊤
+IsInRange Check = ⊤
+IsInRange Show = ⊤
+IsInRange (Make n) = (2 ≤ n) × (n ≤ 200)

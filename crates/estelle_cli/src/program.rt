@@ -1,6 +1,6 @@
 //! The program on one thread.
 
-ghost use Rattle.std.specs.Prelude.{◌≡◌, ◌≢◌, ◌≤◌, ◌+◌, List, ℕ, None, Some, IfSome, IsSome, IsNone, IfOk, OnOk, IfErr};
+ghost use Rattle.std.specs.Prelude.{◌≡◌, ◌≢◌, ◌≤◌, ◌+◌, List, ℕ, None, Some, IfSome, IsSomeAnd, IsNone, IfOk, OnOk, IfErr};
 ghost use Rattle.std.specs.Io.KnownBytes.{IsAtEnd};
 ghost use Rattle.outside.specs.Counts.{Rose};
 ghost use Rattle.pascal_values.specs.declared.fault.Fault.{Fault};
@@ -8,9 +8,10 @@ ghost use Rattle.estelle_tree.specs.declared.tree.specification.Spec.{Spec};
 ghost use Rattle.estelle_words.specs.Words.{texts};
 ghost use Rattle.estelle_cli.specs.declared.outcome.Refusal.{Refusal};
 ghost use Rattle.estelle_cli.specs.declared.task.Task.TheVariants as task;
-ghost use Rattle.estelle_cli.specs.Tasks.{asked};
+ghost use Rattle.estelle_cli.specs.declared.outcome.Stop.TheVariants as stop;
+ghost use Rattle.estelle_cli.specs.Tasks.{asked, ReadsInput, IsInRange};
 ghost use Rattle.estelle_cli.specs.Input.{Reads, Refuses, TakesAtMost, HasStopped, input_limit};
-ghost use Rattle.estelle_cli.specs.Answers.{IsTrace, IsOutput, Writes, WritesPrefix, IsQuiet, Reports, usage_line, refusal_line, read_fault_line, write_fault_line, memory_line, fault_line, IsFinished, HasNoOutput, MayRefuse, MayFinish, MayBeUsage, Emits, IsRefusedOr, Explains};
+ghost use Rattle.estelle_cli.specs.Answers.{IsTrace, IsMade, IsOutput, Writes, WritesPrefix, IsQuiet, Reports, usage_line, refusal_line, read_fault_line, write_fault_line, memory_line, fault_line, IsFinished, HasNoOutput, MayRefuse, MayFinish, MayBeUsage, NeedsInput, HasFailed, Emits, IsRefusedOr, Explains};
 ghost use Rattle.plain_world.specs.Worlds.{IsClockless};
 
 use crate::input::load;
@@ -23,6 +24,7 @@ use estelle_tree::Text;
 use outside::{Clock, Sink, Source, write_all};
 use pascal_values::Fault;
 use plain_world::{Limits, execute};
+use spec_maker::make;
 use std::alloc::Global;
 use trace_text::{put, write};
 
@@ -91,21 +93,36 @@ fn shown<S: Source>(alloc: Global, source: &mut S) -> Result<(Text, Option<Fault
     Ok((text, None))
 }
 
-/// Does the task with the input, and gives what is to be written, with the fault with which a run ended, if it did.
+/// Gives the canonical text of the ring of n stations.
+fn made(alloc: Global, n: u32) -> Result<(Text, Option<Fault>), Stop>
+    requires { IsInRange (task.Make n) }
+    ensures fault { IfOk result (λ x. x.1 ≡ None) }
+    ensures text { IfOk result (λ x. IsMade n x.0) }
+    ensures cause { IfErr result (λ e. e ≡ stop.Memory) }
+{
+    let spec = make(alloc, n)?;
+    let text = spell(alloc, &spec)?;
+    Ok((text, None))
+}
+
+/// Does the task, and gives what is to be written, with the fault with which a run ended, if it did.
 fn output<S: Source>(
     alloc: Global,
     task: Task,
     source: &mut S,
 ) -> Result<(Text, Option<Fault>), Stop>
+    requires { IsInRange task }
     ensures output { IfOk result (λ x. IsOutput task (S.left source.old) x.1 x.0) }
-    ensures end { OnOk result (IsAtEnd (S.left source.new)) }
+    ensures end { OnOk result (ReadsInput task → IsAtEnd (S.left source.new)) }
     ensures stops { TakesAtMost (input_limit + 1) (S.left source.old) (S.left source.new) }
-    ensures cause { IfErr result (HasStopped (S.left source.old) (S.faults source.old) (S.faults source.new)) }
+    ensures idle { (ReadsInput task → ⊥) → source.new ≡ source.old }
+    ensures cause { IfErr result (HasFailed task (S.left source.old) (S.faults source.old) (S.faults source.new)) }
 {
     match task {
         Task::Run(limits) => ran(alloc, limits, source),
         Task::Check => accepted(alloc, source),
         Task::Show => shown(alloc, source),
+        Task::Make(n) => made(alloc, n),
     }
 }
 
@@ -131,11 +148,13 @@ fn refused(alloc: Global, refusal: Refusal) -> Outcome
     }
 }
 
-/// Reads, does the task and writes. The line for err is left to the caller.
+/// Does the task and writes. The line for err is left to the caller.
 fn perform<S: Source, K: Sink>(alloc: Global, task: Task, source: &mut S, out: &mut K) -> Outcome
+    requires { IsInRange task }
     ensures explains { Explains task (S.left source.old) (S.left source.new) (S.faults source.old) (S.faults source.new)
         (K.held out.old) (K.held out.new) (K.faults out.old) (K.faults out.new) result }
     ensures stops { TakesAtMost (input_limit + 1) (S.left source.old) (S.left source.new) }
+    ensures idle { (ReadsInput task → ⊥) → source.new ≡ source.old }
 {
     match output(alloc, task, source) {
         Ok((text, fault)) => emit(out, &text, fault),
@@ -146,8 +165,8 @@ fn perform<S: Source, K: Sink>(alloc: Global, task: Task, source: &mut S, out: &
 }
 
 /// The program on one thread. It does what the words ask for with the specification that the source has left: it runs it and
-/// writes the trace of its run to out, or judges its rules and writes `accepted` or its canonical text. It writes at most one
-/// line to err. It returns on every input.
+/// writes the trace of its run to out, or judges its rules and writes `accepted` or its canonical text. Or it makes a ring, reads
+/// nothing, and writes the ring's canonical text. It writes at most one line to err. It returns on every input.
 pub fn estelle_plain<S: Source, K: Sink, E: Sink, C: Clock>(
     alloc: Global,
     words: &[&str],
@@ -158,7 +177,8 @@ pub fn estelle_plain<S: Source, K: Sink, E: Sink, C: Clock>(
 ) -> (Status, C)
     // Status 0: what was written is what the words ask for. For `run` that is the trace of a run of the specification that the
     // source had left, from its initial situation on, which ended deadlocked or at the limit of firings; for `check` it is the
-    // line `accepted`, and for `show` the canonical text, of a specification that keeps all rules.
+    // line `accepted`, and for `show` the canonical text, of a specification that keeps all rules; for `make` it is the canonical
+    // text of the ring.
     ensures done { result.0 ≡ Status.Done → IfSome (asked (texts words.now))
         (λ task. Writes task (S.left source.old) None (K.held out.old) (K.held out.new)) }
     ensures done_line { result.0 ≡ Status.Done → err.new ≡ err.old }
@@ -167,7 +187,12 @@ pub fn estelle_plain<S: Source, K: Sink, E: Sink, C: Clock>(
     ensures pascal_fault { result.0 ≡ Status.PascalFault → (kind : Fault)
         × IfSome (asked (texts words.now)) (λ task. Writes task (S.left source.old) (Some kind) (K.held out.old) (K.held out.new))
         × Reports (E.held err.old) (E.held err.new) (E.faults err.old) (E.faults err.new) (fault_line kind) }
-    ensures read_whole { IsFinished result.0 → IsAtEnd (S.left source.new) }
+
+    // The input is read to its end, unless the words ask for something without an input: then nothing is read.
+    ensures read_whole { IsFinished result.0
+        → IfSome (asked (texts words.now)) (λ task. ReadsInput task → IsAtEnd (S.left source.new)) }
+    ensures reads_nothing { IsSomeAnd (asked (texts words.now)) (λ task. ReadsInput task → ⊥) → source.new ≡ source.old }
+    ensures needs_input { NeedsInput result.0 → IsSomeAnd (asked (texts words.now)) ReadsInput }
 
     // Status 2: the words ask for nothing that is built, and nothing was read.
     ensures usage { result.0 ≡ Status.Usage → IsNone (asked (texts words.now)) }
@@ -181,8 +206,8 @@ pub fn estelle_plain<S: Source, K: Sink, E: Sink, C: Clock>(
     // input is refused.
     ensures refused { result.0 ≡ Status.Refused → (refusal : Refusal) × IfSome (S.left source.old) (Refuses refusal)
         × Reports (E.held err.old) (E.held err.new) (E.faults err.old) (E.faults err.new) (refusal_line refusal) }
-    ensures refuses { (refusal : Refusal) (input : List ℕ) → IsSome (asked (texts words.now)) → S.left source.old ≡ Some input
-        → Refuses refusal input → MayRefuse result.0 }
+    ensures refuses { (refusal : Refusal) (input : List ℕ) → IsSomeAnd (asked (texts words.now)) ReadsInput
+        → S.left source.old ≡ Some input → Refuses refusal input → MayRefuse result.0 }
 
     // Status 3: the source has failed.
     ensures read_fault { result.0 ≡ Status.ReadFault → Rose (S.faults source.old) (S.faults source.new) }
@@ -204,10 +229,12 @@ pub fn estelle_plain<S: Source, K: Sink, E: Sink, C: Clock>(
     ensures quiet { HasNoOutput result.0 → IsQuiet (K.held out.old) (K.held out.new) (K.faults out.old) (K.faults out.new) }
 
     // Where neither the source nor out fails, the task is done with a specification of the forms that are run which keeps all
-    // rules, unless memory runs out.
-    ensures complete { (input : List ℕ) (t : Spec) → IsSome (asked (texts words.now)) → S.left source.old ≡ Some input
-        → Reads input t → (Rose (S.faults source.old) (S.faults source.new) → ⊥) → (Rose (K.faults out.old) (K.faults out.new) → ⊥)
-        → MayFinish result.0 }
+    // rules, or without an input, unless memory runs out.
+    ensures complete { (input : List ℕ) (t : Spec) → IsSomeAnd (asked (texts words.now)) ReadsInput
+        → S.left source.old ≡ Some input → Reads input t → (Rose (S.faults source.old) (S.faults source.new) → ⊥)
+        → (Rose (K.faults out.old) (K.faults out.new) → ⊥) → MayFinish result.0 }
+    ensures complete_alone { IsSomeAnd (asked (texts words.now)) (λ task. ReadsInput task → ⊥)
+        → (Rose (K.faults out.old) (K.faults out.new) → ⊥) → MayFinish result.0 }
 
     // No more than one byte beyond the limit is read.
     ensures stops { TakesAtMost (input_limit + 1) (S.left source.old) (S.left source.new) }

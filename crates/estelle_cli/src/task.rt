@@ -8,15 +8,17 @@ use estelle_words::{Command, Settings, settings};
 use plain_world::Limits;
 use std::alloc::{AllocError, Global};
 
-/// What is done with the input.
+/// What is done.
 #[derive(Clone, Copy, Debug, PartialEq, Eq)]
 pub enum Task {
-    /// It is run, and the trace of its run is written.
+    /// The input is run, and the trace of its run is written.
     Run(Limits),
-    /// Its rules are judged.
+    /// The rules of the input are judged.
     Check,
-    /// Its rules are judged, and its canonical text is written.
+    /// The rules of the input are judged, and its canonical text is written.
     Show,
+    /// The canonical text of the ring of so many stations is written. No input is read.
+    Make(u32),
 }
 
 /// The task that settings stand for, if it is built.
@@ -33,7 +35,8 @@ fn task_of(settings: Settings) -> Option<Task>
         },
         Command::Check => Some(Task::Check),
         Command::Show => Some(Task::Show),
-        Command::Replay | Command::Make | Command::Trial => None,
+        Command::Make => Some(Task::Make(settings.stations)),
+        Command::Replay | Command::Trial => None,
     }
 }
 

@@ -1,5 +1,5 @@
 -- On two states with the same instances and links, the statements of Estelle do alike, and so do all blocks of all instances.
-use Rattle.std.proofs.Common.{◌≡◌, ℕ, suc, Bool, true, false, ◌||◌, List, [], ◌∷◌, map, Result, Ok, Option, Some, None, refl, sym, ap, subst, ◌∙◌}
+use Rattle.std.proofs.Common.{◌≡◌, ℕ, suc, Bool, true, false, ◌&&◌, ◌||◌, List, [], ◌∷◌, map, Result, Ok, Option, Some, None, refl, sym, ap, subst, ◌∙◌}
 use Rattle.std.specs.Prelude.{slice_get, if◌then◌else◌}
 use Rattle.std.specs.FinMap as fin
 use Rattle.pascal_values.specs.declared.fault.Fault.{Fault}
@@ -23,6 +23,7 @@ use Rattle.estelle_model.specs.declared.meaning.Routine.{Routine}
 use Rattle.estelle_model.specs.declared.meaning.Meaning.{Meaning}
 use Rattle.estelle_model.specs.declared.meaning.Meaning.TheVariants.{Module, Ip, Body}
 use Rattle.estelle_model.specs.Meant.{Meanings}
+use Rattle.estelle_model.specs.Belonging.{are_values_of}
 use Rattle.estelle_model.specs.Places.{held_in, module_variables_of, child_step}
 use Rattle.estelle_model.specs.declared.place.Environment.{Environment}
 use Rattle.estelle_model.specs.declared.place.ActualParameters.{ActualParameters}
@@ -55,6 +56,7 @@ module _ (S T : Type 0) (on : Offers S) (on' : Offers T) (faithful : IsFaithful 
   show_equal = record {
     instances = λ s t e p inside. ap (λ (c : Core). fin.get c.instances p) e;
     held = λ s t e p c k inside is. inside_root c;
+    types = λ s t e. ap (λ (c : Core). c.types) e;
     stored = λ s t e p x way v inside. stored_alike s t e p (Store x way v);
   }
 
@@ -174,7 +176,7 @@ module _ (S T : Type 0) (on : Offers S) (on' : Offers T) (faithful : IsFaithful 
     detach_alike here p = then_same S T EqualCores (Same {A = Unit {0}}) (ip_of S on subject meant here.path (meant p)) (ip_of T on' subject meant here.path (meant p)) (detach_point S on subject meant) (detach_point T on' subject meant) (ip_of_alike here.path (meant p)) detach_point_alike
 
     output_at_alike : (p x : Name) (values : List Value) (a : IpAddr) → DoAlike S T EqualCores (output_at S on subject meant p x values a) (output_at T on' subject meant p x values a)
-    output_at_alike p x values a = needs_alike (λ c. is_sent_at (point subject c.instances a) (meant x)) _ _ (make_alike (effect.Output a p.word x.word values))
+    output_at_alike p x values a = needs_alike (λ c. is_sent_at (point subject c.instances a) (meant x) && are_values_of (types_of (meant x)) values) _ _ (make_alike (effect.Output a p.word x.word values))
 
     output_alike : (here : Environment) (p x : Name) (es : List (Operand S)) (fs : List (Operand T)) → EachAlike (OperandAlike S T on on' [] EqualCores) es fs → DoAlike S T EqualCores (output S on subject meant here p x es) (output T on' subject meant here p x fs)
     output_alike here p x es fs h = then_alike S T EqualCores (GivenAlike []) (Same {A = Unit {0}}) (give_all (map ByValue (types_of (meant x))) es no_arguments) (give_all (map ByValue (types_of (meant x))) fs no_arguments) (λ G. spend >>= λ spent. ip_of S on subject meant here.path (meant p) >>= λ a. output_at S on subject meant p x G.values a) (λ G. spend >>= λ spent. ip_of T on' subject meant here.path (meant p) >>= λ a. output_at T on' subject meant p x G.values a) (give_all_alike S T on on' [] EqualCores (map ByValue (types_of (meant x))) es fs no_arguments h tt) (λ g j gj. then_same S T EqualCores (Same {A = Unit {0}}) (spend) (spend) (λ spent. ip_of S on subject meant here.path (meant p) >>= λ a. output_at S on subject meant p x g.values a) (λ spent. ip_of T on' subject meant here.path (meant p) >>= λ a. output_at T on' subject meant p x j.values a) (spend_alike S T EqualCores) (λ spent. then_same S T EqualCores (Same {A = Unit {0}}) (ip_of S on subject meant here.path (meant p)) (ip_of T on' subject meant here.path (meant p)) (λ a. output_at S on subject meant p x g.values a) (λ a. output_at T on' subject meant p x j.values a) (ip_of_alike here.path (meant p)) (λ a. subst (λ (c : ActualParameters). DoAlike S T EqualCores (output_at S on subject meant p x g.values a) (output_at T on' subject meant p x c.values a)) gj.0 (output_at_alike p x g.values a))))
@@ -201,14 +203,14 @@ module _ (S T : Type 0) (on : Offers S) (on' : Offers T) (faithful : IsFaithful 
     init_alike : (enters : Enters S) (enters' : Enters T) → EntersAlike S T on on' [] EqualCores enters enters' → (here : Environment) (k n : ℕ) (new : Child) (es : List (Operand S)) (fs : List (Operand T)) → EachAlike (OperandAlike S T on on' [] EqualCores) es fs
         → DoAlike S T EqualCores (init S on subject meant enters here k n new es) (init T on' subject meant enters' here k n new fs)
     init_alike enters enters' into here k n new es fs alike =
-        let rest : (G : ActualParameters) → Instance → Do S = λ G i. needs S on subject meant (λ c. may_hold subject i.body k n) >>= λ _. create S on subject meant enters here k new G.values i in
-        let rest' : (G : ActualParameters) → Instance → Do T = λ G i. needs T on' subject meant (λ c. may_hold subject i.body k n) >>= λ _. create T on' subject meant enters' here k new G.values i in
+        let rest : (G : ActualParameters) → Instance → Do S = λ G i. needs S on subject meant (λ c. may_hold subject i.body k n && are_values_of new.parameters G.values) >>= λ _. create S on subject meant enters here k new G.values i in
+        let rest' : (G : ActualParameters) → Instance → Do T = λ G i. needs T on' subject meant (λ c. may_hold subject i.body k n && are_values_of new.parameters G.values) >>= λ _. create T on' subject meant enters' here k new G.values i in
         then_alike S T EqualCores (GivenAlike []) (Same {A = Unit {0}}) (give_all (map ByValue new.parameters) es no_arguments) (give_all (map ByValue new.parameters) fs no_arguments)
         (λ G. read S on subject meant (instance_at here.path) >>= rest G) (λ G. read T on' subject meant (instance_at here.path) >>= rest' G)
         (give_all_alike S T on on' [] EqualCores (map ByValue new.parameters) es fs no_arguments alike tt)
         (λ g j gj. then_same S T EqualCores (Same {A = Unit {0}}) (read S on subject meant (instance_at here.path)) (read T on' subject meant (instance_at here.path)) (rest g) (rest' j) (read_alike (instance_at here.path))
         (λ i. subst (λ (c : ActualParameters). DoAlike S T EqualCores (rest g i) (rest' c i)) gj.0
-        (needs_alike (λ c. may_hold subject i.body k n) (create S on subject meant enters here k new g.values i) (create T on' subject meant enters' here k new g.values i) (create_alike enters enters' into here k new g.values i))))
+        (needs_alike (λ c. may_hold subject i.body k n && are_values_of new.parameters g.values) (create S on subject meant enters here k new g.values i) (create T on' subject meant enters' here k new g.values i) (create_alike enters enters' into here k new g.values i))))
 
     init_of_alike : (enters : Enters S) (enters' : Enters T) → EntersAlike S T on on' [] EqualCores enters enters' → (here : Environment) (x b : Meaning) (es : List (Operand S)) (fs : List (Operand T)) → EachAlike (OperandAlike S T on on' [] EqualCores) es fs
         → DoAlike S T EqualCores (init_of S on subject meant enters here x b es) (init_of T on' subject meant enters' here x b fs)

@@ -1,9 +1,9 @@
 -- Places read and stored alike on two states that show the same of an instance and of those below it.
-use Rattle.std.proofs.Common.{◌≡◌, ℕ, true, List, ◌∷◌, Result, Ok, Option, Some, None, refl, ap, subst}
+use Rattle.std.proofs.Common.{◌≡◌, ℕ, Bool, true, false, List, ◌∷◌, Result, Ok, Err, Option, Some, None, refl, ap, subst, cond}
 use Rattle.std.specs.Prelude.{slice_get, ℤ}
 use Rattle.std.specs.FinMap as map
 use Rattle.pascal_values.specs.declared.fault.Fault.{Fault}
-use Rattle.pascal_values.specs.declared.fault.Fault.TheVariants.{NoModule}
+use Rattle.pascal_values.specs.declared.fault.Fault.TheVariants.{NoModule, Unset}
 use Rattle.pascal_values.specs.declared.value.Value.{Value}
 use Rattle.pascal_values.specs.Values.{into, part_of, changed_at, with_part}
 use Rattle.pascal_values.specs.Shapes.{fit_of}
@@ -12,6 +12,7 @@ use Rattle.estelle_model.specs.Types.{shape_of, host_of, value_in}
 use Rattle.estelle_tree.specs.Paths.{Path, is_inside}
 use Rattle.estelle_model.specs.Core.{Instance}
 use Rattle.estelle_model.specs.Effects.{Store}
+use Rattle.estelle_model.specs.Belonging.{may_store}
 use Rattle.estelle_model.specs.States.{Offers}
 use Rattle.estelle_model.specs.Steps.{Running, checked, checked_at}
 use Rattle.estelle_model.specs.declared.place.Place.{Place}
@@ -39,6 +40,7 @@ deeper_within m (In f x way) k h = h
 pub record ShowAlike (S T : Type 0) (on : Offers S) (on' : Offers T) (m : Path) (R : S → T → Type 0) : Type 0 where
   pub instances : (s : S) (t : T) → R s t → (p : Path) → is_inside m p ≡ true → map.get (on.core s).instances p ≡ map.get (on'.core t).instances p
   pub held : (s : S) (t : T) → R s t → (p c : Path) (k : ℕ) → is_inside m p ≡ true → slice_get (module_variables_of (map.get (on.core s).instances p)) k ≡ Some (Some c) → is_inside m c ≡ true
+  pub types : (s : S) (t : T) → R s t → (on.core s).types ≡ (on'.core t).types
   pub stored : (s : S) (t : T) → R s t → (p : Path) (x : ℕ) (way : List ℕ) (v : Value) → is_inside m p ≡ true → R (on.keeps p (Store x way v) s) (on'.keeps p (Store x way v) t)
 
 module _ (S T : Type 0) (on : Offers S) (on' : Offers T) (m : Path) (R : S → T → Type 0) (show : ShowAlike S T on on' m R) where
@@ -58,7 +60,11 @@ module _ (S T : Type 0) (on : Offers S) (on' : Offers T) (m : Path) (R : S → T
 
   put_at_alike : (o : Option Instance) (p : Path) (x : ℕ) (way : List ℕ) (v : Value) → is_inside m p ≡ true → DoAlike S T R (put_at S on o p x way v) (put_at T on' o p x way v)
   put_at_alike None p x way v h s t r = ap (λ n. (NoModule, n)) r.left
-  put_at_alike (Some i) p x way v h s t r = (refl, record { state = show.stored s.state t.state r.state p x way v h; frames = r.frames; left = r.left })
+  put_at_alike (Some i) p x way v h s t r = subst (λ (types : ℕ → List Denoter). OutcomeAlike S T R (Same {A = Unit {0}}) (put_at S on (Some i) p x way v s) (cond (may_store (types i.body) x way v) (Ok (tt, record t { state = on'.keeps p (Store x way v) t.state })) (Err (Unset, t.left)))) (show.types s.state t.state r.state) (by (may_store ((on.core s.state).types i.body) x way v))
+    where
+      by : (b : Bool) → OutcomeAlike S T R (Same {A = Unit {0}}) (cond b (Ok (tt, record s { state = on.keeps p (Store x way v) s.state })) (Err (Unset, s.left))) (cond b (Ok (tt, record t { state = on'.keeps p (Store x way v) t.state })) (Err (Unset, t.left)))
+      by true = (refl, record { state = show.stored s.state t.state r.state p x way v h; frames = r.frames; left = r.left })
+      by false = ap (λ n. (Unset, n)) r.left
 
   put_same : (a : Place) (v : Value) → IsWithin m a → DoAlike S T R (put S on a v) (put T on' a v)
   unfolding put

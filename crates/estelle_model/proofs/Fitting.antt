@@ -1,12 +1,13 @@
 -- Which values fit the types of the examples.
-use Rattle.std.proofs.Common.{◌≡◌, ℤ, Ok, Err, ◌∙◌}
+use Rattle.std.proofs.Common.{◌≡◌, Bool, ℤ, Ok, Err, ap, ◌∙◌}
 use Rattle.std.specs.Prelude.{if◌then◌else◌}
 use Rattle.pascal_values.specs.declared.fault.Fault.TheVariants as fault
+use Rattle.pascal_values.specs.declared.value.Value.{Value, out-Value}
 use Rattle.pascal_values.specs.declared.value.Value.TheVariants as pascal
 use Rattle.pascal_values.specs.declared.value.Value.TheVariants.{outs-Int}
 use Rattle.pascal_values.specs.declared.value.Shape.TheVariants as shape
 use Rattle.pascal_values.specs.declared.value.Shape.TheVariants.{outs-Int as outs-IntShape}
-use Rattle.pascal_values.specs.declared.value.Shape.{Shape}
+use Rattle.pascal_values.specs.declared.value.Shape.{Shape, out-Shape, map-Shape, fold_out-Shape}
 use Rattle.pascal_values.specs.Integers.{is_between}
 use Rattle.pascal_values.specs.Shapes.{is_within, fit_of, blank_of}
 use Rattle.pascal_values.proofs.ShapeLemmas.{within_out, blank_out}
@@ -15,6 +16,7 @@ use Rattle.estelle_model.specs.declared.denoter.Host.TheVariants as host
 use Rattle.estelle_model.specs.declared.denoter.Denoter.{fold_out-Denoter}
 use Rattle.estelle_model.specs.declared.denoter.Denoter.TheVariants as denoter
 use Rattle.estelle_model.specs.declared.denoter.Denoter.TheVariants.{outs-Ordinal}
+use Rattle.estelle_model.specs.Belonging.{belongs, belongs_at, belongs_step}
 use Rattle.estelle_model.specs.Types.{shape_of, shape_step, ordinal_shape}
 
 pub shape_ordinal : (h : Host) (low high : ℤ) → shape_of (denoter.Ordinal h low high) ≡ ordinal_shape h low high
@@ -23,6 +25,14 @@ shape_ordinal h low high = fold_out-Denoter Shape shape_step (denoter.Ordinal h 
 
 pub within_int : (low high n : ℤ) → is_within (shape.Int low high) (pascal.Int n) ≡ is_between low high n
 within_int low high n = within_out (shape.Int low high) (pascal.Int n) ∙ simp (outs-IntShape, outs-Int)
+
+-- what belongs to a shape, one layer of it at a time
+pub belongs_out : (s : Shape) (v : Value) → belongs s v ≡ belongs_at (map-Shape Shape (Value → Bool) belongs (out-Shape s)) (out-Value v)
+unfolding belongs
+belongs_out s v = ap (λ (f : Value → Bool). f v) (fold_out-Shape (Value → Bool) belongs_step s)
+
+pub belongs_int : (low high n : ℤ) → belongs (shape.Int low high) (pascal.Int n) ≡ is_between low high n
+belongs_int low high n = belongs_out (shape.Int low high) (pascal.Int n) ∙ simp (outs-IntShape, outs-Int)
 
 -- a number fits a subrange of integer where it lies between the bounds
 pub fit_int : (low high n : ℤ) → fit_of (shape_of (denoter.Ordinal host.Integer low high)) (pascal.Int n) ≡ (if is_between low high n then Ok tt else Err fault.Range)

@@ -10,9 +10,10 @@ pub mod AlikeStatements
 pub mod AlikeCalls
 pub mod AlikeActions
 pub mod AlikeFirings
--- ---- maps of instances, and private parts
+-- ---- maps of instances, pairs, and private parts
 pub mod Members
 pub mod Maps
+pub mod Pairs
 pub mod PrivateParts
 -- ---- loops, units and frames
 pub mod LoopLaws
@@ -21,7 +22,6 @@ pub mod UnitsOfExpressions
 pub mod UnitsOfBlocks
 pub mod UnitsOfActions
 pub mod FrameLemmas
-pub mod Pairs
 -- ---- examples
 pub mod Trees
 pub mod Forms

@@ -22,15 +22,15 @@ abbrev pub or_else : {A : Type 0} → Option A → Option A → Option A
 or_else None o = o
 or_else (Some a) o = Some a
 
-left_of : (a b : Bool) → T (a && b) → T a
+pub left_of : (a b : Bool) → T (a && b) → T a
 left_of true b h = tt
 left_of false b h = h
 
-right_of : (a b : Bool) → T (a && b) → T b
+pub right_of : (a b : Bool) → T (a && b) → T b
 right_of true b h = h
 right_of false b h = absurd h
 
-not_equal : (o : Ordering) → T (is_lt o) → is_eq o ≡ false
+pub not_equal : (o : Ordering) → T (is_lt o) → is_eq o ≡ false
 not_equal Less h = refl
 not_equal Equal h = absurd h
 not_equal Greater h = absurd h

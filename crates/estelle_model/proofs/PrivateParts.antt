@@ -3,9 +3,6 @@ use Rattle.std.proofs.Common.{◌≡◌, ℕ, ◌-◌, Bool, true, false, List, 
 use Rattle.std.specs.Prelude.{◌&&◌, ◌||◌, not, fold, filter, option_map, slice_get, nat_eq}
 use Rattle.std.specs.FinMap as map
 use Rattle.std.specs.Ordering.{eq_by_cmp}
-use Rattle.std.specs.Cmp.{IsTotalOrder}
-use Rattle.std.specs.Cmp.Lexicographic.{nat_list_cmp_total}
-use Rattle.std.proofs.lemmas.Cmp.{nat_cmp_total, then_total}
 use Rattle.estelle_tree.specs.declared.link.Link.{Link}
 use Rattle.estelle_tree.specs.declared.link.IpAddr.{IpAddr}
 use Rattle.estelle_tree.specs.declared.transition.Pair.{Pair}
@@ -20,6 +17,7 @@ use Rattle.estelle_model.specs.Subject.{Subject, ips_of}
 use Rattle.estelle_model.specs.InteractionPoints.{point_of, internal_at}
 use Rattle.estelle_model.specs.Jobs.{part_of_entry, insert_part, is_internal, is_below_or_own, is_private, private, Shows, outline_of_parts}
 use Rattle.estelle_model.specs.Computed.{core_of}
+use Rattle.estelle_model.proofs.Pairs.{pairs_total}
 use Rattle.estelle_model.proofs.Maps.{total, apart, equal_of, or_else, get_inserted, told}
 
 -- ---- paths
@@ -65,7 +63,7 @@ told_parts (e ∷ es) = ap (λ more. (e.0, (e.1.body, e.1.births)) ∷ more) (to
 pub get_inside : (x : Instances) (m q : Path) → map.get (map.retain_keys x (is_inside m)) q ≡ cond (is_inside m q) (map.get x q) None
 get_inside x m q = map.get-retain_keys x (is_inside m) q (λ p e. ap (is_inside m) (sym (apart q p e)))
 
-pub core_private : (s : Subject) (c : Core) (m : Path) (image : Image) → Shows image (private s c m) → (core_of image).instances ≡ map.retain_keys c.instances (is_inside m)
+pub core_private : (s : Subject) (c : Core) (m : Path) (image : Image) → Shows image (private s c m) → (core_of s image).instances ≡ map.retain_keys c.instances (is_inside m)
 core_private s c m image shows =
     let x : Instances = map.retain_keys c.instances (is_inside m) in
     ap (λ (ps : List Part). fold insert_part map.empty ps) shows.parts
@@ -114,20 +112,6 @@ module _ (s : Subject) (x y : Instances) (m : Path) (same : body_of (map.get x m
   privates_same ls = λ i. filter (λ l. private_same l i) ls
 
 -- ---- timers
-
-by_path : IsTotalOrder (λ (a b : Pair). path_cmp a.path b.path)
-by_path = record {
-  antisymm = λ a b. nat_list_cmp_total.antisymm a.path b.path;
-  trans = λ a b c. nat_list_cmp_total.trans a.path b.path c.path;
-  congr = λ a b c. nat_list_cmp_total.congr a.path b.path c.path;
-}
-
-pub pairs_total : IsTotalOrder pair_cmp
-pairs_total = then_total by_path (record {
-  antisymm = λ a b. nat_cmp_total.antisymm a.trans b.trans;
-  trans = λ a b c. nat_cmp_total.trans a.trans b.trans c.trans;
-  congr = λ a b c. nat_cmp_total.congr a.trans b.trans c.trans;
-})
 
 none_less : (b : Bool) (n : ℕ) → n ≡ 0 → cond b (n - 1) n ≡ 0
 none_less true n e = omega arith

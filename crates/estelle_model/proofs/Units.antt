@@ -16,6 +16,8 @@ use Rattle.estelle_model.specs.declared.denoter.Denoter.{Denoter}
 use Rattle.estelle_model.specs.Types.{ordinal_of, shape_of, host_of, value_in}
 use Rattle.estelle_model.specs.Operators.{bool_of, plus, minus, times, divided, modulo, one_member, members_from}
 use Rattle.estelle_model.specs.Core.{Instance}
+use Rattle.estelle_model.specs.Effects.{Store}
+use Rattle.estelle_model.specs.Belonging.{may_store}
 use Rattle.estelle_model.specs.States.{Offers}
 use Rattle.estelle_model.specs.Steps.{Outcome, Step, Do, and_then, ◌>>=◌, ◌>>◌, pure, fail, checked, all, spend}
 use Rattle.estelle_model.specs.declared.meaning.Routine.{Routine}
@@ -158,9 +160,13 @@ module _ (S : Type 0) (on : Offers S) where
   unfolding put
   put_never (Of p x way) v s = by (fin.get (on.core s.state).instances p)
     where
+      kept : (i : Instance) (b : Bool) → AtMost s.left (cond b (Ok (tt {0}, record s { state = on.keeps p (Store x way v) s.state })) (Err (Unset, s.left)))
+      kept i true = omega arith
+      kept i false = tt
+
       by : (o : Option Instance) → AtMost s.left (put_at S on o p x way v s)
       by None = tt
-      by (Some i) = omega arith
+      by (Some i) = kept i (may_store ((on.core s.state).types i.body) x way v)
   put_never (In f x way) v s = omega arith
 
   pub store_never : (d : Denoter) (a : Place) (v : Value) → NeverRaises (store S on d a v)

@@ -1,5 +1,5 @@
 -- No statement of Estelle gives units back, and so no block does.
-use Rattle.std.proofs.Common.{ℕ, suc, Bool, true, false, ◌||◌, List, [], ◌∷◌, map, Result, Ok, Option, Some, None, arith, cond}
+use Rattle.std.proofs.Common.{ℕ, suc, Bool, true, false, ◌&&◌, ◌||◌, List, [], ◌∷◌, map, Result, Ok, Option, Some, None, arith, cond}
 use Rattle.std.specs.Prelude.{slice_get, if◌then◌else◌}
 use Rattle.pascal_values.specs.declared.fault.Fault.{Fault}
 use Rattle.pascal_values.specs.declared.fault.Fault.TheVariants as fault
@@ -21,6 +21,7 @@ use Rattle.estelle_model.specs.declared.meaning.Routine.{Routine}
 use Rattle.estelle_model.specs.declared.meaning.Meaning.{Meaning}
 use Rattle.estelle_model.specs.declared.meaning.Meaning.TheVariants.{Module, Ip, Body}
 use Rattle.estelle_model.specs.Meant.{Meanings}
+use Rattle.estelle_model.specs.Belonging.{are_values_of}
 use Rattle.estelle_model.specs.Places.{child_step}
 use Rattle.estelle_model.specs.declared.place.Environment.{Environment}
 use Rattle.estelle_model.specs.declared.place.ActualParameters.{ActualParameters}
@@ -128,7 +129,7 @@ module _ (S : Type 0) (on : Offers S) (subject : Subject) (meant : Meanings) whe
   detach_never here p = then_never S IpAddr (Unit {0}) (ip_of S on subject meant here.path (meant p)) (detach_point S on subject meant) (ip_of_never here.path (meant p)) detach_point_never
 
   output_at_never : (p x : Name) (values : List Value) (a : IpAddr) → NeverRaises (output_at S on subject meant p x values a)
-  output_at_never p x values a = needs_never (λ c. is_sent_at (point subject c.instances a) (meant x)) _ (make_never (effect.Output a p.word x.word values))
+  output_at_never p x values a = needs_never (λ c. is_sent_at (point subject c.instances a) (meant x) && are_values_of (types_of (meant x)) values) _ (make_never (effect.Output a p.word x.word values))
 
   output_never : (here : Environment) (p x : Name) (es : List (Operand S)) → Each (OperandNever S) es → NeverRaises (output S on subject meant here p x es)
   output_never here p x es h = then_never S ActualParameters (Unit {0}) (give_all (map ByValue (types_of (meant x))) es no_arguments) (λ g. spend >>= λ spent. ip_of S on subject meant here.path (meant p) >>= λ a. output_at S on subject meant p x g.values a) (give_all_never S (map ByValue (types_of (meant x))) es no_arguments h)
@@ -154,10 +155,10 @@ module _ (S : Type 0) (on : Offers S) (subject : Subject) (meant : Meanings) whe
 
   init_never : (enters : Enters S) → EntersNever S enters → (here : Environment) (k n : ℕ) (new : Child) (es : List (Operand S)) → Each (OperandNever S) es → NeverRaises (init S on subject meant enters here k n new es)
   init_never enters into here k n new es h =
-      let rest : ActualParameters → Instance → Do S = λ g i. needs S on subject meant (λ c. may_hold subject i.body k n) >>= λ _. create S on subject meant enters here k new g.values i in
+      let rest : ActualParameters → Instance → Do S = λ g i. needs S on subject meant (λ c. may_hold subject i.body k n && are_values_of new.parameters g.values) >>= λ _. create S on subject meant enters here k new g.values i in
       then_never S ActualParameters (Unit {0}) (give_all (map ByValue new.parameters) es no_arguments) (λ g. read S on subject meant (instance_at here.path) >>= rest g) (give_all_never S (map ByValue new.parameters) es no_arguments h)
       (λ g. then_never S Instance (Unit {0}) (read S on subject meant (instance_at here.path)) (rest g) (read_never Instance (instance_at here.path))
-      (λ i. needs_never (λ c. may_hold subject i.body k n) (create S on subject meant enters here k new g.values i) (create_never enters into here k new g.values i)))
+      (λ i. needs_never (λ c. may_hold subject i.body k n && are_values_of new.parameters g.values) (create S on subject meant enters here k new g.values i) (create_never enters into here k new g.values i)))
 
   init_of_never : (enters : Enters S) → EntersNever S enters → (here : Environment) (x b : Meaning) (es : List (Operand S)) → Each (OperandNever S) es → NeverRaises (init_of S on subject meant enters here x b es)
   init_of_never enters into here (Module k) (Body n) es h = init_never enters into here k n (child_of subject n) es h

@@ -32,7 +32,7 @@ use Rattle.estelle_model.specs.Transitions.{Transition, flat_one}
 use Rattle.estelle_model.specs.Subject.{Subject}
 use Rattle.estelle_model.specs.Clauses.{fire_step, guard_step}
 use Rattle.estelle_model.proofs.Trees as tree
-use Rattle.estelle_model.proofs.Fitting.{shape_ordinal, within_int}
+use Rattle.estelle_model.proofs.Fitting.{shape_ordinal, within_int, belongs_int}
 use Rattle.estelle_model.proofs.Points.{sequence_at, assignment_at, relation_at, sum_at, named_factor_at, number_factor_at}
 use Rattle.estelle_model.proofs.WorkedNames.{used}
 
@@ -102,10 +102,10 @@ module _ (S : Type 0) (on : Offers S) (spec : Spec) (is : bodies spec ≡ counte
   guard_faults v = simp (is, relation_at, named_factor_at, there, v, outs-Unset)
 
   -- it fires: n becomes 3, and the state is go
-  pub fired : i.variables ≡ pascal.Int (pos 2) ∷ [] → fire_step S on subject [] tick [] (fresh st 10)
+  pub fired : i.variables ≡ pascal.Int (pos 2) ∷ [] → (on.core st).types i.body ≡ whole host.Integer ∷ [] → fire_step S on subject [] tick [] (fresh st 10)
       ≡ Ok (tt, record { state = on.keeps [] (Enter 0) (on.keeps [] (Store 0 [] (pascal.Int (pos 3))) st); frames = []; left = 10 })
   unfolding block_step leave load store put plus
-  fired v = simp (is, sequence_at, assignment_at, sum_at, named_factor_at, number_factor_at, there, v, shape_ordinal, within_int, outs-Int)
+  fired v declares = simp (is, sequence_at, assignment_at, sum_at, named_factor_at, number_factor_at, there, v, declares, shape_ordinal, within_int, belongs_int, outs-Int)
 
   -- n := n + 1 with n = maxint
   pub firing_faults : i.variables ≡ pascal.Int (pos 9223372036854775807) ∷ [] → fire_step S on subject [] tick [] (fresh st 10) ≡ Err (fault.Overflow, 10)

@@ -10,7 +10,7 @@ use Rattle.estelle_model.specs.Effects.{Effect, Disconnect, Attach, Detach, Remo
 use Rattle.estelle_model.specs.States.{Logged, on_log}
 use Rattle.estelle_model.specs.Steps.{Running}
 use Rattle.estelle_model.specs.Meant.{Meanings}
-use Rattle.estelle_model.specs.Subject.{Subject, child_of}
+use Rattle.estelle_model.specs.Subject.{Subject, types_of_variables, child_of}
 use Rattle.estelle_model.specs.InteractionPoints.{point, external_at, may_attach}
 use Rattle.estelle_model.specs.Actions.{attach_points, detach_point, release_child}
 use Rattle.estelle_model.specs.Situation.{Situation, Acting, mail_after, outs_after, drops_after, acting_after}
@@ -20,7 +20,7 @@ use Rattle.estelle_model.proofs.WorkedLinks.{waits, o, p, q, r, t, connected, at
 module _ (subject : Subject) (meant : Meanings) (instances : Instances) (left : ℕ) where
   -- the instances and these links, with these effects so far
   abbrev logged : Instances → List Link → List Effect → Running Logged
-  logged is links log = record { state = record { image = record { instances = is; links = links }; log = log }; frames = []; left = left }
+  logged is links log = record { state = record { image = record { instances = is; links = links; types = types_of_variables subject }; log = log }; frames = []; left = left }
 
   pub attaches : may_attach subject instances p q ≡ true → attach_points Logged on_log subject meant p q (logged instances connected []) ≡ Ok (tt, logged instances attached (Attach p q ∷ []))
   unfolding links_after instances_after

@@ -25,6 +25,7 @@ use Rattle.estelle_model.specs.declared.meaning.InteractionPoint.{InteractionPoi
 use Rattle.estelle_model.specs.Subject.{Subject, Child, body, headers_of, child_of}
 use Rattle.estelle_model.specs.Attributes.{allows, attribute, may_have_transitions}
 use Rattle.estelle_model.specs.InteractionPoints.{point, sent_at, connectable_at, external_at, may_connect, may_attach}
+use Rattle.estelle_model.specs.Belonging.{are_values_of}
 use Rattle.estelle_model.specs.Places.{child_step}
 use Rattle.estelle_model.specs.declared.place.Environment.{Environment}
 use Rattle.estelle_model.specs.Expressions.{Operand, give_all, no_arguments}
@@ -217,7 +218,7 @@ module _ (S : Type 0) (on : Offers S) (subject : Subject) (meant : Meanings) whe
 
   abbrev pub output_at : Name → Name → List Value → IpAddr → Do S
   output_at p m values a = do
-    allowed ← needs (λ c. is_sent_at (point subject c.instances a) (meant m))
+    allowed ← needs (λ c. is_sent_at (point subject c.instances a) (meant m) && are_values_of (types_of (meant m)) values)
     make (effect.Output a p.word m.word values)
 
   -- the arguments, then the unit
@@ -246,7 +247,7 @@ module _ (S : Type 0) (on : Offers S) (subject : Subject) (meant : Meanings) whe
   init enters here m k new es = do
     given ← give_all (map ByValue new.parameters) es no_arguments
     i ← read (instance_at here.path)
-    allowed ← needs (λ c. may_hold subject i.body m k)
+    allowed ← needs (λ c. may_hold subject i.body m k && are_values_of new.parameters given.values)
     create enters here m new given.values i
 
   abbrev pub init_of : Enters S → Environment → Meaning → Meaning → List (Operand S) → Do S

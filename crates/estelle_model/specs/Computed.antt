@@ -12,14 +12,14 @@ use Rattle.estelle_model.specs.States.{Logged, on_log}
 use Rattle.estelle_model.specs.Steps as step
 use Rattle.estelle_model.specs.Blocks.{fresh}
 use Rattle.estelle_model.specs.Transitions.{Transition}
-use Rattle.estelle_model.specs.Subject.{Subject}
+use Rattle.estelle_model.specs.Subject.{Subject, types_of_variables}
 use Rattle.estelle_model.specs.Clauses.{fire_step, start_step}
 use Rattle.estelle_model.specs.Firing.{transition_at, bare}
 use Rattle.estelle_model.specs.Jobs.{Shows, insert_part, all_logged}
 
 -- the instances and links that an image shows
-abbrev pub core_of : Image → Core
-core_of image = record { instances = fold insert_part map.empty image.parts; links = image.links }
+abbrev pub core_of : Subject → Image → Core
+core_of s image = record { instances = fold insert_part map.empty image.parts; links = image.links; types = types_of_variables s }
 
 -- a log that begins with these instances and links
 abbrev pub log_from : Core → Logged
@@ -36,7 +36,7 @@ start_run s budget = start_step Logged on_log s (fresh (log_from (bare s).core) 
 
 -- the transition of a job on a log
 abbrev pub job_run : Subject → Job → Transition → step.Outcome Logged (Unit {0})
-job_run s job t = fire_step Logged on_log s job.path t (values_of job.head) (fresh (log_from (core_of job.image)) job.budget)
+job_run s job t = fire_step Logged on_log s job.path t (values_of job.head) (fresh (log_from (core_of s job.image)) job.budget)
 
 -- the outcome is what a run on the log came to: its image, and all its effects
 abbrev pub IsMadeBy : Subject → step.Outcome Logged (Unit {0}) → Outcome → ℕ → Type 0
@@ -52,4 +52,4 @@ IsOfTransition s job (Some t) outcome left = IsMadeBy s (job_run s job t) outcom
 -- the outcome of the job with a transition's number is computed on a log; transition 0 is the initialization of the specification
 abbrev pub IsComputedOf : Subject → Job → ℕ → Outcome → ℕ → Type 0
 IsComputedOf s job zero outcome left = IsMadeBy s (start_run s job.budget) outcome left
-IsComputedOf s job (suc n) outcome left = IsOfTransition s job (transition_at s job.trans (map.get (core_of job.image).instances job.path)) outcome left
+IsComputedOf s job (suc n) outcome left = IsOfTransition s job (transition_at s job.trans (map.get (core_of s job.image).instances job.path)) outcome left

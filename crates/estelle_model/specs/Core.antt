@@ -1,8 +1,9 @@
--- What a block can read of the situation: the instances and the links.
+-- What a block can read of the situation: the instances, the links, and the types of the variables of each body.
 use Rattle.std.specs.Prelude.{ℕ, List, Option}
 use Rattle.std.specs.FinMap as map
 use Rattle.pascal_values.specs.declared.value.Value.{Value}
 use Rattle.estelle_tree.specs.declared.link.Link.{Link}
+use Rattle.estelle_model.specs.declared.denoter.Denoter.{Denoter}
 use Rattle.estelle_tree.specs.Paths.{Path, path_cmp}
 
 -- an instance of a module; a module variable is empty or holds a child
@@ -21,3 +22,5 @@ Instances = map.FinMap path_cmp Instance
 pub record Core : Type 0 where
   pub instances : Instances
   pub links : List Link
+  -- the types of the variables of an instance, by the number of its body
+  pub types : ℕ → List Denoter

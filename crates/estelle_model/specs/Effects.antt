@@ -61,7 +61,7 @@ links_after (Remove p k) links = filter (λ l. not (touches (child p k) l)) link
 links_after _ links = links
 
 abbrev pub core_after : Effect → Core → Core
-core_after e c = record { instances = instances_after e c.instances; links = links_after e c.links }
+core_after e c = record c { instances = instances_after e c.instances; links = links_after e c.links }
 
 abbrev pub core_kept : Path → Change → Core → Core
 core_kept p change c = record c { instances = changed_in p (changed change) c.instances }

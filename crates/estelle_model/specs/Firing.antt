@@ -12,7 +12,7 @@ use Rattle.estelle_model.specs.Core.{Instance}
 use Rattle.estelle_model.specs.Steps.{Outcome}
 use Rattle.estelle_model.specs.Blocks.{fresh}
 use Rattle.estelle_model.specs.Transitions.{Transition, When}
-use Rattle.estelle_model.specs.Subject.{Subject, body, transition, new_instance}
+use Rattle.estelle_model.specs.Subject.{Subject, body, transition, types_of_variables, new_instance}
 use Rattle.estelle_model.specs.Situation.{Situation, Acting, on_situation}
 use Rattle.estelle_model.specs.Queues.{Found, NotNeeded, Head, Absent, found, is_named, received, without_head}
 use Rattle.estelle_model.specs.Clauses.{fire_step, start_step, guard_step, answered}
@@ -79,7 +79,7 @@ alone (Some i) = map.insert map.empty [] i
 -- that instance alone, with nothing linked, waiting or selected
 abbrev pub bare : Subject → Situation
 bare s = record {
-  core = record { instances = alone (root s); links = [] };
+  core = record { instances = alone (root s); links = []; types = types_of_variables s };
   mail = [];
   made = 0;
   timers = map.empty;

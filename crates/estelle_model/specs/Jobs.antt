@@ -18,7 +18,7 @@ use Rattle.estelle_model.specs.declared.meaning.InteractionPoint.{InteractionPoi
 use Rattle.estelle_model.specs.Core.{Instance, Instances, Core}
 use Rattle.estelle_model.specs.Effects.{Effect, Output, Connect, Disconnect, Attach, Detach, Create, Remove}
 use Rattle.estelle_model.specs.Transitions.{Transition}
-use Rattle.estelle_model.specs.Subject.{Subject, ips_of}
+use Rattle.estelle_model.specs.Subject.{Subject, types_of_variables, ips_of}
 use Rattle.estelle_model.specs.InteractionPoints.{point, internal_at, may_connect, may_attach}
 use Rattle.estelle_model.specs.Actions.{is_bound, is_connected, is_upper, at, count_from}
 use Rattle.estelle_model.specs.Situation.{Situation, Acting, acting_after}
@@ -49,7 +49,7 @@ is_private s instances m l = if is_connection l.kind then is_below_or_own s inst
 
 -- the instances at and below m, with the links that they made
 abbrev pub private : Subject → Core → Path → Core
-private s c m = record { instances = map.retain_keys c.instances (is_inside m); links = filter (is_private s c.instances m) c.links }
+private s c m = record c { instances = map.retain_keys c.instances (is_inside m); links = filter (is_private s c.instances m) c.links }
 
 -- an image shows just these instances, in path order, and these links, in any order
 pub record Shows (image : Image) (c : Core) : Type 0 where
@@ -58,6 +58,8 @@ pub record Shows (image : Image) (c : Core) : Type 0 where
 
 -- what holds in each legal situation, and lets an instance act on its private part alone
 pub record MayActAlone (s : Subject) (c : Core) (m : Path) : Type 0 where
+  -- the variables of each body have the types that are declared
+  pub types : c.types ≡ types_of_variables s
   -- its module variables, and those of the instances below it, hold children
   pub children : (p : Path) (i : Instance) (v : ℕ) (held : Path) → is_inside m p ≡ true → map.get c.instances p ≡ Some i → slice_get i.module_variables v ≡ Some (Some held) → (k : ℕ) × (held ≡ child p k)
   -- an attachment whose lower end is below it, or an internal interaction point of its own, has its upper end at or below it

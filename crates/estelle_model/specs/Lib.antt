@@ -4,6 +4,7 @@ pub mod Effects
 pub mod States
 -- ---- types, values and operators
 pub mod Types
+pub mod Belonging
 pub mod Operators
 -- ---- what names mean
 pub mod Meant
@@ -30,9 +31,9 @@ pub mod Clauses
 pub mod Situation
 pub mod Queues
 pub mod Firing
-pub mod Legal
 pub mod Jobs
 pub mod Computed
+pub mod Asked
 -- ---- runs
 pub mod Delays
 pub mod Selection

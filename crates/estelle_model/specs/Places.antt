@@ -11,6 +11,7 @@ use Rattle.estelle_model.specs.Types.{shape_of, host_of, value_in}
 use Rattle.estelle_tree.specs.Paths.{Path}
 use Rattle.estelle_model.specs.Core.{Instance}
 use Rattle.estelle_model.specs.Effects.{Store}
+use Rattle.estelle_model.specs.Belonging.{may_store}
 use Rattle.estelle_model.specs.States.{Offers}
 use Rattle.estelle_model.specs.Steps.{Running, Step, Do, ◌>>=◌, ◌>>◌, checked, checked_at}
 use Rattle.estelle_model.specs.declared.place.Place.{Place}
@@ -54,9 +55,9 @@ module _ (S : Type 0) (on : Offers S) where
 
   abbrev pub put_at : Option Instance → Path → ℕ → List ℕ → Value → Do S
   put_at None p x way v = λ s. Err (NoModule, s.left)
-  put_at (Some i) p x way v = λ s. Ok (tt, record s { state = on.keeps p (Store x way v) s.state })
+  put_at (Some i) p x way v = λ s. if may_store ((on.core s.state).types i.body) x way v then Ok (tt, record s { state = on.keeps p (Store x way v) s.state }) else Err (Unset, s.left)
 
-  -- puts a value at a place, fit or not
+  -- puts a value at a place. In a variable of an instance it must belong there: else Unset, as where the name is of another body; an accepted specification has no such name.
   unfoldable pub put : Place → Value → Do S
   put (Of p x way) v = λ s. put_at (map.get (on.core s.state).instances p) p x way v s
   put (In f x way) v = λ s. Ok (tt, record s { frames = changed_at s.frames f (λ frame. with_part frame (x ∷ way) v) })

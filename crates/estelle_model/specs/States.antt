@@ -6,7 +6,7 @@ use Rattle.estelle_model.specs.Effects.{Effect, Change, core_after, core_kept}
 
 -- what a state offers to blocks
 pub record Offers (S : Type 0) : Type 0 where
-  -- the instances and links that a block reads
+  -- the instances, links and types that a block reads
   pub core : S → Core
   -- an effect is made
   pub does : Effect → S → S

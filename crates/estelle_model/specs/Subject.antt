@@ -141,6 +141,10 @@ no_body = record { name = None; header = None; brought = []; init = None; trans 
 abbrev pub child_of : Subject → ℕ → Child
 child_of s k = child_by s k (unwrap_or (body s k) no_body)
 
+-- the types of the variables of an instance of the body
+abbrev pub types_of_variables : Subject → ℕ → List Denoter
+types_of_variables s k = variable_types (meant s) (unwrap_or (body s k) no_body)
+
 -- the header of each module variable of an instance of the body, by the place where it is declared
 abbrev pub headers_of : Subject → ℕ → List ℕ
 headers_of s k = module_headers (meant s) (unwrap_or (body s k) no_body)

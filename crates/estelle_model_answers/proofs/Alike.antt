@@ -24,6 +24,7 @@ use Rattle.estelle_model.specs.declared.meaning.Routine.{Routine}
 use Rattle.estelle_model.specs.declared.meaning.Meaning.{Meaning}
 use Rattle.estelle_model.specs.declared.meaning.Meaning.TheVariants.{Module, Ip, Body}
 use Rattle.estelle_model.specs.Meant.{Meanings}
+use Rattle.estelle_model.specs.Belonging.{are_values_of}
 use Rattle.estelle_model.specs.Places.{held_in, module_variables_of, child_step}
 use Rattle.estelle_model.specs.declared.place.Environment.{Environment}
 use Rattle.estelle_model.specs.declared.place.ActualParameters.{ActualParameters}
@@ -55,6 +56,7 @@ HoldsChild p _ = Unit {0}
 
 -- On states that are related the instances at and below m are the same, and so is what m reads of links; each effect that can be made keeps the relation, and so does each change of a record at or below m.
 pub record KeepsAlike (S T : Type 0) (on : Offers S) (on' : Offers T) (s : Subject) (m : Path) (R : S → T → Type 0) : Type 0 where
+  pub types : (x : S) (y : T) → R x y → (on.core x).types ≡ (on'.core y).types
   pub instances : (x : S) (y : T) → R x y → (p : Path) → is_inside m p ≡ true → fin.get (on.core x).instances p ≡ fin.get (on'.core y).instances p
   pub children : (x : S) (y : T) → R x y → (p c : Path) (k : ℕ) → is_inside m p ≡ true → slice_get (module_variables_of (fin.get (on.core x).instances p)) k ≡ Some (Some c) → (n : ℕ) × (c ≡ child p n)
   pub bound : (x : S) (y : T) → R x y → (a : IpAddr) → is_below_or_own s (on.core x).instances m a ≡ true → is_bound a (on.core x).links ≡ is_bound a (on'.core y).links
@@ -84,6 +86,7 @@ IsUnlink _ = ⊥
 module _ (S T : Type 0) (on : Offers S) (on' : Offers T) (faithful : IsFaithful S on) (s : Subject) (m : Path) (R : S → T → Type 0) (keeps : KeepsAlike S T on on' s m R) where
   pub shown : ShowAlike S T on on' m R
   shown = record {
+    types = keeps.types;
     instances = keeps.instances;
     held = λ x y r p c k inside is. let of = keeps.children x y r p c k inside is in ap (is_inside m) of.1 ∙ child_inside m p of.0 inside;
     stored = λ x y r p v way w inside. keeps.kept p (Store v way w) x y r inside tt;
@@ -326,8 +329,8 @@ module _ (S T : Type 0) (on : Offers S) (on' : Offers T) (faithful : IsFaithful 
     -- ---- output
 
     output_at_alike : (p x : Name) (values : List Value) (a : IpAddr) → is_inside m a.path ≡ true → DoesAlike (output_at S on s known p x values a) (output_at T on' s known p x values a)
-    output_at_alike p w values a inside x y r = needs_at (λ c. is_sent_at (point s c.instances a) (known w)) _ _ x y r (ap (λ o. is_sent_at o (known w)) (point_alike x.state y.state r.state a inside))
-        (λ allowed. make_at (effect.Output a p.word w.word values) x y r (inside, sent_there (point s (on.core x.state).instances a) (known w) allowed) tt)
+    output_at_alike p w values a inside x y r = needs_at (λ c. is_sent_at (point s c.instances a) (known w) && are_values_of (types_of (known w)) values) _ _ x y r (ap (λ o. is_sent_at o (known w) && are_values_of (types_of (known w)) values) (point_alike x.state y.state r.state a inside))
+        (λ allowed. make_at (effect.Output a p.word w.word values) x y r (inside, sent_there (point s (on.core x.state).instances a) (known w) (left_true (is_sent_at (point s (on.core x.state).instances a) (known w)) (are_values_of (types_of (known w)) values) allowed)) tt)
 
     output_alike : (here : Environment) (p w : Name) (es : List (Operand S)) (fs : List (Operand T)) → is_inside m here.path ≡ true → EachAlike (OperandAlike S T on on' m R) es fs → DoesAlike (output S on s known here p w es) (output T on' s known here p w fs)
     output_alike here p w es fs inside h = then_alike S T R (GivenAlike m) (Same {A = Unit {0}}) (give_all (map ByValue (types_of (known w))) es no_arguments) (give_all (map ByValue (types_of (known w))) fs no_arguments) (λ G. spend >>= λ spent. ip_of S on s known here.path (known p) >>= λ a. output_at S on s known p w G.values a) (λ G. spend >>= λ spent. ip_of T on' s known here.path (known p) >>= λ a. output_at T on' s known p w G.values a)
@@ -373,14 +376,14 @@ module _ (S T : Type 0) (on : Offers S) (on' : Offers T) (faithful : IsFaithful 
     init_alike : (enters : Enters S) (enters' : Enters T) → EntersAlike S T on on' m R enters enters' → (here : Environment) → is_inside m here.path ≡ true → (k n : ℕ) (es : List (Operand S)) (fs : List (Operand T)) → EachAlike (OperandAlike S T on on' m R) es fs
         → DoesAlike (init S on s known enters here k n (child_of s n) es) (init T on' s known enters' here k n (child_of s n) fs)
     init_alike enters enters' into here h k n es fs alike =
-        let rest : (G : ActualParameters) → Instance → Do S = λ G i. needs S on s known (λ c. may_hold s i.body k n) >>= λ _. create S on s known enters here k (child_of s n) G.values i in
-        let rest' : (G : ActualParameters) → Instance → Do T = λ G i. needs T on' s known (λ c. may_hold s i.body k n) >>= λ _. create T on' s known enters' here k (child_of s n) G.values i in
+        let rest : (G : ActualParameters) → Instance → Do S = λ G i. needs S on s known (λ c. may_hold s i.body k n && are_values_of (child_of s n).parameters G.values) >>= λ _. create S on s known enters here k (child_of s n) G.values i in
+        let rest' : (G : ActualParameters) → Instance → Do T = λ G i. needs T on' s known (λ c. may_hold s i.body k n && are_values_of (child_of s n).parameters G.values) >>= λ _. create T on' s known enters' here k (child_of s n) G.values i in
         then_alike S T R (GivenAlike m) (Same {A = Unit {0}}) (give_all (map ByValue (child_of s n).parameters) es no_arguments) (give_all (map ByValue (child_of s n).parameters) fs no_arguments)
         (λ G. read S on s known (instance_at here.path) >>= rest G) (λ G. read T on' s known (instance_at here.path) >>= rest' G)
         (give_all_alike S T on on' m R (map ByValue (child_of s n).parameters) es fs no_arguments alike tt)
         (λ g j gj. subst (λ (c : ActualParameters). DoesAlike (read S on s known (instance_at here.path) >>= rest g) (read T on' s known (instance_at here.path) >>= rest' c)) gj.0
         (λ x y r. found_at (fin.get (on.core x.state).instances here.path) (fin.get (on'.core y.state).instances here.path) (keeps.instances x.state y.state r.state here.path h) x y r (rest g) (rest' g)
-        (λ i there. needs_at (λ c. may_hold s i.body k n) (create S on s known enters here k (child_of s n) g.values i) (create T on' s known enters' here k (child_of s n) g.values i) x y r refl (λ allowed. create_at enters enters' into here h k n g.values i x y r there))))
+        (λ i there. needs_at (λ c. may_hold s i.body k n && are_values_of (child_of s n).parameters g.values) (create S on s known enters here k (child_of s n) g.values i) (create T on' s known enters' here k (child_of s n) g.values i) x y r refl (λ allowed. create_at enters enters' into here h k n g.values i x y r there))))
 
     init_of_alike : (enters : Enters S) (enters' : Enters T) → EntersAlike S T on on' m R enters enters' → (here : Environment) → is_inside m here.path ≡ true → (w b : Meaning) (es : List (Operand S)) (fs : List (Operand T)) → EachAlike (OperandAlike S T on on' m R) es fs
         → DoesAlike (init_of S on s known enters here w b es) (init_of T on' s known enters' here w b fs)

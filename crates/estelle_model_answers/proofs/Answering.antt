@@ -30,7 +30,7 @@ use Rattle.estelle_model.specs.Bodies.{BodyAlone}
 use Rattle.estelle_model.specs.Blocks.{fresh, block_step}
 use Rattle.estelle_model.specs.Actions.{act, enter_state}
 use Rattle.estelle_model.specs.Transitions.{Transition, When, Delay}
-use Rattle.estelle_model.specs.Subject.{Subject, meant, meant_with, of_block, begins, body, new_instance}
+use Rattle.estelle_model.specs.Subject.{Subject, meant, meant_with, of_block, begins, body, types_of_variables, new_instance}
 use Rattle.estelle_model.specs.Clauses.{fire_step, start_step, value_of_expr, provided_step, int_step, between, from_on, high_step, at_once, delay_step, guard_step, answered}
 use Rattle.estelle_model.specs.Situation.{Situation, Acting, acting_after, on_situation}
 use Rattle.estelle_model.specs.Queues.{Found, NotNeeded, Head, Absent, received}
@@ -121,9 +121,10 @@ module _ (s : Subject) (m : Path) (g : Situation) where
       by None e f = absurd (cc)
       by (Some i) e f = h.children p i k c inside e f
 
-  pub begins_alike : MayActAlone s g.core m → (x : Core) → x.instances ≡ map.retain_keys g.core.instances (is_inside m) → IsPermutation x.links (filter (is_private s g.core.instances m) g.core.links) → (budget : ℕ) → RunningAlike Acting Logged R (fresh (begun g) budget) (fresh (log_from x) budget)
-  begins_alike may x own links budget = record {
+  pub begins_alike : MayActAlone s g.core m → (x : Core) → x.types ≡ types_of_variables s → x.instances ≡ map.retain_keys g.core.instances (is_inside m) → IsPermutation x.links (filter (is_private s g.core.instances m) g.core.links) → (budget : ℕ) → RunningAlike Acting Logged R (fresh (begun g) budget) (fresh (log_from x) budget)
+  begins_alike may x declared own links budget = record {
     state = record {
+      types = may.types ∙ sym declared;
       made = tt;
       rest = refl;
       outside = λ q h. refl;
@@ -183,8 +184,8 @@ module _ (s : Subject) (m : Path) (g : Situation) where
   same_answer (Ok r) (Err x) h = absurd h
   same_answer (Err e) (Ok q) h = absurd h
 
-  pub guard_answers : (image : Image) → MayActAlone s g.core m → Shows image (private s g.core m) → (t : Transition) (vs : List Value) (timed : Bool) (budget : ℕ) → answered (guard_step Logged on_log s m t vs timed (fresh (log_from (core_of image)) budget)) ≡ guard_with s budget g m t timed vs
-  guard_answers image may shows t vs timed budget = sym (same_answer _ _ (guard_alike t vs timed (fresh (begun g) budget) (fresh (log_from (core_of image)) budget) (begins_alike may (core_of image) (core_private s g.core m image shows) shows.links budget)))
+  pub guard_answers : (image : Image) → MayActAlone s g.core m → Shows image (private s g.core m) → (t : Transition) (vs : List Value) (timed : Bool) (budget : ℕ) → answered (guard_step Logged on_log s m t vs timed (fresh (log_from (core_of s image)) budget)) ≡ guard_with s budget g m t timed vs
+  guard_answers image may shows t vs timed budget = sym (same_answer _ _ (guard_alike t vs timed (fresh (begun g) budget) (fresh (log_from (core_of s image)) budget) (begins_alike may (core_of s image) refl (core_private s g.core m image shows) shows.links budget)))
 
 -- ---- firings
 
@@ -192,7 +193,7 @@ module _ (s : Subject) (job : Job) (n : ℕ) (out : JobOutcome) (left : ℕ) whe
   fired_in : (g : Situation) → MayActAlone s g.core job.path → Shows job.image (private s g.core job.path) → (t : Transition) → IsMadeBy s (job_run s job t) out left
       → IsAnswer s job.path n g out left (untimed job.path n (done (fire_step Acting on_situation s job.path t (values_of job.head) (fresh (begun g) job.budget))))
   fired_in g may shows t made = answer_of s job.path g n _ _
-      (fire_alike s job.path g t (values_of job.head) (fresh (begun g) job.budget) (fresh (log_from (core_of job.image)) job.budget) (begins_alike s job.path g may (core_of job.image) (core_private s g.core job.path job.image shows) shows.links job.budget))
+      (fire_alike s job.path g t (values_of job.head) (fresh (begun g) job.budget) (fresh (log_from (core_of s job.image)) job.budget) (begins_alike s job.path g may (core_of s job.image) refl (core_private s g.core job.path job.image shows) shows.links job.budget))
       out left made
 
   module _ (g : Situation) (may : MayActAlone s g.core job.path) (shows : Shows job.image (private s g.core job.path)) where
@@ -210,10 +211,10 @@ module _ (s : Subject) (job : Job) (n : ℕ) (out : JobOutcome) (left : ℕ) whe
     by_transition None h made = absurd h
     by_transition (Some t) h made = subst (λ (f : Firing). IsAnswer s job.path n (taken s g job.path t.when) out left (untimed job.path n f)) (sym (by_found t (received s g job.path t.when) h)) (in_taken t.when t made)
 
-    same_instance : map.get (core_of job.image).instances job.path ≡ map.get g.core.instances job.path
+    same_instance : map.get (core_of s job.image).instances job.path ≡ map.get g.core.instances job.path
     same_instance = ap (λ (x : Instances). map.get x job.path) (core_private s g.core job.path job.image shows) ∙ get_inside g.core.instances job.path job.path ∙ ap (λ b. cond b (map.get g.core.instances job.path) None) (inside_self job.path)
 
-    fire_answers : IsHead (received_by s g job.path (transition_at s n (map.get g.core.instances job.path))) job.head → IsOfTransition s job (transition_at s n (map.get (core_of job.image).instances job.path)) out left
+    fire_answers : IsHead (received_by s g job.path (transition_at s n (map.get g.core.instances job.path))) job.head → IsOfTransition s job (transition_at s n (map.get (core_of s job.image).instances job.path)) out left
         → IsAnswer s job.path n (taken_by s g job.path (transition_at s n (map.get g.core.instances job.path))) out left (fire s job.budget g job.path n)
     fire_answers h made = by_transition (transition_at s n (map.get g.core.instances job.path)) h (subst (λ (o : Option Instance). IsOfTransition s job (transition_at s n o) out left) same_instance made)
 
@@ -232,6 +233,7 @@ no_links l there = let none : there.0 < 0 = there.1 in omega (arith, none)
 
 root_alone : (s : Subject) → MayActAlone s (bare s).core []
 root_alone s = record {
+  types = refl;
   children = λ p i v held inside there is. absurd (held_by_new s (body s 0) p i v held there is);
   attached = λ l there. absurd (no_links l there);
   once = λ a l n there. absurd (no_links l there);
@@ -264,7 +266,7 @@ module _ (s : Subject) where
 
   start_answers : (budget : ℕ) (out : JobOutcome) (left : ℕ) → IsMadeBy s (start_run s budget) out left → IsAnswer s [] 0 (bare s) out left (start s budget)
   start_answers budget out left made =
-      let alike = start_alike (fresh (begun (bare s)) budget) (fresh (log_from (bare s).core) budget) (begins_alike s [] (bare s) (root_alone s) (bare s).core (all_inside (bare s).core.instances) (IsPermutation-refl []) budget) in
+      let alike = start_alike (fresh (begun (bare s)) budget) (fresh (log_from (bare s).core) budget) (begins_alike s [] (bare s) (root_alone s) (bare s).core refl (all_inside (bare s).core.instances) (IsPermutation-refl []) budget) in
       subst (λ (f : Firing). IsAnswer s [] 0 (bare s) out left f) (untimed_start _ _ alike) (answer_of s [] (bare s) 0 _ _ alike out left made)
 
 -- ---- both

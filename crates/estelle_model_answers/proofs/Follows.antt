@@ -104,6 +104,7 @@ module _ (s : Subject) (m : Path) (base : Acting) where
 
   -- The log's effects can be made, and all but the records at and below m is what they make of the situation at the beginning; the log shows the private part.
   pub record Follows (a : Acting) (l : Logged) : Type 0 where
+    pub types : a.situation.core.types ≡ l.image.types
     pub made : CanAllBeMade s m l.log base
     pub rest : a ≡ with_instances a.situation.core.instances (done_by l.log)
     pub outside : (q : Path) → is_inside m q ≡ false → map.get a.situation.core.instances q ≡ map.get (done_by l.log).situation.core.instances q
@@ -124,6 +125,7 @@ module _ (s : Subject) (m : Path) (base : Acting) where
       let z : Instances = (done_by l.log).situation.core.instances in
       let at = at_of s m e a.situation.core can in
       record {
+        types = r.types;
         made = can_more s m l.log base e r.made (can_same s m a.situation.core (done_by l.log).situation.core r.outlines (ap (λ (b : Acting). b.situation.core.links) r.rest) e can);
         rest = ap (acting_after e) r.rest ∙ ap (with_instances (instances_after e x)) (sym (log_more l.log e));
         outside = λ q n. get_after e x q ∙ outside_after m e (map.get x) q at n ∙ r.outside q n ∙ sym (outside_after m e (map.get z) q at n) ∙ sym (get_after e z q) ∙ sym (ap (λ (b : Acting). map.get b.situation.core.instances q) (log_more l.log e));
@@ -140,6 +142,7 @@ module _ (s : Subject) (m : Path) (base : Acting) where
   kept_follows p change a l r at child_held =
       let x : Instances = a.situation.core.instances in
       record {
+        types = r.types;
         made = r.made;
         rest = ap (on_situation.keeps p change) r.rest;
         outside = λ q n. get_changed p (changed change) x q ∙ ap (λ b. cond b (option_map (changed change) (map.get x p)) (map.get x q)) (other_path m p q at n) ∙ r.outside q n;
@@ -173,6 +176,7 @@ module _ (s : Subject) (m : Path) (base : Acting) where
   -- whatever a block does keeps it
   pub keeps_following : KeepsAlike Acting Logged on_situation on_log s m Follows
   keeps_following = record {
+    types = λ a l r. r.types;
     instances = λ a l r. r.inside;
     children = λ a l r. r.holds;
     bound = λ a l r d own. bound_same s base.situation.core.instances m a.situation.core.links l.image.links r.tied r.private d (own_at a l r d own);

@@ -22,4 +22,4 @@ JobsAreAnswered = (s : Subject) (job : Job) (done : Done) → done.ticket ≡ jo
 -- `provided` and the delay of a transition come to the same on such a log as in each situation with this private part
 abbrev pub GuardsAreAnswered : Type 0
 GuardsAreAnswered = (s : Subject) (g : Situation) (p : Path) (image : Image) → MayActAlone s g.core p → Shows image (private s g.core p) → (t : Transition) (values : List Value) (timed : Bool) (budget : ℕ) →
-    answered (guard_step Logged on_log s p t values timed (fresh (log_from (core_of image)) budget)) ≡ guard_with s budget g p t timed values
+    answered (guard_step Logged on_log s p t values timed (fresh (log_from (core_of s image)) budget)) ≡ guard_with s budget g p t timed values

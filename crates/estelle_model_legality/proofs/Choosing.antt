@@ -21,28 +21,16 @@ use Rattle.estelle_model.specs.Choosers.{Draw}
 use Rattle.estelle_model.specs.Selection.{May, Must, has_priority, Eligible, IsSilent, paths, children, Selects, SelectsEach}
 use Rattle.estelle_model.specs.Selection as selection
 use Rattle.estelle_model.specs.Schedule.{numbers_of, counted, offered, is_able, able_children, Chosen, ChosenOfEach, own, process, activity, quiet, none, more}
+use Rattle.estelle_model.specs.Jobs.{IsThere}
 use Rattle.estelle_model_legality.specs.Pending.{IsInOrder, AreInOrder}
 use Rattle.estelle_model_legality.specs.Choices.{AreTree}
 use Rattle.estelle_model_legality.proofs.Members.{Has, has_got, contains_has, nothing_has, has_filter, filter_has, any_has, has_any, has_none}
-use Rattle.estelle_model_legality.proofs.Children.{IsThere, there_has, has_there, has_child, inside_itself, inside_child, at_or_below, from_below}
+use Rattle.estelle_model.proofs.PrivateParts.{left_true, right_true}
+use Rattle.estelle_model_legality.proofs.Lists.{both_and, is_not}
+use Rattle.estelle_model_legality.proofs.Ways.{inside_itself}
+use Rattle.estelle_model_legality.proofs.Children.{there_has, has_there, has_child, inside_child, at_or_below, from_below}
 
 -- ---- tests
-
-left : (a b : Bool) → (a && b) ≡ true → a ≡ true
-left true b e = refl
-left false b e = e
-
-right : (a b : Bool) → (a && b) ≡ true → b ≡ true
-right true b e = e
-right false b e = absurd (cc)
-
-both : (a b : Bool) → a ≡ true → b ≡ true → (a && b) ≡ true
-both true b h e = e
-both false b h e = h
-
-opposite : (b : Bool) → not b ≡ true → b ≡ false
-opposite true e = sym e
-opposite false e = refl
 
 empty_is : {A : Type 0} (xs : List A) → not (is_empty xs) ≡ false → xs ≡ []
 empty_is [] e = refl
@@ -115,13 +103,13 @@ module _ (s : Subject) (budget : ℕ) (g : Situation) where
       by (suc k) (Some t) is e = let less = slice_get_within (transitions s i.body) k t is in range_has (length (transitions s i.body)) 1 (suc k) (omega arith) (omega (arith, less))
 
   may_counted : (m : Path) (n : ℕ) → May s budget g m n → Has (counted s budget g m) n
-  may_counted m n h = filter_has (may s budget g m) (numbers_of s (map.get g.core.instances m)) n (guard_numbered m n (map.get g.core.instances m) (left (is_on (guard s budget g m n)) _ h)) h
+  may_counted m n h = filter_has (may s budget g m) (numbers_of s (map.get g.core.instances m)) n (guard_numbered m n (map.get g.core.instances m) (left_true (is_on (guard s budget g m n)) _ h)) h
 
   module _ (in_order : AreInOrder g) where
     must_may : (m : Path) (n : ℕ) → Must s budget g m n → May s budget g m n
     must_may m n h =
-        let on = left (is_on (guard s budget g m n)) _ h in
-        both (is_on (guard s budget g m n)) _ on (waited (has_delay s g m n) (right (is_on (guard s budget g m n)) _ h))
+        let on = left_true (is_on (guard s budget g m n)) _ h in
+        both_and (is_on (guard s budget g m n)) _ on (waited (has_delay s g m n) (right_true (is_on (guard s budget g m n)) _ h))
       where
         waited : (b : Bool) → (not b || high_is_over g.now (map.get g.timers (pair m n))) ≡ true → (not b || low_is_over g.now (map.get g.timers (pair m n))) ≡ true
         waited true e = high_low g.now (map.get g.timers (pair m n)) (in_order (pair m n)) e
@@ -133,7 +121,7 @@ module _ (s : Subject) (budget : ℕ) (g : Situation) where
     eligible : (m : Path) (n : ℕ) → Has (offered s budget g m) n → Eligible s budget g m n
     eligible m n h =
         let r = has_filter (λ j. not (list_any (λ k. has_priority s g m k j) (counted s budget g m))) (counted s budget g m) n h in
-        let none_higher = opposite (list_any (λ k. has_priority s g m k n) (counted s budget g m)) r.1 in
+        let none_higher = is_not (list_any (λ k. has_priority s g m k n) (counted s budget g m)) r.1 in
         record {
           may = (has_filter (may s budget g m) (numbers_of s (map.get g.core.instances m)) n r.0).1;
           highest = λ k must higher.
@@ -148,12 +136,12 @@ module _ (s : Subject) (budget : ℕ) (g : Situation) where
   offers_below m q = is_inside m q && not (is_empty (counted s budget g q))
 
   able_by : (m q : Path) → IsThere g.core.instances q → is_inside m q ≡ true → counted s budget g q ≢ [] → is_able s budget g m ≡ true
-  able_by m q there inside some = has_any (offers_below m) (paths g) q (there_has g.core.instances q there) (both (is_inside m q) _ inside (some_empty (counted s budget g q) some))
+  able_by m q there inside some = has_any (offers_below m) (paths g) q (there_has g.core.instances q there) (both_and (is_inside m q) _ inside (some_empty (counted s budget g q) some))
 
   able_at : (m : Path) → is_able s budget g m ≡ true → (q : Path) × (IsThere g.core.instances q) × (is_inside m q ≡ true) × (counted s budget g q ≢ [])
   able_at m e =
       let r = any_has (offers_below m) (paths g) e in
-      (r.0, has_there g.core.instances r.0 r.1, left (is_inside m r.0) _ r.2, not_empty (counted s budget g r.0) (right (is_inside m r.0) _ r.2))
+      (r.0, has_there g.core.instances r.0 r.1, left_true (is_inside m r.0) _ r.2, not_empty (counted s budget g r.0) (right_true (is_inside m r.0) _ r.2))
 
   unable_counted : (m : Path) → IsThere g.core.instances m → is_able s budget g m ≡ false → counted s budget g m ≡ []
   unable_counted m there e =

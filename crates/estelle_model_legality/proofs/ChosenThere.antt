@@ -16,9 +16,10 @@ use Rattle.estelle_model.specs.Attributes.{attribute, attribute_at, is_system, i
 use Rattle.estelle_model.specs.Choosers.{Draw, DrawsBelow, pick, Picks}
 use Rattle.estelle_model.specs.Selection.{priority, is_higher, has_priority, children}
 use Rattle.estelle_model.specs.Schedule.{counted, offered, able_children, Chosen, ChosenOfEach, own, process, activity, quiet, none, more}
+use Rattle.estelle_model.specs.Jobs.{IsThere}
 use Rattle.estelle_model_legality.specs.Choices.{AreTree}
 use Rattle.estelle_model_legality.proofs.Members.{Has, has_got, any_has, filter_has}
-use Rattle.estelle_model_legality.proofs.Children.{IsThere, from_below}
+use Rattle.estelle_model_legality.proofs.Children.{from_below}
 use Rattle.estelle_model_legality.proofs.Choosing.{IsActive, active_child, picked_child}
 
 -- ---- priorities
@@ -74,6 +75,24 @@ module _ (h : ℕ → ℕ → Bool) (never : (n : ℕ) → h n n ≡ false) (sti
       g k (inr has) = absurd has
   highest x (y ∷ ys) = let r = highest y ys in one_more x (y ∷ ys) r.0 r.1 r.2 (h x r.0) refl
 
+-- ---- what is offered
+
+module _ (s : Subject) (budget : ℕ) (g : Situation) where
+  -- of an instance that counts some transition some is offered
+  pub some_offered : (m : Path) (x : ℕ) (ys : List ℕ) → counted s budget g m ≡ x ∷ ys → (n : ℕ) × (Has (offered s budget g m) n)
+  some_offered m x ys is =
+      let r = highest (has_priority s g m) (λ n. not_higher (priority s g m n)) (λ i j k e f. higher_still (priority s g m i) (priority s g m j) (priority s g m k) e f) x ys in
+      let has : Has (counted s budget g m) r.0 = subst (λ ns. Has ns r.0) (sym is) r.1 in
+      let none_higher : (k : ℕ) → Has (counted s budget g m) k → has_priority s g m k r.0 ≡ false = λ k h. r.2 k (subst (λ ns. Has ns k) is h) in
+      (r.0, filter_has (λ n. not (list_any (λ k. has_priority s g m k n) (counted s budget g m))) (counted s budget g m) r.0 has (unless r.0 none_higher (list_any (λ k. has_priority s g m k r.0) (counted s budget g m)) refl))
+    where
+      unless : (n : ℕ) → ((k : ℕ) → Has (counted s budget g m) k → has_priority s g m k n ≡ false) → (b : Bool) → list_any (λ k. has_priority s g m k n) (counted s budget g m) ≡ b → not b ≡ true
+      unless n none_higher true e =
+          let r = any_has (λ k. has_priority s g m k n) (counted s budget g m) e in
+          let wrong : true ≡ false = sym r.2 ∙ none_higher r.0 r.1 in
+          absurd (cc)
+      unless n none_higher false e = refl
+
 -- ---- picks
 
 got : {A : Type 0} (xs : List A) (i : ℕ) → i < length xs → (a : A) × (slice_get xs i ≡ Some a)
@@ -99,20 +118,6 @@ module _ {C : Type 0} (draw : Draw C) (below : DrawsBelow draw) where
       (r.0, (pick draw c (length xs)).1, record { takes = r.1; leaves = refl })
 
   module _ (s : Subject) (budget : ℕ) (g : Situation) where
-    some_offered : (m : Path) (x : ℕ) (ys : List ℕ) → counted s budget g m ≡ x ∷ ys → (n : ℕ) × (Has (offered s budget g m) n)
-    some_offered m x ys is =
-        let r = highest (has_priority s g m) (λ n. not_higher (priority s g m n)) (λ i j k e f. higher_still (priority s g m i) (priority s g m j) (priority s g m k) e f) x ys in
-        let has : Has (counted s budget g m) r.0 = subst (λ ns. Has ns r.0) (sym is) r.1 in
-        let none_higher : (k : ℕ) → Has (counted s budget g m) k → has_priority s g m k r.0 ≡ false = λ k h. r.2 k (subst (λ ns. Has ns k) is h) in
-        (r.0, filter_has (λ n. not (list_any (λ k. has_priority s g m k n) (counted s budget g m))) (counted s budget g m) r.0 has (unless r.0 none_higher (list_any (λ k. has_priority s g m k r.0) (counted s budget g m)) refl))
-      where
-        unless : (n : ℕ) → ((k : ℕ) → Has (counted s budget g m) k → has_priority s g m k n ≡ false) → (b : Bool) → list_any (λ k. has_priority s g m k n) (counted s budget g m) ≡ b → not b ≡ true
-        unless n none_higher true e =
-            let r = any_has (λ k. has_priority s g m k n) (counted s budget g m) e in
-            let wrong : true ≡ false = sym r.2 ∙ none_higher r.0 r.1 in
-            absurd (cc)
-        unless n none_higher false e = refl
-
     abbrev SomeChosen : Path → C → Type 0
     SomeChosen m c = (takes : List Pair) × (rest : C) × Chosen draw s budget g m c takes rest
 
@@ -136,7 +141,7 @@ module _ {C : Type 0} (draw : Draw C) (below : DrawsBelow draw) where
 
       by_counted : (m : Path) (c : C) → IsActive s budget g tree m → ((k : Path) → Has (children g m) k → (c : C) → SomeChosen k c) → (ns : List ℕ) → counted s budget g m ≡ ns → SomeChosen m c
       by_counted m c active f (x ∷ ys) is =
-          let n = some_offered m x ys is in
+          let n = some_offered s budget g m x ys is in
           let p = picks c (offered s budget g m) n.0 n.1 in
           (pair m p.0 ∷ [], p.1, own m c p.0 p.1 p.2)
       by_counted m c (inl is) f [] none_here = let r = each_there (children g m) f c in (r.0, r.1, process m c r.0 r.1 none_here is r.2)

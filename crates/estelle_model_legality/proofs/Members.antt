@@ -1,5 +1,5 @@
 -- The elements of a list, one after another.
-use Rattle.std.proofs.Common.{◌≡◌, ◌⊎◌, ℕ, zero, suc, Bool, true, false, List, [], ◌∷◌, filter, Some, refl, sym, ap, subst, cond, ◌∙◌, inl, inr, arith}
+use Rattle.std.proofs.Common.{◌≡◌, ◌⊎◌, ◌<◌, ℕ, zero, suc, Bool, true, false, List, [], ◌∷◌, ◌++◌, filter, Some, refl, sym, ap, subst, cond, ◌∙◌, inl, inr, arith}
 use Rattle.std.specs.Prelude.{◌||◌, Contains, slice_get}
 use Rattle.std.specs.List.{list_any}
 
@@ -17,6 +17,16 @@ pub contains_has : {A : Type 0} (xs : List A) (x : A) → Has xs x → Contains 
 contains_has [] x h = absurd h
 contains_has (y ∷ ys) x (inl e) = (0, omega arith, e)
 contains_has (y ∷ ys) x (inr h) = let r = contains_has ys x h in (suc r.0, omega (arith, r.1), r.2)
+
+pub has_contained : {A : Type 0} (xs : List A) (x : A) → Contains xs x → Has xs x
+has_contained [] x (k, below, is) = absurd (let none : k < 0 = below in omega (arith, none))
+has_contained (y ∷ ys) x (zero, below, is) = inl is
+has_contained (y ∷ ys) x (suc k, below, is) = inr (has_contained ys x (k, omega (arith, below), is))
+
+pub has_append : {A : Type 0} (xs ys : List A) (x : A) → Has (xs ++ ys) x → Has xs x ⊎ Has ys x
+has_append [] ys x h = inr h
+has_append (z ∷ xs) ys x (inl e) = inl (inl e)
+has_append (z ∷ xs) ys x (inr h) = elim (has_append xs ys x h) [ inl k ↦ inl (inr k) | inr k ↦ inr k ]
 
 pub nothing_has : {A : Type 0} (xs : List A) (x : A) → xs ≡ [] → Has xs x → ⊥
 nothing_has xs x e h = subst (λ ys. Has ys x) e h

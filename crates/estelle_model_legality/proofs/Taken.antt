@@ -12,7 +12,7 @@ use Rattle.estelle_tree.specs.Links.{is_connection, joins, is_lower_of}
 use Rattle.estelle_model.specs.declared.meaning.InteractionPoint.{InteractionPoint}
 use Rattle.estelle_model.specs.Core.{Instances, Core}
 use Rattle.estelle_model.specs.Transitions.{Transition}
-use Rattle.estelle_model.specs.Subject.{Subject}
+use Rattle.estelle_model.specs.Subject.{Subject, types_of_variables}
 use Rattle.estelle_model.specs.InteractionPoints.{point, same_role, may_attach_points, internal_at}
 use Rattle.estelle_model.specs.Queues.{Found, NotNeeded, Head, Absent}
 use Rattle.estelle_model.specs.Firing.{transition_at}
@@ -23,6 +23,7 @@ use Rattle.estelle_model.proofs.PrivateParts.{inside_self, left_true, right_true
 use Rattle.estelle_model_legality.specs.Instances.{MayStand}
 use Rattle.estelle_model_legality.specs.Linked.{MayLinkAs, MayBeLinked}
 use Rattle.estelle_model_legality.specs.Jobs.{item_of, PendingHaveJobs}
+use Rattle.estelle_model_legality.proofs.Lists.{or_right}
 
 -- what is attached to is external
 external_below : (p q : Option InteractionPoint) → may_attach_points p q ≡ true → internal_at q ≡ false
@@ -61,13 +62,10 @@ module _ (s : Subject) (x : Instances) (m : Path) where
       let at = no_longer (is_inside m b.path) (is_inside b.path m) (is_internal s x b) k (external_below (point s x a) (point s x b) h.2) in
       parent_inside m a.path h.0 (sym (ap (is_inside m) h.1) ∙ at.0) (sym (ap (λ p. is_inside p m) h.1) ∙ at.1)
 
-or_right : (a b : Bool) → b ≡ true → (a || b) ≡ true
-or_right true b h = refl
-or_right false b h = h
-
 -- what a job asks of the instances and links
-pub may_act : (s : Subject) (c : Core) (m : Path) → MayStand s c.instances → MayBeLinked s c.instances c.links → MayActAlone s c m
-may_act s c m stand linked = record {
+pub may_act : (s : Subject) (c : Core) (m : Path) → c.types ≡ types_of_variables s → MayStand s c.instances → MayBeLinked s c.instances c.links → MayActAlone s c m
+may_act s c m types stand linked = record {
+  types = types;
   children = λ p i v held inside there is. let h = stand.holds p i v (Some held) there is in (h.0, h.2);
   attached = λ l there. attached_by s c.instances m l.kind l.first l.second (linked.each l there);
   once = λ a l n first second is also. ap (λ (k : Link). k.first) (only_one (λ k. joins a k || is_lower_of a k) c.links l n (linked.bound_once a) (among c.links l first) (among c.links n second) (or_right (joins a l) (is_lower_of a l) is) (or_right (joins a n) (is_lower_of a n) also));
@@ -82,7 +80,7 @@ pub taken : PendingHaveJobs
 taken s g legal ticket budget p pending =
     let its = legal.pending.each p pending in
     record {
-      legal = may_act s g.core p.path legal.instances legal.links;
+      legal = may_act s g.core p.path legal.types legal.instances legal.links;
       private = record { parts = refl; links = IsPermutation-refl (private s g.core p.path).links };
       head = head_of (received_by s g p.path (transition_at s p.trans (map.get g.core.instances p.path)))
           (subst (λ (o : Option Transition). received_by s g p.path o ≢ Absent) (sym (ap (transition_at s p.trans) its.there ∙ its.its)) its.head);

@@ -4,4 +4,5 @@ pub mod Mail
 pub mod Pending
 pub mod Situations
 pub mod Jobs
+pub mod Keeping
 pub mod Choices

@@ -10,7 +10,7 @@ use Rattle.estelle_model.specs.Transitions.{Choice}
 use Rattle.estelle_model.specs.Subject.{Subject, meant_with}
 use Rattle.estelle_model.specs.InteractionPoints.{point, receives}
 use Rattle.estelle_model.specs.Actions.{is_upper}
-use Rattle.estelle_model.specs.Legal.{are_values_of}
+use Rattle.estelle_model.specs.Belonging.{are_values_of}
 use Rattle.estelle_model.specs.Situation.{Waiting, Situation}
 
 -- a name in the specification means an interaction of this kind, which has the name and values of the item's

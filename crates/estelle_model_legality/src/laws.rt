@@ -2,10 +2,27 @@
 
 ghost use Rattle.estelle_model_legality.specs.Choices.{LegalAreTree, ChosenIsSelected, ChosenIsOne, ChosenIsThere};
 ghost use Rattle.estelle_model_legality.specs.Jobs.{PendingHaveJobs};
+ghost use Rattle.estelle_model_legality.specs.Keeping.{StartIsLegal, EventsKeepLegal, RunsAreLegal};
 
 /// What is pending in a legal situation has a job there: what is computed of it alone answers for the situation.
 pub fn pending_have_jobs()
     ensures { PendingHaveJobs }
+{}
+
+/// The situation that the start comes to is legal, for every specification whose initializations and transitions lead to
+/// states of their bodies, whatever its blocks do.
+pub fn start_is_legal()
+    ensures { StartIsLegal }
+{}
+
+/// The situation after an event is legal, where the event applies to a legal one, for every such specification.
+pub fn events_keep_legal()
+    ensures { EventsKeepLegal }
+{}
+
+/// Every situation of a run is legal, for every such specification.
+pub fn runs_are_legal()
+    ensures { RunsAreLegal }
 {}
 
 /// What a chooser chooses at and below an instance may be selected there, in every tree of instances and with timers whose

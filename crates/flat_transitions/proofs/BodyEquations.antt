@@ -1,10 +1,9 @@
 -- The equations that the walk over the bodies follows.
-use Rattle.std.proofs.Common.{◌≡◌, ◌∙◌, Bool, List, [], ◌∷◌, ◌++◌, map, refl, ap, sym, append_assoc, append-nil}
-use Rattle.std.specs.Prelude.{◌&&◌}
-use Rattle.std.specs.List.{list_all, flat_map}
+use Rattle.std.proofs.Common.{◌≡◌, ◌∙◌, List, [], ◌∷◌, ◌++◌, map, refl, ap, sym, append_assoc, append-nil}
+use Rattle.std.specs.List.{flat_map}
 use Rattle.std.proofs.lemmas.List.{map-append}
 use Rattle.estelle_tree.specs.declared.flat.FlatTrans.{FlatTrans}
-use Rattle.std.proofs.lemmas.List.Folds.{list_all-append, flat_map-map}
+use Rattle.std.proofs.lemmas.List.Folds.{flat_map-map}
 use Rattle.estelle_tree.specs.declared.tree.specification.Trans.{Trans}
 use Rattle.estelle_tree.specs.declared.tree.specification.Decl.{Decl, out-Decl, map-Decl, fold_out-Decl}
 use Rattle.estelle_tree.specs.declared.tree.specification.Decl.TheFolds.{fold-Body, fold_out-Body, fold_out-Parts}
@@ -32,19 +31,12 @@ parts_are x =
     fold_out-Parts Found Found Found decl_layer body_layer parts_layer x
     ∙ ap (λ ts. (out-Parts x).trans ∷ ts) (flat_map-map (λ ts. ts) decl_trans (out-Parts x).decls)
 
-all_each : {A B : Type 0} (p : B → Bool) (f : A → List B) (xs : List A) → list_all p (flat_map f xs) ≡ list_all (λ x. list_all p (f x)) xs
-all_each p f [] = refl
-all_each p f (x ∷ xs) = list_all-append p (f x) (flat_map f xs) ∙ ap (λ b. list_all p (f x) && b) (all_each p f xs)
-
 map_each : {A B C : Type 0} (g : B → C) (f : A → List B) (xs : List A) → map g (flat_map f xs) ≡ flat_map (λ x. map g (f x)) xs
 map_each g f [] = refl
 map_each g f (x ∷ xs) = map-append g (f x) (flat_map f xs) ∙ ap (λ ys. map g (f x) ++ ys) (map_each g f xs)
 
 -- over the bodies in the parts, the outer one first
-pub parts_all : (p : List Trans → Bool) (x : Parts) → list_all p (parts_trans x) ≡ (p (out-Parts x).trans && list_all (λ d. list_all p (decl_trans d)) (out-Parts x).decls)
-parts_all p x = ap (list_all p) (parts_are x) ∙ ap (λ b. p (out-Parts x).trans && b) (all_each p decl_trans (out-Parts x).decls)
-
 pub parts_mapped : (g : List Trans → List FlatTrans) (x : Parts) → map g (parts_trans x) ≡ g (out-Parts x).trans ∷ flat_map (λ d. map g (decl_trans d)) (out-Parts x).decls
 parts_mapped g x = ap (map g) (parts_are x) ∙ ap (λ ts. g (out-Parts x).trans ∷ ts) (map_each g decl_trans (out-Parts x).decls)
 
-pub ruleset bodies = (decl_is, body_is, parts_all, parts_mapped, append_assoc, append-nil)
+pub ruleset bodies = (decl_is, body_is, parts_mapped, append_assoc, append-nil)

@@ -1,7 +1,14 @@
 pub mod Walks
+pub mod Members
+pub mod StateSets
+pub mod ChosenMeanings
+pub mod Chosen
+pub mod Numbered
+pub mod Counts
+pub mod Joining
+pub mod Said
 pub mod Flattened
 pub mod OfSpecification
 pub mod BodyEquations
 pub mod Numbers
 pub mod Standings
-pub mod Cases

@@ -1,9 +1,7 @@
 -- What the walk gathers is what stands behind `trans` in the bodies as they stand.
-use Rattle.std.proofs.Common.{◌≡◌, ◌∙◌, Bool, true, false, List, [], ◌∷◌, ◌++◌, map, refl, ap, sym, subst}
-use Rattle.std.specs.Prelude.{◌&&◌, IsTrue, if◌then◌else◌}
-use Rattle.std.specs.List.{list_all, flat_map}
+use Rattle.std.proofs.Common.{◌≡◌, ◌∙◌, Bool, List, [], ◌∷◌, ◌++◌, map, refl, ap, sym, subst}
+use Rattle.std.specs.List.{flat_map}
 use Rattle.std.proofs.lemmas.List.{map-append}
-use Rattle.std.proofs.lemmas.List.Folds.{list_all-map}
 use Rattle.estelle_tree.specs.declared.flat.FlatTrans.{FlatTrans}
 use Rattle.estelle_tree.specs.declared.tree.name.Name.{Name}
 use Rattle.estelle_tree.specs.declared.tree.specification.Trans.{Trans}
@@ -16,8 +14,7 @@ use Rattle.estelle_tree.specs.declared.tree.specification.Spec.{Spec}
 use Rattle.estelle_model.specs.Meant.{Meanings}
 use Rattle.estelle_model.specs.Transitions.{Choice}
 use Rattle.estelle_model.specs.Bodies.{Contribution, BodyAlone, decl_layer, headed, body_layer, parts_layer, standings, default_of, bodies}
-use Rattle.flat_transitions.specs.Flat as trans
-use Rattle.flat_transitions.specs.FlatList.{body_list, listed, is_without_any, nothing, listed_without_any}
+use Rattle.flat_transitions.specs.FlatList.{body_list, listed}
 use Rattle.flat_transitions.specs.BodyWalks as walk
 use Rattle.flat_transitions.specs.BodyWalks.{trans_list, decl_trans, parts_trans}
 use Rattle.flat_transitions.proofs.BodyEquations.{body_trans}
@@ -140,32 +137,10 @@ module _ (d : Bool) where
 bodies_same : (x : Spec) → trans_of (bodies x) ≡ parts_trans x.parts
 bodies_same x = parts_same (default_of x.heads) x.parts
 
-pub none_chosen : (x : Spec) → is_without_any x ≡ list_all trans.is_without_any (parts_trans x.parts)
-none_chosen x = sym (list_all-map trans.is_without_any (λ (b : BodyAlone). b.trans) (bodies x)) ∙ ap (list_all trans.is_without_any) (bodies_same x)
+each_listed : (means : List Choice → Meanings) (bs : List BodyAlone) → map (trans_list means) (trans_of bs) ≡ map (body_list means) bs
+each_listed means [] = refl
+each_listed means (b ∷ bs) = ap (λ ts. body_list means b ∷ ts) (each_listed means bs)
 
-left_true : (a b : Bool) → IsTrue (a && b) → IsTrue a
-left_true true b h = refl
-left_true false b h = h
-
-right_true : (a b : Bool) → IsTrue (a && b) → IsTrue b
-right_true true b h = h
-right_true false b h = absurd (cc)
-
-each_listed : (means : List Choice → Meanings) (bs : List BodyAlone) → IsTrue (list_all (λ b. trans.is_without_any b.trans) bs) → map (trans_list means) (trans_of bs) ≡ map (body_list means) bs
-each_listed means [] h = refl
-each_listed means (b ∷ bs) h =
-    let here = left_true (trans.is_without_any b.trans) (list_all (λ c. trans.is_without_any c.trans) bs) h in
-    let more = right_true (trans.is_without_any b.trans) (list_all (λ c. trans.is_without_any c.trans) bs) h in
-    ap (λ c. (if c then body_list means b else []) ∷ map (trans_list means) (trans_of bs)) here
-    ∙ ap (λ ts. body_list means b ∷ ts) (each_listed means bs more)
-
--- the list, where no value is to be chosen
-pub all_listed : (means : List Choice → Meanings) (x : Spec) (shown : List (List FlatTrans)) → list_all trans.is_without_any (parts_trans x.parts) ≡ true → shown ≡ map (trans_list means) (parts_trans x.parts)
-    → record { bodies = shown } ≡ listed_without_any means x
-all_listed means x shown h is =
-    let none : IsTrue (is_without_any x) = none_chosen x ∙ h in
-    ap (λ (ts : List (List FlatTrans)). record { bodies = ts }) (is ∙ ap (map (trans_list means)) (sym (bodies_same x)) ∙ each_listed means (bodies x) none)
-    ∙ sym (ap (λ b. if b then listed means x else nothing) none)
-
-pub none_listed : (means : List Choice → Meanings) (x : Spec) → list_all trans.is_without_any (parts_trans x.parts) ≡ false → nothing ≡ listed_without_any means x
-none_listed means x h = sym (ap (λ b. if b then listed means x else nothing) (none_chosen x ∙ h))
+-- what is gathered is the list
+pub all_listed : (means : List Choice → Meanings) (x : Spec) (shown : List (List FlatTrans)) → shown ≡ [] ++ map (trans_list means) (parts_trans x.parts) → record { bodies = shown } ≡ listed means x
+all_listed means x shown is = ap (λ (ts : List (List FlatTrans)). record { bodies = ts }) (is ∙ ap (map (trans_list means)) (sym (bodies_same x)) ∙ each_listed means (bodies x))

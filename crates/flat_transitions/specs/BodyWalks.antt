@@ -1,5 +1,5 @@
 -- What the walk over the bodies gathers.
-use Rattle.std.specs.Prelude.{if◌then◌else◌, List, [], ◌∷◌}
+use Rattle.std.specs.Prelude.{List, [], ◌∷◌}
 use Rattle.std.specs.List.{flat_map}
 use Rattle.estelle_tree.specs.declared.flat.FlatTrans.{FlatTrans}
 use Rattle.estelle_tree.specs.declared.tree.specification.Trans.{Trans}
@@ -9,12 +9,12 @@ use Rattle.estelle_tree.specs.declared.tree.specification.Decl.TheFolds.{fold-De
 use Rattle.estelle_tree.specs.declared.tree.specification.Parts.{Parts}
 use Rattle.estelle_model.specs.Meant.{Meanings}
 use Rattle.estelle_model.specs.Transitions.{Choice}
-use Rattle.flat_transitions.specs.Flat.{is_without_any, transitions_in}
+use Rattle.flat_transitions.specs.Flat.{transitions_in}
 use Rattle.flat_transitions.specs.FlatList.{numbered_from}
 
--- the transitions of one body; nothing where an `any` stands
+-- the transitions of one body
 abbrev pub trans_list : (List Choice → Meanings) → List Trans → List FlatTrans
-trans_list means ts = if is_without_any ts then numbered_from 1 (transitions_in means ts) else []
+trans_list means ts = numbered_from 1 (transitions_in means ts)
 
 abbrev pub decl_layer : Decl-F (List (List Trans)) (List (List Trans)) (List (List Trans)) → List (List Trans)
 decl_layer (Decl-F.Body ts) = ts

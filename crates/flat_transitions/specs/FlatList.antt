@@ -1,6 +1,6 @@
 -- The list of the flat transitions of a specification, by where they stand in its text.
-use Rattle.std.specs.Prelude.{ℕ, suc, Bool, if◌then◌else◌, List, [], ◌∷◌, map, ℤ, option_map, Option, Some, None, Result, Ok, Err}
-use Rattle.std.specs.List.{list_all, flat_map}
+use Rattle.std.specs.Prelude.{ℕ, suc, List, [], ◌∷◌, map, ℤ, option_map, Option, Some, None, Result, Ok, Err}
+use Rattle.std.specs.List.{flat_map}
 use Rattle.pascal_values.specs.declared.fault.Fault.{Fault}
 use Rattle.estelle_tree.specs.declared.span.Span.{Span}
 use Rattle.estelle_tree.specs.declared.flat.Flat.{Flat}
@@ -16,7 +16,6 @@ use Rattle.estelle_model.specs.Meant.{Meanings}
 use Rattle.estelle_model.specs.Bodies.{BodyAlone, bodies}
 use Rattle.estelle_model.specs.Transitions.{When, Delay, Choice, Transition, flat}
 use Rattle.estelle_model.specs.Subject.{Subject, meant_with}
-use Rattle.flat_transitions.specs.Flat as trans
 
 abbrev pub span_of : Expr → Span
 span_of e = (out-Expr e).span
@@ -73,15 +72,3 @@ listed means spec = record { bodies = map (body_list means) (bodies spec) }
 -- the flat transitions of each body: number n in the list of body k is `transition s k n`
 abbrev pub flat_list : Subject → Flat
 flat_list s = listed (meant_with s) s.specification
-
--- no clause `any` stands in any body
-abbrev pub is_without_any : Spec → Bool
-is_without_any spec = list_all (λ b. trans.is_without_any b.trans) (bodies spec)
-
--- a specification without bodies, which is none
-abbrev pub nothing : Flat
-nothing = record { bodies = [] }
-
--- the list where no value is to be chosen
-abbrev pub listed_without_any : (List Choice → Meanings) → Spec → Flat
-listed_without_any means spec = if is_without_any spec then listed means spec else nothing

@@ -1,56 +1,22 @@
 //! The bodies of a specification in text order.
 
 ghost use Rattle.std.specs.Prelude.{◌≡◌, ◌++◌, IfOk, OnOk, map};
-ghost use Rattle.std.specs.List.{list_all, flat_map};
+ghost use Rattle.std.specs.List.{flat_map};
 ghost use Rattle.flat_transitions.specs.Flat.{with_chosen};
-ghost use Rattle.flat_transitions.specs.Flat as trans;
 ghost use Rattle.flat_transitions.specs.FlatList as flat;
 ghost use Rattle.flat_transitions.specs.BodyWalks.{trans_list, decl_trans, parts_trans};
 
-use crate::any::is_without_any;
 use crate::entries::numbered;
 use crate::walk::transitions;
 use estelle_tree::{Decl, Flat, FlatTrans, Items, Parts, Sequence, Spec, Trans};
 use meaning_table::Table;
 use std::alloc::AllocError;
 
-#[cycle(any)]
-fn parts_without_any(parts: &Parts) -> bool
-    ensures { result ≡ list_all trans.is_without_any (parts_trans parts.now) }
-{
-    is_without_any(parts.trans.items()) && decls_without_any(parts.decls.items())
-}
-
-#[cycle(any)]
-fn decls_without_any(decls: &[Decl]) -> bool
-    ensures { result ≡ list_all (λ d. list_all trans.is_without_any (decl_trans d)) decls.now }
-{
-    for decl in decls {
-        if !decl_without_any(decl) {
-            return false;
-        }
-    }
-    true
-}
-
-#[cycle(any)]
-fn decl_without_any(decl: &Decl) -> bool
-    ensures { result ≡ list_all trans.is_without_any (decl_trans decl.now) }
-{
-    match decl {
-        Decl::Body(body) => parts_without_any(&body.parts),
-        _ => true,
-    }
-}
-
-/// The transitions of a body; nothing where an `any` stands.
 fn body_list(table: &Table, trans: &[Trans]) -> Result<Items<FlatTrans>, AllocError>
     ensures { IfOk result (λ shown. shown ≡ trans_list (with_chosen table.now) trans.now) }
 {
-    match transitions(table, trans)? {
-        None => Ok(Items::new(table.alloc)),
-        Some(found) => numbered(table.alloc, &found),
-    }
+    let found = transitions(table, trans)?;
+    numbered(table.alloc, &found)
 }
 
 #[cycle(lists)]
@@ -93,14 +59,12 @@ fn decl_list(
     }
 }
 
-/// The list by what names mean; nothing where an `any` stands.
+/// The list by what names mean.
+#[tactic(auto, using(crate::proofs::Standings::all_listed))]
 pub fn listed(table: &Table, spec: &Spec) -> Result<Flat, AllocError>
-    ensures { IfOk result (λ list. list ≡ flat.listed_without_any (with_chosen table.now) spec.now) }
+    ensures { IfOk result (λ list. list ≡ flat.listed (with_chosen table.now) spec.now) }
 {
     let mut bodies = Items::new(table.alloc);
-    if !parts_without_any(&spec.parts) {
-        return Ok(Flat { bodies });
-    }
     parts_list(table, &spec.parts, &mut bodies)?;
     Ok(Flat { bodies })
 }

@@ -1,21 +1,24 @@
 //! A flat transition by where it stands in the text.
 
-ghost use Rattle.std.specs.Prelude.{◌≡◌, IfOk, option_map};
+ghost use Rattle.std.specs.Prelude.{◌≡◌, ◌++◌, IfOk, OnOk, option_map};
 ghost use Rattle.std.specs.Option.{option_copied};
+ghost use Rattle.estelle_model.specs.Types.{ordinal_of};
 ghost use Rattle.flat_transitions.specs.FlatList as flat;
 
+use crate::choice::Choice;
 use crate::clauses::{Delay, When};
-use crate::shared::Shared;
+use crate::states::States;
 use crate::transition::{Transition, Transitions};
-use estelle_tree::{DelayHigh, Expr, FlatTrans, Items, Limit, Sequence, Span, Word};
+use estelle_tree::{DelayHigh, Expr, FlatTrans, Items, Limit, Span, Word};
+use meaning_table::ordinal_of;
 use std::alloc::{AllocError, Global};
 
-fn states(alloc: Global, from: Option<&Shared<u32>>) -> Result<Items<u32>, AllocError>
+fn states(alloc: Global, from: Option<&States>) -> Result<Items<u32>, AllocError>
     ensures { IfOk result (λ states. states ≡ flat.states_of (option_copied from.entry)) }
 {
     match from {
         None => Ok(Items::new(alloc)),
-        Some(states) => Items::from_slice(alloc, states.items()),
+        Some(states) => states.listed(alloc),
     }
 }
 
@@ -56,6 +59,26 @@ fn bounds(delay: Option<&Delay>) -> Option<(Span, Limit)>
     }
 }
 
+fn push_ordinal(out: &mut Items<i64>, choice: &Choice) -> Result<(), AllocError>
+    ensures { OnOk result (out.new ≡ out.old ++ flat.ordinal_at (ordinal_of choice.now.value)) }
+{
+    match ordinal_of(&choice.value()) {
+        Ok(ordinal) => out.push(ordinal),
+        Err(_) => Ok(()),
+    }
+}
+
+/// The ordinals of chosen values.
+fn ordinals(alloc: Global, chosen: &[Choice]) -> Result<Items<i64>, AllocError>
+    ensures { IfOk result (λ ordinals. ordinals ≡ flat.ordinals_of chosen.now) }
+{
+    let mut ordinals = Items::new(alloc);
+    for choice in chosen {
+        push_ordinal(&mut ordinals, choice)?;
+    }
+    Ok(ordinals)
+}
+
 fn flat_trans(alloc: Global, number: u32, transition: &Transition) -> Result<FlatTrans, AllocError>
     ensures { IfOk result (λ shown. shown ≡ flat.flat_trans number transition.now) }
 {
@@ -67,7 +90,7 @@ fn flat_trans(alloc: Global, number: u32, transition: &Transition) -> Result<Fla
         provided: condition(transition.provided()),
         priority: transition.priority(),
         delay: bounds(transition.delay()),
-        any: Items::new(alloc),
+        any: ordinals(alloc, transition.chosen())?,
         block: transition.block().span,
     })
 }

@@ -6,28 +6,34 @@ ghost use Rattle.estelle_model.specs.Transitions as model;
 ghost use Rattle.flat_transitions.specs.Walks.{unsaid, with_clause};
 ghost use Rattle.meaning_table.specs.Known.{meanings_of};
 
+use crate::choice::Choice;
+use crate::choices::choices_with;
 use crate::clauses::{Condition, Delay, Priority, When};
+use crate::naming::Naming;
 use crate::shared::Shared;
+use crate::states::States;
 use estelle_model::{Meaning, Type};
 use estelle_tree::{Clause, Items, Name, NextState, Sequence};
-use meaning_table::{Table, states_named};
+use meaning_table::Table;
 use std::alloc::{AllocError, Global};
 
 /// What the clauses on the way to a block say. Of two clauses of one kind the outer one counts.
 #[derive(Drop)]
 pub struct ClausesInForce<'a> {
-    pub from: Option<Shared<u32>>,
+    pub from: Option<States>,
     pub to: Option<u32>,
     pub when: Option<When<'a>>,
     pub received: Shared<Type>,
     pub provided: Option<Condition<'a>>,
     pub priority: Option<Priority<'a>>,
     pub delay: Option<Delay<'a>>,
+    /// The choices of values for the names of `any` on the way.
+    pub choices: Shared<Shared<Choice>>,
 }
 
 // ---- the same once more
 
-fn share_states(from: &Option<Shared<u32>>) -> Result<Option<Shared<u32>>, AllocError>
+fn share_states(from: &Option<States>) -> Result<Option<States>, AllocError>
     ensures { IfOk result (λ shared. shared ≡ from.now) }
 {
     match from {
@@ -74,27 +80,26 @@ fn share_delay<'a>(delay: &Option<Delay<'a>>) -> Option<Delay<'a>>
 
 // ---- with one more clause
 
-fn states_of(table: &Table, clause: &Clause) -> Result<Option<Shared<u32>>, AllocError>
-    ensures { IfOk result (λ from. from ≡ model.from_of (meanings_of table.now) clause.now) }
+fn states_of(naming: &mut Naming, clause: &Clause) -> Result<Option<States>, AllocError>
+    ensures stays { naming.new ≡ naming.old }
+    ensures from { IfOk result (λ from. from ≡ model.from_of (meanings_of naming.old) clause.now) }
 {
     match clause {
-        Clause::From { states, .. } => {
-            let numbers = states_named(table, states.names.items())?;
-            Ok(Some(Shared::of(table.alloc, numbers)?))
-        }
+        Clause::From { states, .. } => Ok(Some(naming.states_named(states.names.items())?)),
         _ => Ok(None),
     }
 }
 
 fn from_with(
-    table: &Table,
-    from: &Option<Shared<u32>>,
+    naming: &mut Naming,
+    from: &Option<States>,
     clause: &Clause,
-) -> Result<Option<Shared<u32>>, AllocError>
-    ensures { IfOk result (λ with. with ≡ model.or_first from.now (model.from_of (meanings_of table.now) clause.now)) }
+) -> Result<Option<States>, AllocError>
+    ensures stays { naming.new ≡ naming.old }
+    ensures from { IfOk result (λ with. with ≡ model.or_first from.now (model.from_of (meanings_of naming.old) clause.now)) }
 {
     match from {
-        None => states_of(table, clause),
+        None => states_of(naming, clause),
         Some(_) => share_states(from),
     }
 }
@@ -255,6 +260,15 @@ fn delay_with<'a>(table: &Table, delay: &Option<Delay<'a>>, clause: &'a Clause) 
     }
 }
 
+/// Where no names are to have values, there is one choice.
+fn one_choice(alloc: Global) -> Result<Shared<Shared<Choice>>, AllocError>
+    ensures { IfOk result (λ choices. choices ≡ [] ∷ []) }
+{
+    let mut choices = Items::new(alloc);
+    choices.push(Shared::of(alloc, Items::new(alloc))?)?;
+    Shared::of(alloc, choices)
+}
+
 impl<'a> ClausesInForce<'a> {
     pub fn nothing(alloc: Global) -> Result<ClausesInForce<'a>, AllocError>
         ensures { IfOk result (λ said. said ≡ unsaid) }
@@ -267,6 +281,7 @@ impl<'a> ClausesInForce<'a> {
             provided: None,
             priority: None,
             delay: None,
+            choices: one_choice(alloc)?,
         })
     }
 
@@ -281,21 +296,29 @@ impl<'a> ClausesInForce<'a> {
             provided: share_condition(&self.provided),
             priority: share_priority(&self.priority),
             delay: share_delay(&self.delay),
+            choices: self.choices.share()?,
         })
     }
 
     /// What is said with one more clause.
-    pub fn with(&self, table: &Table, clause: &'a Clause) -> Result<ClausesInForce<'a>, AllocError>
-        ensures { IfOk result (λ said. said ≡ with_clause (meanings_of table.now) self.now clause.now) }
+    pub fn with(
+        &self,
+        naming: &mut Naming,
+        clause: &'a Clause,
+    ) -> Result<ClausesInForce<'a>, AllocError>
+        ensures stays { naming.new ≡ naming.old }
+        ensures said { IfOk result (λ said. said ≡ with_clause (meanings_of naming.old) self.now clause.now) }
     {
+        let table = naming.table();
         Ok(ClausesInForce {
-            from: from_with(table, &self.from, clause)?,
+            from: from_with(naming, &self.from, clause)?,
             to: to_with(table, self.to, clause),
             when: when_with(table, &self.when, clause),
             received: received_with(table, &self.received, clause)?,
             provided: provided_with(table, &self.provided, clause),
             priority: priority_with(table, &self.priority, clause),
             delay: delay_with(table, &self.delay, clause),
+            choices: choices_with(table, &self.choices, clause)?,
         })
     }
 }

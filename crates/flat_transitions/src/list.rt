@@ -1,6 +1,6 @@
 //! The list of a whole specification.
 
-ghost use Rattle.std.specs.Prelude.{◌≡◌, false, IsTrue, IfOk};
+ghost use Rattle.std.specs.Prelude.{◌≡◌, IfOk};
 ghost use Rattle.flat_transitions.specs.FlatList as flat;
 
 use crate::bodies::listed;
@@ -8,10 +8,10 @@ use body_table::meanings;
 use estelle_tree::{Flat, Names, Spec};
 use std::alloc::{AllocError, Global};
 
-/// The flat transitions of each body of a specification, where no clause `any` stands in it.
+/// The flat transitions of each body of a specification. A clause `any` multiplies them by the values of its names: `count`
+/// says beforehand how many there are.
 pub fn flat_list(alloc: Global, spec: &Spec, names: &Names) -> Result<Flat, AllocError>
-    ensures listed { IfOk result (λ list. IsTrue (flat.is_without_any spec.now) → list ≡ flat.flat_list (record { specification = spec.now; names = names.now.uses })) }
-    ensures others { IfOk result (λ list. flat.is_without_any spec.now ≡ false → list ≡ flat.nothing) }
+    ensures { IfOk result (λ list. list ≡ flat.flat_list (record { specification = spec.now; names = names.now.uses })) }
 {
     let table = meanings(alloc, spec, names)?;
     listed(&table, spec)

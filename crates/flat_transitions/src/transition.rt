@@ -1,17 +1,19 @@
 //! A flat transition, and a list of them.
 
-ghost use Rattle.std.specs.Prelude.{◌≡◌, ◌++◌, ◌∷◌, [], OnOk, length, slice_get, option_and_then};
+ghost use Rattle.std.specs.Prelude.{◌≡◌, ◌++◌, ◌∷◌, [], OnOk, length, slice_get};
 ghost use Rattle.std.specs.Option.{option_copied};
-ghost use Rattle.estelle_model.specs.Transitions.{number_of};
-ghost use Rattle.meaning_table.specs.Known.{meanings_of};
-ghost use Rattle.flat_transitions.specs.Walks.{reached};
+ghost use Rattle.flat_transitions.specs.Flat.{with_chosen};
+ghost use Rattle.flat_transitions.specs.Walks.{variant};
 
-use crate::clauses::{Delay, Priority, When};
+use crate::choice::Choice;
+use crate::clauses::{Delay, When};
 use crate::in_force::ClausesInForce;
+use crate::priority::priority_by;
 use crate::shared::Shared;
+use crate::states::States;
 use estelle_model::Type;
 use estelle_tree::{Block, Expr, Items, Sequence};
-use meaning_table::{Table, ordinal_of_const};
+use meaning_table::Table;
 use std::alloc::{AllocError, Global};
 use std::marker::Model;
 
@@ -19,12 +21,12 @@ use std::marker::Model;
 #[derive(Drop)]
 pub struct Transition<'a> {
     said: ClausesInForce<'a>,
+    chosen: Shared<Choice>,
     priority: Option<i64>,
     block: &'a Block,
 }
 
 impl<'a> Model for Transition<'a> {
-    ghost use Rattle.std.specs.Prelude.{[]};
     ghost use Rattle.estelle_model.specs.Transitions as model;
     ghost use Rattle.pascal_values.specs.contracts.value.Value as of_values;
     ghost use Rattle.estelle_model.specs.contracts.denoter.Denoter as of_denoters;
@@ -36,34 +38,30 @@ impl<'a> Model for Transition<'a> {
 
     ghost coded = { Prim.hlevel (codes, of_values.the_row.coded, of_denoters.the_row.coded, of_expressions.the_row.coded, of_blocks.the_row.coded) };
 
-    ghost view = { λ t. record { from = t.said.from; to = t.said.to; when = t.said.when; received = t.said.received; provided = t.said.provided; priority = t.priority; delay = t.said.delay; chosen = []; block = t.block.now } };
-}
-
-/// The number behind `priority`.
-fn number_of(table: &Table, priority: &Option<Priority>) -> Option<i64>
-    ensures { result ≡ option_and_then (number_of (meanings_of table.now)) priority.now }
-{
-    match priority {
-        None => None,
-        Some(priority) => ordinal_of_const(table, priority.get()).ok(),
-    }
+    ghost view = { λ t. record { from = t.said.from; to = t.said.to; when = t.said.when; received = t.said.received; provided = t.said.provided; priority = t.priority; delay = t.said.delay; chosen = t.chosen; block = t.block.now } };
 }
 
 impl<'a> Transition<'a> {
-    /// The transition of a block of which this is said.
-    pub fn of(table: &Table, said: ClausesInForce<'a>, block: &'a Block) -> Transition<'a>
-        ensures { result ≡ reached (meanings_of table.now) said.entry block.now }
+    /// The transition of a block of which this is said, for a choice of values.
+    pub fn of(
+        table: &Table,
+        said: ClausesInForce<'a>,
+        chosen: Shared<Choice>,
+        block: &'a Block,
+    ) -> Transition<'a>
+        ensures { result ≡ variant (with_chosen table.now) said.entry block.now chosen }
     {
-        let priority = number_of(table, &said.priority);
+        let priority = priority_by(table, chosen.items(), &said.priority);
         Transition {
             said,
+            chosen,
             priority,
             block,
         }
     }
 
     /// The states in which it is enabled; none stands for every state.
-    pub fn from(&self) -> Option<&Shared<u32>>
+    pub fn from(&self) -> Option<&States>
         ensures { option_copied result ≡ self.now.from }
     {
         self.said.from.as_ref()
@@ -112,10 +110,15 @@ impl<'a> Transition<'a> {
         self.said.delay.as_ref()
     }
 
-    /// Its block. No values are chosen for it.
+    /// The values that are chosen for the names of `any`, in the order of the names.
+    pub fn chosen(&self) -> &[Choice]
+        ensures { result.now ≡ self.now.chosen }
+    {
+        self.chosen.items()
+    }
+
     pub fn block(&self) -> &'a Block
-        ensures block { result.now ≡ self.now.block }
-        ensures chosen { self.now.chosen ≡ [] }
+        ensures { result.now ≡ self.now.block }
     {
         self.block
     }

@@ -1,4 +1,5 @@
 pub mod Latest
+pub mod Layers
 pub mod Uses
 pub mod TypeEquations
 pub mod Chains

@@ -13,7 +13,8 @@ use estelle_tree::{Const, Sign};
 use pascal_values::{Fault, Value, copy, sub};
 use std::alloc::{AllocError, Global};
 
-fn ordinal_of(value: &Value) -> Result<i64, Fault>
+/// The ordinal of a value of an ordinal type.
+pub fn ordinal_of(value: &Value) -> Result<i64, Fault>
     ensures { result ≡ ordinal_of value.now }
 {
     match value {
@@ -36,7 +37,8 @@ fn signed_int(sign: Sign, value: &Value) -> Result<i64, Fault>
     }
 }
 
-fn ordinal_by_sign(sign: Option<Sign>, value: &Value) -> Result<i64, Fault>
+/// The ordinal of a value with or without a sign before it.
+pub fn ordinal_by_sign(sign: Option<Sign>, value: &Value) -> Result<i64, Fault>
     ensures { result ≡ (constants.by_sign sign value.now >>> ordinal_of) }
 {
     match sign {
@@ -54,7 +56,8 @@ fn bound_at(ordinal: Result<i64, Fault>) -> i64
     }
 }
 
-fn ordinal_named(meaning: &Meaning, sign: Option<Sign>) -> Result<i64, Fault>
+/// The ordinal of a named constant, with or without a sign before the name.
+pub fn ordinal_named(meaning: &Meaning, sign: Option<Sign>) -> Result<i64, Fault>
     ensures { result ≡ (constants.constant_named meaning.now >>> constants.by_sign sign >>> ordinal_of) }
 {
     match meaning {

@@ -1,6 +1,7 @@
 //! Values at places of a text.
 
-ghost use Rattle.std.specs.Prelude.{◌≡◌, ◌∷◌, [], nat_eq, OnOk};
+ghost use Rattle.std.specs.Prelude.{◌≡◌, ◌∷◌, [], ◌++◌, nat_eq, IfOk, OnOk};
+ghost use Rattle.std.specs.List.{flat_map};
 ghost use Rattle.std.specs.Map.{lookup};
 ghost use Rattle.std.specs.Option.{option_copied};
 
@@ -68,4 +69,33 @@ impl<V: Drop> Places<V> {
         }
         Ok(())
     }
+}
+
+/// The latest at a place in several lists, the latest list first.
+pub fn find<'l, V>(mut layers: &[&'l Places<V>], at: u32) -> Option<&'l V>
+    ensures { option_copied result ≡ lookup (nat_eq at) (flat_map (λ p. p.now) layers.entry.now) }
+{
+    while let [layer, rest @ ..] = layers {
+        if let Some(value) = layer.get(at) {
+            return Some(value);
+        }
+        layers = rest;
+    }
+    None
+}
+
+/// A list over others, which are in this order.
+pub fn layered<'l, V>(
+    alloc: Global,
+    top: &'l Places<V>,
+    below: &[&'l Places<V>],
+) -> Result<Items<&'l Places<V>>, AllocError>
+    ensures { IfOk result (λ layers. flat_map (λ p. p.now) layers ≡ top.now ++ flat_map (λ p. p.now) below.now) }
+{
+    let mut layers = Items::new(alloc);
+    layers.push(top)?;
+    for layer in below {
+        layers.push(*layer)?;
+    }
+    Ok(layers)
 }

@@ -2,32 +2,30 @@
 
 ghost use Rattle.std.specs.Prelude.{◌≡◌, IfOk, OnOk};
 ghost use Rattle.estelle_model.specs.Names as spec;
-ghost use Rattle.meaning_table.specs.Known.{by_place, unknown, with_meaning, meanings_of};
+ghost use Rattle.meaning_table.specs.Known.{unknown, with_meaning, meanings_of};
 
-use crate::places::Places;
-use crate::required::{Words, required_words};
+use crate::places::{Places, find, layered};
+use crate::used::{HeldNames, UsedNames};
 use estelle_model::Meaning;
-use estelle_tree::{Name, Names, Sequence, Span, Use};
+use estelle_tree::{Items, Name, Names, Sequence, Span};
 use std::alloc::{AllocError, Global};
 use std::marker::Model;
 
-/// What each name in use means, as far as it is declared.
+/// What each name in use means, as far as it is declared. A table may lie over another one, which stays as it is.
 #[derive(Drop)]
 pub struct Table<'a> {
     pub alloc: Global,
-    /// By the place of a name in use.
-    names: Places<Use>,
+    names: HeldNames<'a>,
     /// By the place of a declaration.
     declared: Places<Meaning<'a>>,
-    required: Words<'a>,
-    other: Meaning<'a>,
+    /// What is declared in the tables below, the uppermost first.
+    below: Items<&'a Places<Meaning<'a>>>,
 }
 
 impl<'a> Model for Table<'a> {
-    ghost use Rattle.std.specs.Prelude.{◌≡◌, map};
-    ghost use Rattle.estelle_model.specs.declared.meaning.Meaning.TheVariants.{Other};
-    ghost use Rattle.estelle_model.specs.Names as meant;
-    ghost use Rattle.meaning_table.specs.Known.{Known, by_place};
+    ghost use Rattle.std.specs.Prelude.{◌++◌};
+    ghost use Rattle.std.specs.List.{flat_map};
+    ghost use Rattle.meaning_table.specs.Known.{Known};
     ghost use Rattle.pascal_values.specs.contracts.value.Value as of_values;
     ghost use Rattle.estelle_model.specs.contracts.denoter.Denoter as of_denoters;
     ghost use Rattle.estelle_tree.specs.contracts.tree.statement.Stmts as of_statements;
@@ -37,22 +35,9 @@ impl<'a> Model for Table<'a> {
 
     ghost coded = { Prim.hlevel (codes, of_values.the_row.coded, of_denoters.the_row.coded, of_statements.the_row.coded) };
 
-    ghost view = { λ t. record { names = map (λ u. u.1) t.names; declared = t.declared } };
+    ghost use Rattle.meaning_table.specs.Held.{names_of};
 
-    ghost invariant = { λ t. (t.names ≡ by_place (map (λ u. u.1) t.names)) × (t.required ≡ meant.required) × (t.other ≡ Other) };
-}
-
-/// The names in use by their places. Of two at one place the first counts, and so it is the latest.
-fn names_by_place(alloc: Global, names: &[Use]) -> Result<Places<Use>, AllocError>
-    ensures { IfOk result (λ places. places ≡ by_place names.now) }
-{
-    let mut places = Places::new(alloc);
-    let mut i = names.len();
-    while 0 < i {
-        i -= 1;
-        places.push(names[i].at.start, names[i])?;
-    }
-    Ok(places)
+    ghost view = { λ t. record { names = names_of t.names; declared = t.declared ++ flat_map (λ p. p.now) t.below } };
 }
 
 impl<'a> Table<'a> {
@@ -60,14 +45,23 @@ impl<'a> Table<'a> {
     pub fn new(alloc: Global, names: &Names) -> Result<Table<'a>, AllocError>
         ensures { IfOk result (λ table. table ≡ unknown names.now.uses) }
     {
-        let names = names_by_place(alloc, names.uses.items())?;
-        let required = required_words(alloc)?;
         Ok(Table {
             alloc,
-            names,
+            names: HeldNames::Own(UsedNames::of(alloc, names)?),
             declared: Places::new(alloc),
-            required,
-            other: Meaning::Other,
+            below: Items::new(alloc),
+        })
+    }
+
+    /// A table over this one, in which nothing more is declared yet.
+    pub fn over(&self) -> Result<Table<'_>, AllocError>
+        ensures { IfOk result (λ table. table ≡ self.now) }
+    {
+        Ok(Table {
+            alloc: self.alloc,
+            names: HeldNames::Lent(self.names.get()),
+            declared: Places::new(self.alloc),
+            below: layered(self.alloc, &self.declared, self.below.items())?,
         })
     }
 
@@ -79,22 +73,10 @@ impl<'a> Table<'a> {
     }
 
     /// The name in the declaration of a name in use.
-    fn declaration_of(&self, name: &Name) -> Option<Span>
+    pub fn declaration_of(&self, name: &Name) -> Option<Span>
         ensures { result ≡ spec.declaration_of self.now.names name.now }
     {
-        match self.names.get(name.span.start).copied() {
-            None => None,
-            Some(used) => Some(used.decl),
-        }
-    }
-
-    fn required_meaning(&self, word: &[u8]) -> &Meaning<'a>
-        ensures { result.now ≡ spec.required_meaning word.now }
-    {
-        if let Some(meaning) = self.required.find(word) {
-            return meaning;
-        }
-        &self.other
+        self.names.get().declaration_of(name)
     }
 
     fn meaning_at(&self, at: u32) -> &Meaning<'a>
@@ -103,7 +85,10 @@ impl<'a> Table<'a> {
         if let Some(meaning) = self.declared.get(at) {
             return meaning;
         }
-        &self.other
+        if let Some(meaning) = find(self.below.items(), at) {
+            return meaning;
+        }
+        self.names.get().other()
     }
 
     /// What a name means.
@@ -111,10 +96,10 @@ impl<'a> Table<'a> {
         ensures { result.now ≡ meanings_of self.now name.now }
     {
         match self.declaration_of(name) {
-            None => &self.other,
+            None => self.names.get().other(),
             Some(decl) => {
                 if decl.end == 0 {
-                    return self.required_meaning(name.word.items());
+                    return self.names.get().required_meaning(name.word.items());
                 }
                 self.meaning_at(decl.start)
             }

@@ -13,6 +13,7 @@ use crate::hosts::whole;
 use crate::table::Table;
 use estelle_model::{Denoter, Host, Meaning, Type};
 use estelle_tree::{Boxed, Const, Items, Name, Ordinal, Sequence, TypeExpr, TypedNames};
+use pascal_values::MAXINT;
 use std::alloc::{AllocError, Global};
 
 /// The host type of an ordinal type, or of a set's base.
@@ -79,6 +80,28 @@ pub fn ordinal_type(table: &Table, ordinal: &Ordinal) -> Result<Type, AllocError
         Ordinal::Name(name) => named_type(table, name),
         Ordinal::Enumeration { names, .. } => whole(table.alloc, enumeration(names.names.items())?),
         Ordinal::Subrange { low, high, .. } => Type::of(table.alloc, subrange(table, low, high)),
+    }
+}
+
+fn range_of_meaning(meaning: &Meaning) -> (i64, i64)
+    ensures { result ≡ types.range_of (spec.type_of_meaning meaning.now) }
+{
+    match meaning {
+        Meaning::TypeName(denoter) => range_of(denoter.denoter()),
+        _ => (-MAXINT, MAXINT),
+    }
+}
+
+/// The least and the greatest ordinal of an ordinal type, which takes no memory.
+pub fn range_in(table: &Table, ordinal: &Ordinal) -> (i64, i64)
+    ensures { result ≡ types.range_of (spec.ordinal_type (meanings_of table.now) ordinal.now) }
+{
+    match ordinal {
+        Ordinal::Name(name) => range_of_meaning(table.meaning(name)),
+        Ordinal::Enumeration { names, .. } => {
+            (0, names.names.items().len().saturating_sub(1) as i64)
+        }
+        Ordinal::Subrange { low, high, .. } => (bound(table, low), bound(table, high)),
     }
 }
 

@@ -50,6 +50,7 @@ module _ (S : Type 0) (on : Offers S) (K : S → Type 0) (kept : (s : S) (p : Pa
 
   keeping_shows : ShowAlike S S on on [] Keeping
   keeping_shows = record {
+    types = λ s t e. ap (λ (x : S). (on.core x).types) e.0;
     instances = λ s t e p inside. ap (λ (x : S). map.get (on.core x).instances p) e.0;
     held = λ s t e p c k inside is. inside_root c;
     stored = λ s t e p x way v inside. (ap (λ y. on.keeps p (Store x way v) y) e.0, kept s p x way v e.1);

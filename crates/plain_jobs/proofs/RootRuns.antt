@@ -24,13 +24,13 @@ use Rattle.plain_jobs.proofs.Roots.{step_at, changed_alone, outline_of, outline_
 module _ (g : Situation) (links : List Link) (o : Option Instance) where
   -- the situation with these instances
   abbrev pub with_instances : Instances → Situation
-  with_instances m = record g { core = record { instances = m; links = g.core.links } }
+  with_instances m = record g { core = record g.core { instances = m } }
 
   abbrev pub with_root : Option Instance → Situation
   with_root i = with_instances (alone i)
 
   abbrev pub log_of : Instances → Logged
-  log_of m = record { image = record { instances = m; links = links }; log = [] }
+  log_of m = record { image = record g.core { instances = m; links = links }; log = [] }
 
   abbrev pub root_log : Option Instance → Logged
   root_log i = log_of (alone i)
@@ -52,6 +52,7 @@ module _ (g : Situation) (links : List Link) (o : Option Instance) where
 
   pub shown : ShowAlike Acting Logged on_situation on_log [] RootAlike
   shown = record {
+    types = λ a l r. ap (λ (b : Acting). b.situation.core.types) r.acting ∙ sym (ap (λ (k : Logged). k.image.types) r.logged);
     instances = λ a l r p inside. ap (λ (b : Acting). map.get b.situation.core.instances p) r.acting ∙ sym (ap (λ (k : Logged). map.get k.image.instances p) r.logged);
     held = λ a l r p c k inside is. inside_root c;
     stored = λ a l r p x way v inside. kept a l r p (Store x way v);

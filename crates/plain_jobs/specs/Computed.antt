@@ -36,4 +36,4 @@ IsMadeOf s job (Some t) outcome left = IsMade (job_run s job t) outcome left
 -- the outcome of the job with a transition's number is computed on a log; transition 0 is the initialization of the specification
 abbrev pub IsComputed : Subject → Job → ℕ → Outcome → ℕ → Type 0
 IsComputed s job zero outcome left = IsMade (start_run s job.budget) outcome left
-IsComputed s job (suc n) outcome left = IsMadeOf s job (transition_at s job.trans (map.get (core_of job.image).instances job.path)) outcome left
+IsComputed s job (suc n) outcome left = IsMadeOf s job (transition_at s job.trans (map.get (core_of s job.image).instances job.path)) outcome left

@@ -1,10 +1,6 @@
 -- The laws of bodies of Pascal alone.
-use Rattle.std.specs.Prelude.{◌≡◌, ℕ, Bool, List, Option, Some, IsTrue}
+use Rattle.std.specs.Prelude.{◌≡◌, ℕ, List, Some, IsTrue}
 use Rattle.pascal_values.specs.declared.value.Value.{Value}
-use Rattle.estelle_model.specs.declared.image.Image.{Image}
-use Rattle.estelle_model.specs.declared.image.Interaction.{Interaction}
-use Rattle.estelle_model.specs.declared.job.Job.{Job}
-use Rattle.estelle_model.specs.declared.job.Done.{Done}
 use Rattle.estelle_tree.specs.Paths.{Path}
 use Rattle.estelle_model.specs.States.{Logged, on_log}
 use Rattle.estelle_model.specs.Steps.{Running}
@@ -16,11 +12,9 @@ use Rattle.estelle_model.specs.Transitions.{Transition}
 use Rattle.estelle_model.specs.Subject.{Subject, transition}
 use Rattle.estelle_model.specs.Clauses.{fire_step, start_step}
 use Rattle.estelle_model.specs.Situation.{Acting, on_situation}
-use Rattle.estelle_model.specs.Jobs.{Answers}
 use Rattle.plain_jobs.specs.Plain.{IsPlainRoutine, HasPlainRoutines, Leaves}
-use Rattle.plain_jobs.specs.Computed.{IsPlain, IsComputed}
+use Rattle.plain_jobs.specs.Computed.{IsPlain}
 use Rattle.plain_jobs.specs.Specifications.{is_plain_specification}
-use Rattle.plain_jobs.specs.Guards.{IsGuard, guard_of_image}
 
 -- where no statement of Estelle stands in a specification, none is run, whatever its names mean
 abbrev pub SpecificationsArePlain : Type 0
@@ -44,13 +38,3 @@ FiringsKeepLog = (s : Subject) → IsPlain s → (k n : ℕ) (t : Transition) �
 
 abbrev pub StartKeepsLog : Type 0
 StartKeepsLog = (s : Subject) → IsPlain s → (l : Running Logged) → Leaves (λ j. j.log ≡ l.state.log) (start_step Logged on_log s l)
-
--- what is computed on the log answers the job, whichever instance's it is
-abbrev pub JobsAreAnswered : Type 0
-JobsAreAnswered = (s : Subject) → IsPlain s → (job : Job) (done : Done) → done.ticket ≡ job.ticket → done.path ≡ job.path → done.trans ≡ job.trans →
-    IsComputed s job job.trans done.outcome done.left → Answers s job done
-
--- what is computed of a guard on the log is the guard in each situation with this private part
-abbrev pub GuardsAreAnswered : Type 0
-GuardsAreAnswered = (s : Subject) → IsPlain s → (p : Path) (image : Image) (n : ℕ) (head : Option Interaction) (timed : Bool) (budget : ℕ) →
-    IsGuard s p image n head timed budget (guard_of_image s p image n head timed budget)

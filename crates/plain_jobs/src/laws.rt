@@ -1,6 +1,6 @@
 //! Laws of bodies of Pascal alone: their contracts are the laws, and they do nothing.
 
-ghost use Rattle.plain_jobs.specs.Laws.{SpecificationsArePlain, LogIsKept, RestIsKept, FiringsKeepLog, StartKeepsLog, JobsAreAnswered, GuardsAreAnswered};
+ghost use Rattle.plain_jobs.specs.Laws.{SpecificationsArePlain, LogIsKept, RestIsKept, FiringsKeepLog, StartKeepsLog};
 
 /// Where no statement of Estelle stands in a specification, none stands in what is run of it.
 pub fn specifications_are_plain()
@@ -18,14 +18,4 @@ pub fn plain_blocks_keep()
 pub fn runs_keep_log()
     ensures firing { FiringsKeepLog }
     ensures start { StartKeepsLog }
-{}
-
-/// What the block of a job comes to on a log that begins with the private part answers the job.
-pub fn jobs_are_answered()
-    ensures { JobsAreAnswered }
-{}
-
-/// A guard on such a log is the guard in each situation with this private part.
-pub fn guards_are_answered()
-    ensures { GuardsAreAnswered }
 {}

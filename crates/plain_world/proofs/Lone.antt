@@ -1,6 +1,6 @@
 -- The situation in which the root is alone: its system, its children, its priorities, and what may be selected.
 use Rattle.std.proofs.Common.{◌≡◌, ℕ, suc, Bool, true, false, List, [], ◌∷◌, ◌++◌, map as each, filter, Option, Some, None, refl, sym, ap, cond, ◌∙◌}
-use Rattle.std.specs.Prelude.{is_some, not, ◌&&◌, ◌||◌, ℤ, length, fold, flat_map, slice_get, option_and_then}
+use Rattle.std.specs.Prelude.{is_some, not, ◌&&◌, ◌||◌, ℤ, length, flat_map, slice_get, option_and_then}
 use Rattle.std.specs.List.{list_any, range_with_len}
 use Rattle.std.specs.FinMap as map
 use Rattle.std.specs.FinMap.{nat_cmp-IsAntisymmetric, slice_cmp-IsAntisymmetric, IsAntisymmetric}
@@ -10,7 +10,7 @@ use Rattle.std.specs.declared.cmp.Ordering.TheVariants.{Less, Equal, Greater}
 use Rattle.estelle_tree.specs.declared.transition.Pair.{Pair}
 use Rattle.estelle_model.specs.declared.image.Image.{Image}
 use Rattle.estelle_model.specs.declared.meaning.Attribute.TheVariants.{Systemprocess}
-use Rattle.estelle_tree.specs.Paths.{Path, path_cmp, is_inside, child}
+use Rattle.estelle_tree.specs.Paths.{Path, path_cmp}
 use Rattle.estelle_model.specs.Core.{Instance, Instances}
 use Rattle.estelle_model.specs.Bodies.{bodies}
 use Rattle.estelle_model.specs.Transitions.{Transition, Delay}
@@ -22,7 +22,7 @@ use Rattle.estelle_model.specs.Firing.{alone, transition_at, guard}
 use Rattle.estelle_model.specs.Attributes.{attribute, attribute_at, is_system, is_process, IsSystem, IsProcess}
 use Rattle.estelle_model.specs.Delays.{is_on, is_delayed, has_delay, has_delays, may, must, delayed_of, delayed_in, wanted_by, renew}
 use Rattle.estelle_model.specs.Selection.{priority, is_higher, has_priority, is_child, children}
-use Rattle.estelle_model.proofs.PrivateParts.{pairs_total}
+use Rattle.estelle_model.proofs.Pairs.{pairs_total}
 use Rattle.plain_jobs.proofs.Roots.{get_alone, get_below, retain_all, entries_alone}
 use Rattle.plain_world.specs.Processes.{IsOneProcess}
 use Rattle.plain_world.specs.Worlds.{lone, IsOf, guard_on}
@@ -80,7 +80,7 @@ none_retained = map.same_map pairs_total pairs_apart _ _ (λ q. map.get-retain_k
 
 module _ (s : Subject) (process : IsOneProcess s) (i : Instance) (body_is : i.body ≡ 0) (pending : List Pair) where
   abbrev g : Situation
-  g = lone i pending
+  g = lone s i pending
 
   -- ---- the root is the only system, and has no children
 

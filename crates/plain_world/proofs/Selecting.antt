@@ -20,7 +20,7 @@ use Rattle.estelle_model.specs.Situation.{Situation}
 use Rattle.estelle_model.specs.Firing.{guard}
 use Rattle.estelle_model.specs.Delays.{is_on, may}
 use Rattle.estelle_model.specs.Selection.{May, Must, has_priority, Selects, own, process, SelectsEach, none}
-use Rattle.estelle_model.specs.Choosers.{pick, always_first, Picks}
+use Rattle.estelle_model.specs.Choosers.{pick, always_first}
 use Rattle.estelle_model.specs.Runs.{NoGuardFaults, IsFirstFault}
 use Rattle.estelle_model.specs.Schedule.{numbers_of, counted, offered, Chosen, ChosenOfEach}
 use Rattle.estelle_model.specs.Schedule as schedule
@@ -78,7 +78,7 @@ before_root (k ∷ m) n' n e = absurd (cc)
 
 module _ (s : Subject) (one : IsOneProcess s) (i : Instance) (body_is : i.body ≡ 0) (pending : List Pair) (budget : ℕ) (image : Image) (of : IsOf i image) where
   abbrev g : Situation
-  g = lone i pending
+  g = lone s i pending
 
   abbrev guards : ℕ → Guard
   guards = guard_on s budget image

@@ -44,14 +44,14 @@ no_fault es e h = subst IsNoFault (sym (last-push es e)) h
 -- ---- in a situation in which the root is alone
 
 module _ (s : Subject) (one : IsOneProcess s) (budget : ℕ) (i : Instance) (body_is : i.body ≡ 0) (image : Image) (of : IsOf i image) where
-  idle_lone : IsIdle (lone i []) []
+  idle_lone : IsIdle (lone s i []) []
   idle_lone p c inside = omega (arith, c.1)
 
-  selects_found : (takes : Option ℕ) → Found (guard_on s budget image) takes → Selects s budget (lone i []) [] (taken takes)
+  selects_found : (takes : Option ℕ) → Found (guard_on s budget image) takes → Selects s budget (lone s i []) [] (taken takes)
   selects_found None f = selects_none s one i body_is [] budget image of f
   selects_found (Some n) f = selects_first s one i body_is [] budget image of n f
 
-  chooses_found : (takes : Option ℕ) → Found (guard_on s budget image) takes → Chosen always_first s budget (lone i []) [] tt (taken takes) tt
+  chooses_found : (takes : Option ℕ) → Found (guard_on s budget image) takes → Chosen always_first s budget (lone s i []) [] tt (taken takes) tt
   chooses_found None f = chooses_none s one i body_is [] budget image of f
   chooses_found (Some n) f = chooses_first s one i body_is [] budget image of n f
 
@@ -59,7 +59,7 @@ module _ (s : Subject) (one : IsOneProcess s) (budget : ℕ) (i : Instance) (bod
   found_sound None f k kind e = let wrong : Off ≡ Faulted kind = sym (f k) ∙ e in absurd (cc)
   found_sound (Some n) f k kind e = f.sound k kind e
 
-  select_applies : (takes : Option ℕ) → Found (guard_on s budget image) takes → Applies s budget (lone i []) (Select [] 0 (taken takes))
+  select_applies : (takes : Option ℕ) → Found (guard_on s budget image) takes → Applies s budget (lone s i []) (Select [] 0 (taken takes))
   select_applies takes f = record {
     is_system = root_is_system s one i body_is [];
     idle = idle_lone;
@@ -69,13 +69,13 @@ module _ (s : Subject) (one : IsOneProcess s) (budget : ℕ) (i : Instance) (bod
     selects = subst (λ (g : Situation). Selects s budget g [] (taken takes)) (sym (renewed s one i body_is [] budget)) (selects_found takes f);
   }
 
-  select_leaves : (takes : Option ℕ) → next s budget (lone i []) (Select [] 0 (taken takes)) ≡ lone i (taken takes)
+  select_leaves : (takes : Option ℕ) → next s budget (lone s i []) (Select [] 0 (taken takes)) ≡ lone s i (taken takes)
   select_leaves takes = ap (λ (g : Situation). record g { pending = none_taken ++ taken takes }) (renewed s one i body_is [] budget)
 
 -- ---- which system is due
 
 module _ (s : Subject) (one : IsOneProcess s) (budget turns : ℕ) (image : Image) (es : List Event) where
-  root_due : Stands image None (situation s budget es) → awaits s budget [] es ≡ true → IsFirstDue s budget es 0 []
+  root_due : Stands s image None (situation s budget es) → awaits s budget [] es ≡ true → IsFirstDue s budget es 0 []
   root_due h waits = record {
     due = record {
       is_system = subst (λ (g : Situation). IsSystem s g []) (sym h.is) (root_is_system s one h.root.instance h.root.body []);
@@ -85,7 +85,7 @@ module _ (s : Subject) (one : IsOneProcess s) (budget turns : ℕ) (image : Imag
     first = λ other less _. none_less other less;
   }
 
-  none_due : (pending : Option ℕ) → Stands image pending (situation s budget es) → awaits s budget [] es ≡ false → NoneDue s budget es 0
+  none_due : (pending : Option ℕ) → Stands s image pending (situation s budget es) → awaits s budget [] es ≡ false → NoneDue s budget es 0
   none_due pending h settled system due =
       let is : system ≡ [] = system_is_root s one h.root.instance h.root.body (taken pending) system (subst (λ (g : Situation). IsSystem s g system) h.is due.is_system) in
       let wrong : false ≡ true = sym (ap (λ b. b || false) settled) ∙ subst (λ (m : Path). IsTrue (awaits s budget m es || awaits_clock m 0 es)) is due.awaits in
@@ -107,7 +107,7 @@ fault_end s budget turns es n kind run reached =
 module _ (s : Subject) (one : IsOneProcess s) (budget turns : ℕ) where
   -- ---- the start
 
-  pub begin_open : (image : Image) (effects : List Effect) → RootRan [] (outcome.Ran image effects) (start s budget) → IsOpen s budget turns image None true 0 (Start [] [] ∷ [])
+  pub begin_open : (image : Image) (effects : List Effect) → RootRan s [] (outcome.Ran image effects) (start s budget) → IsOpen s budget turns image None true 0 (Start [] [] ∷ [])
   begin_open image effects r = record {
     run = subst (λ (x : Firing). Begins s budget x (Start [] []) []) (sym r.2) (refl, refl, tt);
     stands = record { root = r.0; is = ap (started s) r.2 };
@@ -121,7 +121,7 @@ module _ (s : Subject) (one : IsOneProcess s) (budget turns : ℕ) where
     settled = λ waits. absurd (let wrong : true ≡ false = waits in cc);
   }
 
-  pub begin_fault : (kind : fault.Fault) → RootRan [] (outcome.Faulted kind) (start s budget) → IsStopped s budget turns (Fault [] 0 kind ∷ []) (end.Faulted kind)
+  pub begin_fault : (kind : fault.Fault) → RootRan s [] (outcome.Faulted kind) (start s budget) → IsStopped s budget turns (Fault [] 0 kind ∷ []) (end.Faulted kind)
   begin_fault kind r = record {
     run = subst (λ (x : Firing). Begins s budget x (Fault [] 0 kind) []) (sym r.1) (refl, refl, refl, refl);
     stops = refl;
@@ -190,7 +190,7 @@ module _ (s : Subject) (one : IsOneProcess s) (budget turns : ℕ) where
         picked = subst (λ (x : Situation). Picks always_first tt x.pending (pair [] n) tt) (sym h.stands.is) (record { takes = refl; leaves = refl });
       }
 
-      in_lone : (f : Firing) → fire s budget (lone h.stands.root.instance (taken (Some n))) [] n ≡ f → fire s budget g [] n ≡ f
+      in_lone : (f : Firing) → fire s budget (lone s h.stands.root.instance (taken (Some n))) [] n ≡ f → fire s budget g [] n ≡ f
       in_lone f e = ap (λ (x : Situation). fire s budget x [] n) h.stands.is ∙ e
 
       no_more : without (pair [] n) (taken (Some n)) ≡ []
@@ -200,13 +200,13 @@ module _ (s : Subject) (one : IsOneProcess s) (budget turns : ℕ) where
       fire_go after effects firing =
           let r = firing h.stands.root (taken (Some n)) in
           let e = Fire [] n [] [] in
-          let f : Firing = Ran (lone r.0.instance (taken (Some n))) [] [] r.1 in
+          let f : Firing = Ran (lone s r.0.instance (taken (Some n))) [] [] r.1 in
           let ran : fire s budget g [] n ≡ f = in_lone f r.2 in
           record {
             run = IsRun-push s budget es e h.run h.goes_on (record { pending = is_pending; ran = subst (HasRun [] []) (sym ran) (refl, refl) });
             stands = record {
               root = r.0;
-              is = situation-push s budget es e h.run ∙ ap (fired (pair [] n) g) ran ∙ ap (lone r.0.instance) no_more;
+              is = situation-push s budget es e h.run ∙ ap (fired (pair [] n) g) ran ∙ ap (lone s r.0.instance) no_more;
             };
             goes_on = no_fault es e tt;
             reached = goes s budget turns es e h.reached (omega (arith, h.counted, some)) (λ clock. is_next clock);
@@ -247,7 +247,7 @@ module _ (s : Subject) (one : IsOneProcess s) (budget turns : ℕ) where
           clockless = tt;
         }
       where
-        all_off : (h : IsOpen s budget turns image None false count es) (m : Path) (n : ℕ) → guard s budget (lone h.stands.root.instance []) m n ≡ Off
+        all_off : (h : IsOpen s budget turns image None false count es) (m : Path) (n : ℕ) → guard s budget (lone s h.stands.root.instance []) m n ≡ Off
         all_off h [] n = guard_is s one h.stands.root.instance h.stands.root.body budget image h.stands.root.shows [] n ∙ h.settled refl refl n
         all_off h (k ∷ m) n = guard_elsewhere s one h.stands.root.instance h.stands.root.body budget image h.stands.root.shows [] k m n
 

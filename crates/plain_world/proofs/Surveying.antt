@@ -18,7 +18,7 @@ use Rattle.plain_world.proofs.Roots.{found_is}
 
 module _ (s : Subject) (budget : ℕ) (image : Image) (root : ShowsRoot image) where
   off_without : (n : ℕ) → transition s root.instance.body n ≡ None → guard_on s budget image n ≡ Off
-  off_without n none = ap (guard_for s [] image n None false budget) (found_is root.instance image root.shows) ∙ ap (guard_by s [] image None false budget root.instance) none
+  off_without n none = ap (guard_for s [] image n None false budget) (found_is s root.instance image root.shows) ∙ ap (guard_by s [] image None false budget root.instance) none
 
   pub off_at_zero : guard_on s budget image 0 ≡ Off
   off_at_zero = off_without 0 refl

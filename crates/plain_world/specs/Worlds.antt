@@ -13,7 +13,7 @@ use Rattle.estelle_model.specs.declared.job.Job.{Job}
 use Rattle.estelle_model.specs.declared.job.Outcome.{Outcome}
 use Rattle.estelle_model.specs.declared.job.Outcome.TheVariants as outcome
 use Rattle.estelle_model.specs.Core.{Instance}
-use Rattle.estelle_model.specs.Subject.{Subject}
+use Rattle.estelle_model.specs.Subject.{Subject, types_of_variables}
 use Rattle.estelle_model.specs.Situation.{Situation}
 use Rattle.estelle_model.specs.Firing.{Firing, Ran, Failed, alone, fire}
 use Rattle.estelle_model.specs.Jobs.{part_of_entry}
@@ -28,8 +28,8 @@ use Rattle.plain_jobs.specs.Guards.{guard_of_image}
 -- ---- the root alone
 
 -- the situation that has the root alone, with this record, where nothing is linked or waits and no timer runs
-abbrev pub lone : Instance → List Pair → Situation
-lone i pending = record { core = record { instances = alone (Some i); links = [] }; mail = []; made = 0; timers = map.empty; now = 0; pending = pending }
+abbrev pub lone : Subject → Instance → List Pair → Situation
+lone s i pending = record { core = record { instances = alone (Some i); links = []; types = types_of_variables s }; mail = []; made = 0; timers = map.empty; now = 0; pending = pending }
 
 -- the image has the root's record alone
 abbrev pub IsOf : Instance → Image → Type 0
@@ -46,13 +46,13 @@ abbrev pub root_job : Image → ℕ → ℕ → Job
 root_job image n budget = record { ticket = 0; path = []; trans = n; image = image; head = None; budget = budget }
 
 -- what the start, or a firing of the root, comes to: another record of the root, and nothing else changes
-abbrev pub RootRan : List Pair → Outcome → Firing → Type 0
-RootRan pending (outcome.Ran image effects) f = (root : ShowsRoot image) × (left : ℕ) × (f ≡ Ran (lone root.instance pending) [] [] left)
-RootRan pending (outcome.Faulted kind) f = (left : ℕ) × (f ≡ Failed kind left)
+abbrev pub RootRan : Subject → List Pair → Outcome → Firing → Type 0
+RootRan s pending (outcome.Ran image effects) f = (root : ShowsRoot image) × (left : ℕ) × (f ≡ Ran (lone s root.instance pending) [] [] left)
+RootRan s pending (outcome.Faulted kind) f = (left : ℕ) × (f ≡ Failed kind left)
 
 -- whatever is pending, the outcome is that of the firing of the root that the image shows
 abbrev pub IsFiringOf : Subject → ℕ → Image → ℕ → Outcome → Type 0
-IsFiringOf s budget image n out = (root : ShowsRoot image) (pending : List Pair) → RootRan pending out (fire s budget (lone root.instance pending) [] n)
+IsFiringOf s budget image n out = (root : ShowsRoot image) (pending : List Pair) → RootRan s pending out (fire s budget (lone s root.instance pending) [] n)
 
 -- what is computed of the guard of the root's transition with a number
 abbrev pub guard_on : Subject → ℕ → Image → ℕ → Guard
@@ -88,9 +88,9 @@ taken None = []
 taken (Some n) = pair [] n ∷ []
 
 -- the image shows the root, which is alone in the situation, where this firing is pending or none
-pub record Stands (image : Image) (pending : Option ℕ) (g : Situation) : Type 0 where
+pub record Stands (s : Subject) (image : Image) (pending : Option ℕ) (g : Situation) : Type 0 where
   pub root : ShowsRoot image
-  pub is : g ≡ lone root.instance (taken pending)
+  pub is : g ≡ lone s root.instance (taken pending)
 
 -- a clock that is not asked, and the chooser that takes the first candidate each time
 abbrev pub unasked : Option ℕ → Kept (Unit {0})
@@ -99,7 +99,7 @@ unasked clock = kept_first clock tt
 -- the events so far are a planned run to this state, and it may go on
 pub record IsOpen (s : Subject) (budget turns : ℕ) (image : Image) (pending : Option ℕ) (waits : Bool) (count : ℕ) (events : List Event) : Type 0 where
   pub run : IsRun s budget events
-  pub stands : Stands image pending (situation s budget events)
+  pub stands : Stands s image pending (situation s budget events)
   pub goes_on : IsNoFault (last_event events)
   pub reached : (clock : Option ℕ) → Reaches always_first s budget turns clock tt events (unasked clock)
   pub counted : fires events ≡ count

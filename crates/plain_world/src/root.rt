@@ -37,7 +37,7 @@ fn job(alloc: Global, image: Image, trans: u32, budget: u32) -> Job
 /// Initializes the specification.
 pub fn start(alloc: Global, program: &Program, budget: u32) -> Result<Outcome, AllocError>
     requires { IsOneProcess program.now }
-    ensures { IfOk result (λ outcome. RootRan [] outcome (start program.now budget)) }
+    ensures { IfOk result (λ outcome. RootRan program.now [] outcome (start program.now budget)) }
 {
     let image = no_image(alloc);
     let done = fire_plain(alloc, program, job(alloc, image, 0, budget))?;

@@ -185,10 +185,10 @@ fn go_on(
     image: Image,
 ) -> Result<(Run, End), AllocError>
     requires process { IsOneProcess program.now }
-    requires begun { RootRan [] (Outcome.Ran image []) (start program.now limits.budget) }
+    requires begun { RootRan program.now [] (Outcome.Ran image []) (start program.now limits.budget) }
     ensures { IfOk result (λ r. IsStopped program.now limits.budget limits.turns r.0.events r.1) }
 {
-    let count = program.transitions();
+    let count = program.transitions(0);
     let mut events = Vec::new(alloc);
     events.push(begin(alloc))?;
     let mut world = World {
@@ -218,7 +218,7 @@ fn fail(
     kind: Fault,
 ) -> Result<(Run, End), AllocError>
     requires process { IsOneProcess program.now }
-    requires faults { RootRan [] (Outcome.Faulted kind) (start program.now limits.budget) }
+    requires faults { RootRan program.now [] (Outcome.Faulted kind) (start program.now limits.budget) }
     ensures { IfOk result (λ r. IsStopped program.now limits.budget limits.turns r.0.events r.1) }
 {
     let mut events = Vec::new(alloc);

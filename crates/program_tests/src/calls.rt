@@ -51,6 +51,28 @@ pub struct Answer {
     pub moment: u64,
 }
 
+impl Answer {
+    /// Whether the call answers this status, and out and err hold these texts.
+    pub(crate) fn is(&self, status: Status, out: &str, err: &str) -> bool {
+        self.status == status
+            && self.out.as_slice() == out.as_bytes()
+            && self.err.as_slice() == err.as_bytes()
+    }
+
+    /// Whether the call refuses its text: nothing on out, and on err the one line with this reason.
+    pub(crate) fn refuses(&self, reason: &str) -> bool {
+        self.status == Status::Refused && self.out.is_empty() && is_line(&self.err, reason)
+    }
+}
+
+/// Whether this is the line that tells of this reason.
+pub(crate) fn is_line(bytes: &[u8], reason: &str) -> bool {
+    match bytes.strip_prefix(b"estelle: ".as_slice()) {
+        Some(told) => told.strip_suffix(b"\n".as_slice()) == Some(reason.as_bytes()),
+        None => false,
+    }
+}
+
 fn source(alloc: Global, device: Device, input: &[u8]) -> Result<MemorySource, AllocError> {
     Ok(MemorySource {
         bytes: input.to_vec(alloc)?,

@@ -1,8 +1,9 @@
 //! Calls on devices that fail, and on devices that move few bytes at a time.
 
-use crate::calls::{ALL_STEADY, Device, Devices, call, run};
+use crate::calls::{ALL_STEADY, Answer, Device, Devices, call, run};
 use crate::traces::{COUNTER_TRACE, OVERFLOW_TRACE, OVERFLOWING};
 use estelle_cli::Status;
+use std::alloc::{AllocError, Global};
 use std::test::Fail;
 use test_texts::COUNTER;
 
@@ -156,26 +157,54 @@ fn device(moves: Moves) -> Device {
     }
 }
 
+/// Whether the call of a row answers what is wanted.
+fn holds(alloc: Global, row: &Row) -> Result<bool, AllocError> {
+    let (_, (source, out, err), input, held, line, status) = row;
+    let devices = Devices {
+        source: device(*source),
+        out: device(*out),
+        err: device(*err),
+    };
+    let answer = run(alloc, devices, input.as_bytes())?;
+    Ok(answer.is(*status, held, line))
+}
+
 // Which status wins, what err is told, and that faults of err change no status.
 #[test]
 fn failing_devices(rt: HostRuntime) -> Result<(), Fail> {
-    for (name, moves, input, held, line, status) in &ROWS {
-        let devices = Devices {
-            source: device(moves.0),
-            out: device(moves.1),
-            err: device(moves.2),
-        };
-        let answer = run(rt.alloc(), devices, input.as_bytes())?;
-        assert_eq!(rt; answer.status, *status, "{name}");
-        assert_eq!(rt; answer.out.as_slice(), held.as_bytes(), "{name}");
-        assert_eq!(rt; answer.err.as_slice(), line.as_bytes(), "{name}");
+    for row in &ROWS {
+        assert!(rt; holds(rt.alloc(), row)?, "{}", row.0);
     }
+    Ok(())
+}
+
+// Words without a meaning, told to err as far as it goes.
+#[test]
+fn words_where_err_fails(rt: HostRuntime) -> Result<(), Fail> {
     let err = device((1, 4));
     let devices = Devices { err, ..ALL_STEADY };
     let answer = call(rt.alloc(), &[], devices, COUNTER.as_bytes())?;
-    assert_eq!(rt; answer.status, Status::Usage);
-    assert_eq!(rt; answer.err.as_slice(), b"est".as_slice());
+    assert!(rt; answer.is(Status::Usage, "", "est"));
     Ok(())
+}
+
+/// Whether that call of the source failed, of so many that a whole run makes. None failed if it is 0.
+fn is_of_source(answer: &Answer, fails: u64, calls: u64) -> bool {
+    if fails == 0 {
+        return answer.status == Status::Done && answer.source_calls == calls;
+    }
+    answer.status == Status::ReadFault && answer.source_calls == fails && answer.out_calls == 0
+}
+
+/// Whether the counter's run is as wanted where that call of the source fails.
+fn source_fails(alloc: Global, piece: usize, fails: u64, calls: u64) -> Result<bool, AllocError> {
+    let source = device((piece, fails));
+    let devices = Devices {
+        source,
+        ..ALL_STEADY
+    };
+    let answer = run(alloc, devices, COUNTER.as_bytes())?;
+    Ok(is_of_source(&answer, fails, calls))
 }
 
 // Each call of the source failing in turn: nothing is written, and the source is not called again.
@@ -183,23 +212,39 @@ fn failing_devices(rt: HostRuntime) -> Result<(), Fail> {
 fn each_call_of_the_source_fails(rt: HostRuntime) -> Result<(), Fail> {
     for (piece, calls, _) in &CALLS {
         for fails in 0..=*calls {
-            let source = device((*piece, fails));
-            let devices = Devices {
-                source,
-                ..ALL_STEADY
-            };
-            let answer = run(rt.alloc(), devices, COUNTER.as_bytes())?;
-            if fails == 0 {
-                assert_eq!(rt; answer.status, Status::Done);
-                assert_eq!(rt; answer.source_calls, *calls);
-                continue;
-            }
-            assert_eq!(rt; answer.status, Status::ReadFault, "call {fails}");
-            assert_eq!(rt; answer.source_calls, fails);
-            assert_eq!(rt; answer.out_calls, 0);
+            assert!(rt;
+                source_fails(rt.alloc(), *piece, fails, *calls)?,
+                "pieces of {piece}, call {fails}"
+            );
         }
     }
     Ok(())
+}
+
+/// Whether that call of out failed, of so many that a whole run makes, and out holds so many bytes. None failed if it
+/// is 0.
+fn is_of_out(answer: &Answer, fails: u64, calls: u64, held: usize) -> bool {
+    if fails == 0 {
+        return answer.is(Status::Done, COUNTER_TRACE, "") && answer.out_calls == calls;
+    }
+    answer.status == Status::WriteFault
+        && answer.out_calls == fails
+        && answer.out.len() == held
+        && COUNTER_TRACE.as_bytes().starts_with(&answer.out)
+}
+
+/// Whether the counter's run is as wanted where that call of out fails.
+fn out_fails(
+    alloc: Global,
+    piece: usize,
+    fails: u64,
+    calls: u64,
+    held: usize,
+) -> Result<bool, AllocError> {
+    let out = device((piece, fails));
+    let devices = Devices { out, ..ALL_STEADY };
+    let answer = run(alloc, devices, COUNTER.as_bytes())?;
+    Ok(is_of_out(&answer, fails, calls, held))
 }
 
 // Each call of out failing in turn: what came before it is held, and out is not called again.
@@ -208,20 +253,13 @@ fn each_call_of_out_fails(rt: HostRuntime) -> Result<(), Fail> {
     for (piece, _, calls) in &CALLS {
         let mut held = 0usize;
         for fails in 0..=*calls {
-            let out = device((*piece, fails));
-            let devices = Devices { out, ..ALL_STEADY };
-            let answer = run(rt.alloc(), devices, COUNTER.as_bytes())?;
-            if fails == 0 {
-                assert_eq!(rt; answer.status, Status::Done);
-                assert_eq!(rt; answer.out_calls, *calls);
-                assert_eq!(rt; answer.out.as_slice(), COUNTER_TRACE.as_bytes());
-                continue;
+            assert!(rt;
+                out_fails(rt.alloc(), *piece, fails, *calls, held)?,
+                "pieces of {piece}, call {fails}"
+            );
+            if fails > 0 {
+                held = held.saturating_add(*piece);
             }
-            assert_eq!(rt; answer.status, Status::WriteFault, "call {fails}");
-            assert_eq!(rt; answer.out_calls, fails);
-            assert_eq!(rt; answer.out.len(), held);
-            assert!(rt; COUNTER_TRACE.as_bytes().starts_with(&answer.out));
-            held = held.saturating_add(*piece);
         }
     }
     Ok(())

@@ -1,9 +1,13 @@
 //! Worked calls with all that they write.
 
-use crate::calls::{ALL_STEADY, Device, Devices, STEADY, call, run};
-use crate::traces::{COUNTER_TRACE, DEADLOCK, OVERFLOW_TRACE, OVERFLOWING, TURNS, filled, trace};
+use crate::calls::{ALL_STEADY, Answer, Device, Devices, STEADY, call, run};
+use crate::pascal::answer_of;
+use crate::traces::{
+    COUNTER_TRACE, DEADLOCK, OVERFLOW_TRACE, OVERFLOWING, TURNS, filled, is_trace,
+};
 use estelle_cli::{Status, Task, asked};
 use plain_world::Limits;
+use std::alloc::{AllocError, Global};
 use std::test::Fail;
 use test_texts::{COUNTER, counter_with};
 
@@ -179,7 +183,7 @@ const ROWS: [Row; 14] = [
 ];
 
 /// Words that have no meaning, and words whose meaning is not built.
-const MEANINGLESS: [&[&str]; 12] = [
+const MEANINGLESS: [&[&str]; 16] = [
     &[],
     &[""],
     &["Run"],
@@ -191,11 +195,16 @@ const MEANINGLESS: [&[&str]; 12] = [
     &["run", "--seed=1"],
     &["run", "--workers=2"],
     &["replay"],
-    &["make", "--stations=2"],
+    &["trial", "--stations=2"],
+    // A ring has 2 to 200 stations, and how many must be said.
+    &["make"],
+    &["make", "--stations=1"],
+    &["make", "--stations", "201"],
+    &["make", "--stations=2", "--turns=1"],
 ];
 
 /// Words that ask for something, and what.
-const ASKING: [(&[&str], Task); 4] = [
+const ASKING: [(&[&str], Task); 6] = [
     (
         &["run"],
         Task::Run(Limits {
@@ -212,6 +221,8 @@ const ASKING: [(&[&str], Task); 4] = [
     ),
     (&["check"], Task::Check),
     (&["show"], Task::Show),
+    (&["make", "--stations=2"], Task::Make(2)),
+    (&["make", "--stations", "200"], Task::Make(200)),
 ];
 
 /// The counter, in canonical form.
@@ -237,7 +248,17 @@ end turns
 
 /// The name of a row; a text, and how long it is with blanks behind it; how many bytes of that are read; what
 /// out and err then hold, and the status.
-const LENGTHS: [(&str, &str, usize, usize, &str, &str, Status); 4] = [
+type Length = (
+    &'static str,
+    &'static str,
+    usize,
+    usize,
+    &'static str,
+    &'static str,
+    Status,
+);
+
+const LENGTHS: [Length; 4] = [
     (
         "longest",
         COUNTER,
@@ -287,21 +308,31 @@ const CODES: [(Status, u8); 8] = [
     (Status::PascalFault, 7),
 ];
 
+/// Whether a worked call answers what is wanted, has read its input, and leaves the clock as it was.
+fn is_worked(alloc: Global, row: &Row) -> Result<bool, AllocError> {
+    let (_, words, input, out, err, status) = row;
+    let answer = call(alloc, words, ALL_STEADY, input.as_bytes())?;
+    Ok(answer.is(*status, out, err) && answer.bytes_read == input.len() && answer.moment == 7)
+}
+
+fn is_long(answer: &Answer) -> bool {
+    answer.status == Status::Done && is_trace(&answer.out, 10_000, TURNS) && answer.err.is_empty()
+}
+
 // What the definitions of runs and of traces say in full: a mistake that the definitions and the code have both.
 #[test]
 fn worked_runs(rt: HostRuntime) -> Result<(), Fail> {
-    for (name, words, input, out, err, status) in &ROWS {
-        let answer = call(rt.alloc(), words, ALL_STEADY, input.as_bytes())?;
-        assert_eq!(rt; answer.status, *status, "{name}");
-        assert_eq!(rt; answer.out.as_slice(), out.as_bytes(), "{name}");
-        assert_eq!(rt; answer.err.as_slice(), err.as_bytes(), "{name}");
-        assert_eq!(rt; answer.bytes_read, input.len(), "{name}");
-        assert_eq!(rt; answer.moment, 7, "{name}");
+    for row in &ROWS {
+        assert!(rt; is_worked(rt.alloc(), row)?, "{}", row.0);
     }
+    Ok(())
+}
+
+// The limit of firings.
+#[test]
+fn a_long_run(rt: HostRuntime) -> Result<(), Fail> {
     let answer = run(rt.alloc(), ALL_STEADY, LONG.as_bytes())?;
-    assert_eq!(rt; answer.status, Status::Done);
-    assert!(rt; answer.out == trace(rt.alloc(), 10_000, TURNS)?);
-    assert_eq!(rt; answer.err.len(), 0);
+    assert!(rt; is_long(&answer));
     Ok(())
 }
 
@@ -315,23 +346,36 @@ const SPOILED: [(&str, &str, &str); 5] = [
 ];
 
 /// The commands that read a specification.
-const READING: [&[&str]; 3] = [&["run"], &["check"], &["show"]];
+const READING: [[&str; 1]; 3] = [["run"], ["check"], ["show"]];
+
+/// Whether a counter that is spoiled is refused by these words with its reason.
+fn is_refused(alloc: Global, words: &[&str], row: &(&str, &str, &str)) -> Result<bool, AllocError> {
+    let (old, new, reason) = row;
+    let text = COUNTER.replace(alloc, *old, new)?;
+    let answer = call(alloc, words, ALL_STEADY, text.as_bytes())?;
+    Ok(answer.refuses(reason))
+}
 
 // The places of refusals, by hand; they are the same for each command.
 #[test]
 fn spoiled_counters(rt: HostRuntime) -> Result<(), Fail> {
-    for (old, new, reason) in &SPOILED {
-        let text = COUNTER.replace(rt.alloc(), *old, new)?;
-        let line = format!(in rt.alloc(); "estelle: {reason}\n")?;
+    for row in &SPOILED {
         for words in &READING {
-            let answer = call(rt.alloc(), words, ALL_STEADY, text.as_bytes())?;
-            assert_eq!(rt; answer.status, Status::Refused, "{reason}");
-            assert_eq!(rt; answer.out.len(), 0, "{reason}");
-            assert_eq!(rt; answer.err.as_slice(), line.as_bytes(), "{reason}");
+            assert!(rt;
+                is_refused(rt.alloc(), words, row)?,
+                "{}: {}",
+                words[0],
+                row.2
+            );
         }
     }
+    Ok(())
+}
+
+#[test]
+fn a_symbol_that_is_none(rt: HostRuntime) -> Result<(), Fail> {
     let answer = run(rt.alloc(), ALL_STEADY, b"specification $;".as_slice())?;
-    assert_eq!(rt; answer.err.as_slice(), b"estelle: bytes 1:15\n".as_slice());
+    assert!(rt; answer.refuses("bytes 1:15"));
     Ok(())
 }
 
@@ -367,37 +411,45 @@ const COUNTING: [(&str, &str, u32); 8] = [
     ("const step = 2;", "repeat n := n + step until n > 3", 1),
 ];
 
+/// Whether the counter with this block fires so often.
+fn counts(alloc: Global, declared: &str, block: &str, firings: u32) -> Result<bool, AllocError> {
+    let answer = answer_of(alloc, declared, block)?;
+    Ok(answer.status == Status::Done && is_trace(&answer.out, firings, DEADLOCK))
+}
+
 // Pascal of more forms in whole runs: a mistake that the definitions and the code have both.
 #[test]
 fn counters_of_more_forms(rt: HostRuntime) -> Result<(), Fail> {
     for (declared, block, firings) in &COUNTING {
-        let text = counter_with(rt.alloc(), declared, "n < 3", block)?;
-        let answer = run(rt.alloc(), ALL_STEADY, text.as_bytes())?;
-        assert_eq!(rt; answer.status, Status::Done, "{block}");
-        assert!(rt;
-            answer.out == trace(rt.alloc(), *firings, DEADLOCK)?,
-            "{block}"
-        );
+        assert!(rt; counts(rt.alloc(), declared, block, *firings)?, "{block}");
     }
     Ok(())
 }
 
-// Which words have a meaning; and that the words are looked at before the source is called.
-#[test]
-fn meaningless_words(rt: HostRuntime) -> Result<(), Fail> {
+/// Whether no device but err was called, and err was told how words are used.
+fn is_of_usage(answer: &Answer) -> bool {
+    answer.is(Status::Usage, "", "estelle: usage\n")
+        && answer.bytes_read == 0
+        && answer.source_calls == 0
+        && answer.out_calls == 0
+}
+
+/// Whether words are refused before the source is called, which would fail.
+fn is_meaningless(alloc: Global, words: &[&str]) -> Result<bool, AllocError> {
     let source = Device { fails: 1, ..STEADY };
     let devices = Devices {
         source,
         ..ALL_STEADY
     };
+    let answer = call(alloc, words, devices, COUNTER.as_bytes())?;
+    Ok(is_of_usage(&answer))
+}
+
+// Which words have a meaning; and that the words are looked at before the source is called.
+#[test]
+fn meaningless_words(rt: HostRuntime) -> Result<(), Fail> {
     for words in &MEANINGLESS {
-        let answer = call(rt.alloc(), words, devices, COUNTER.as_bytes())?;
-        assert_eq!(rt; answer.status, Status::Usage);
-        assert_eq!(rt; answer.out.len(), 0);
-        assert_eq!(rt; answer.err.as_slice(), b"estelle: usage\n".as_slice());
-        assert_eq!(rt; answer.bytes_read, 0);
-        assert_eq!(rt; answer.source_calls, 0);
-        assert_eq!(rt; answer.out_calls, 0);
+        assert!(rt; is_meaningless(rt.alloc(), words)?, "{words:?}");
     }
     Ok(())
 }
@@ -424,30 +476,37 @@ const UNITS: [(&str, &str, Status); 2] = [
     ),
 ];
 
+/// Whether five units come to this status and this line.
+fn is_done(alloc: Global, block: &str, line: &str, status: Status) -> Result<bool, AllocError> {
+    let text = counter_with(alloc, "var i: integer;", "n < 3", block)?;
+    let words = ["run", "--budget", "5"];
+    let answer = call(alloc, &words, ALL_STEADY, text.as_bytes())?;
+    Ok(answer.status == status && answer.err.as_slice() == line.as_bytes())
+}
+
 // The budget that the words give is that of each firing.
 #[test]
 fn budgets(rt: HostRuntime) -> Result<(), Fail> {
     for (block, line, status) in &UNITS {
-        let text = counter_with(rt.alloc(), "var i: integer;", "n < 3", block)?;
-        let words = ["run", "--budget", "5"];
-        let answer = call(rt.alloc(), &words, ALL_STEADY, text.as_bytes())?;
-        assert_eq!(rt; answer.status, *status, "{block}");
-        assert_eq!(rt; answer.err.as_slice(), line.as_bytes(), "{block}");
+        assert!(rt; is_done(rt.alloc(), block, line, *status)?, "{block}");
     }
     Ok(())
+}
+
+/// Whether a text of some length is read so far, and answered as wanted.
+fn is_read(alloc: Global, row: &Length) -> Result<bool, AllocError> {
+    let (_, text, length, read, out, err, status) = row;
+    let input = filled(alloc, text, *length)?;
+    let answer = run(alloc, ALL_STEADY, &input)?;
+    Ok(answer.is(*status, out, err) && answer.bytes_read == *read)
 }
 
 // The longest input, to the byte; the length is looked at before the text; and no more than one byte
 // beyond the limit is read.
 #[test]
 fn lengths(rt: HostRuntime) -> Result<(), Fail> {
-    for (name, text, length, read, out, err, status) in &LENGTHS {
-        let input = filled(rt.alloc(), text, *length)?;
-        let answer = run(rt.alloc(), ALL_STEADY, &input)?;
-        assert_eq!(rt; answer.status, *status, "{name}");
-        assert_eq!(rt; answer.out.as_slice(), out.as_bytes(), "{name}");
-        assert_eq!(rt; answer.err.as_slice(), err.as_bytes(), "{name}");
-        assert_eq!(rt; answer.bytes_read, *read, "{name}");
+    for row in &LENGTHS {
+        assert!(rt; is_read(rt.alloc(), row)?, "{}", row.0);
     }
     Ok(())
 }

@@ -52,15 +52,19 @@ pub const GUARD_UNSET: &str = "fault / 1 Unset\nend fault Unset\n";
 pub const SECOND_FIRES: &str =
     "select / now 0 takes /:2\nfire / 2\nselect / now 0 takes -\nend deadlock\n";
 
-/// The trace of a run that starts, fires so often, and ends with these lines.
-pub(crate) fn trace(alloc: Global, firings: u32, last: &str) -> Result<Vec<u8>, AllocError> {
-    let mut text = Vec::new(alloc);
-    text.extend_from_slice(b"estelle trace 1\nstart\n")?;
+/// Whether this is the trace of a run that starts, fires so often, and ends with these lines.
+pub(crate) fn is_trace(text: &[u8], firings: u32, last: &str) -> bool {
+    let Some(mut rest) = text.strip_prefix(b"estelle trace 1\nstart\n".as_slice()) else {
+        return false;
+    };
     for _ in 0..firings {
-        text.extend_from_slice(b"select / now 0 takes /:1\nfire / 1\n")?;
+        let Some(behind) = rest.strip_prefix(b"select / now 0 takes /:1\nfire / 1\n".as_slice())
+        else {
+            return false;
+        };
+        rest = behind;
     }
-    text.extend_from_slice(last.as_bytes())?;
-    Ok(text)
+    rest == last.as_bytes()
 }
 
 /// A text with blanks behind it, so that it has this many bytes.

@@ -8,7 +8,7 @@ use std::test::Fail;
 use test_texts::tree;
 
 /// Texts that break rules of several kinds, or none.
-const MIXED: [&str; 10] = [
+const MIXED: [&str; 16] = [
     "specification s; var n: integer; initialize begin n := n + 1 end; end.",
     "specification s; var n: integer; initialize begin n := true; {02}k := 1 end; end.",
     "specification s; var n: integer; procedure p; begin end; initialize begin p(1); n := {40}true end; end.",
@@ -19,6 +19,12 @@ const MIXED: [&str; 10] = [
     "specification s systemactivity; channel c(r, q); by x: m; module h process; ip p: c(r); end; modvar {14}y: h; end.",
     "specification s systemprocess; channel c(r, q); by r: m; ip p: c(r); var n: integer; initialize begin n := true; detach {25}p end; end.",
     "specification s systemprocess; channel c(r, q); by r: m; ip p: c(r); var n: integer; initialize begin n := {40}true; output p.m end; end.",
+    "specification s systemprocess; var n: integer; {01}n: integer; trans priority -1 begin end; end.",
+    "specification s; {10}trans begin end; trans priority -1 begin end; end.",
+    "specification s systemprocess; channel c(r, q); by r: m; ip p: c(r); initialize begin detach {25}p end; trans priority -1 begin end; end.",
+    "{33}specification s systemprocess; var n: integer; trans any i: 1..4097 do begin n := true end; end.",
+    "specification s systemprocess; var n: integer; initialize begin n := true end; trans priority {31}-1 begin end; end.",
+    "specification s systemprocess; trans any i: {44}3..1 do begin end; end.",
 ];
 
 fn accepted(alloc: Global, spec: Spec) -> Option<(u8, usize)> {

@@ -14,4 +14,6 @@ mod marks;
 #[cfg(test)]
 mod names;
 #[cfg(test)]
+mod transitions;
+#[cfg(test)]
 mod types;

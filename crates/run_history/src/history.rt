@@ -1,6 +1,6 @@
 //! The entries in order.
 
-ghost use Rattle.std.specs.Prelude.{◌≡◌, ◌≤◌, ◌+◌, ◌++◌, [], ◌∷◌, IfOk, IfNone, IfSome, OnOk, MatchOption};
+ghost use Rattle.std.specs.Prelude.{◌≡◌, ◌≤◌, ◌+◌, ◌++◌, [], ◌∷◌, IfOk, IfNone, IfSome, OnOk, OnErr, MatchOption};
 ghost use Rattle.run_history.specs.Histories as spec;
 
 use crate::copies::copy_event;
@@ -50,6 +50,7 @@ impl History {
         ensures room { OnOk result (count ≤ self.new.spare) }
         ensures kept { self.new.entries ≡ self.old.entries }
         ensures no_less { self.old.spare ≤ self.new.spare }
+        ensures unchanged { OnErr result (self.new ≡ self.old) }
     {
         self.entries.reserve(count)
     }

@@ -50,9 +50,9 @@ pub none_broken : (spec : Spec) (found : Names) → found ≡ names spec → Kee
 none_broken spec found same keeps first e f b (inl h) = keeps b h
 none_broken spec found same keeps first e f b (inr h) = first_none (MeaningRuleBroken spec found) first e f b (subst (λ n. MeaningRuleBroken spec n b) (sym same) h.1)
 
--- of three kinds of breaches, the one that is reported
-pub three_first : (P Q R : Breach → Type 0) (p q r : Option Breach) → IsFirst P p → IsFirst Q q → IsFirst R r → IsFirst (λ b. (P b ⊎ Q b) ⊎ R b) (noted (noted p q) r)
-three_first P Q R p q r f g h = first_noted (λ b. P b ⊎ Q b) R (noted p q) r (first_noted P Q p q f g) h
+-- of four kinds of breaches, the one that is reported
+pub four_first : (P Q R S : Breach → Type 0) (p q r s : Option Breach) → IsFirst P p → IsFirst Q q → IsFirst R r → IsFirst S s → IsFirst (λ b. ((P b ⊎ Q b) ⊎ R b) ⊎ S b) (noted (noted (noted p q) r) s)
+four_first P Q R S p q r s f g h k = first_noted (λ b. (P b ⊎ Q b) ⊎ R b) S (noted (noted p q) r) s (first_noted (λ b. P b ⊎ Q b) R (noted p q) r (first_noted P Q p q f g) h) k
 
 pub memory_refuses : (P : Breach → Type 0) (r : Refusal) → r ≡ Memory → Refuses P r
 memory_refuses P (Rule number span) e = absurd cc

@@ -1,4 +1,4 @@
--- The static rules of a specification, as far as they are built.
+-- The static rules of a specification.
 use Rattle.std.specs.Prelude.{◌⊎◌, Option, Some, None, Result, Ok, Err}
 use Rattle.estelle_tree.specs.declared.names.Names.{Names}
 use Rattle.estelle_tree.specs.declared.tree.specification.Spec.{Spec}
@@ -8,6 +8,7 @@ use Rattle.scope_rules.specs.declared.refusal.Refusal.TheVariants.{Rule, Memory}
 use Rattle.scope_rules.specs.NameRules.{NameRuleBroken, names_of}
 use Rattle.attribute_rules.specs.AttributeRules.{AttributeRuleBroken}
 use Rattle.channel_roles.specs.ChannelRules.{ChannelRuleBroken}
+use Rattle.transition_expand.specs.TransitionRules.{TransitionRuleBroken}
 use Rattle.type_rules.specs.PascalRules.{PascalRuleBroken}
 
 -- for each name in use the name in its declaration
@@ -20,7 +21,7 @@ KeepsNames spec = (b : Breach) → NameRuleBroken spec b → ⊥
 
 -- a rule from 10 on is broken, by what names mean
 abbrev pub MeaningRuleBroken : Spec → Names → Breach → Type 0
-MeaningRuleBroken spec names b = (AttributeRuleBroken spec names b ⊎ ChannelRuleBroken spec names b) ⊎ PascalRuleBroken spec names b
+MeaningRuleBroken spec names b = ((AttributeRuleBroken spec names b ⊎ ChannelRuleBroken spec names b) ⊎ TransitionRuleBroken spec names b) ⊎ PascalRuleBroken spec names b
 
 -- a rule is broken; the rules from 10 on speak only of specifications whose names keep the rules 1 to 5
 abbrev pub RuleBroken : Spec → Breach → Type 0

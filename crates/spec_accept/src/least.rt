@@ -30,8 +30,9 @@ fn first_breach(alloc: Global, spec: &Spec, names: &Names) -> Result<Option<Brea
 {
     let attributes = told(attribute_rules::check(alloc, spec, names))?;
     let channels = told(channel_roles::check(alloc, spec, names))?;
+    let transitions = told(transition_expand::check(alloc, spec, names))?;
     let types = told(pascal_check::check(alloc, spec, names))?;
-    Ok(noted(noted(attributes, channels), types))
+    Ok(noted(noted(noted(attributes, channels), transitions), types))
 }
 
 /// The specification with what its names mean and its flat transitions, where none of the rules is broken; else the

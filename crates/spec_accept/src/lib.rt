@@ -1,9 +1,9 @@
-//! Whether a specification keeps all static rules that are built so far: the rules on names, on attributes of modules, on
-//! channels and links, and on types and routines.
+//! Whether a specification keeps all static rules: the rules on names, on attributes of modules, on channels and links, on
+//! clauses and numbers of transitions, and on types and routines.
 //!
-//! It stands on `scope_names`, `attribute_rules`, `channel_roles` and `pascal_check`, each of which reports the least of its
-//! own rules, on `scope_rules` for what a refusal is, and on `flat_list` for the flat transitions of what is accepted.
-//! `accept` reports the least of all; a further crate of rules joins by one case of `MeaningRuleBroken` and one call.
+//! It stands on `scope_names`, `attribute_rules`, `channel_roles`, `transition_expand` and `pascal_check`, each of which reports
+//! the least of its own rules, on `scope_rules` for what a refusal is, and on `flat_list` for the flat transitions of what is
+//! accepted. `accept` reports the least of all.
 #![tactic(auto)]
 
 mod checked;

@@ -1,4 +1,4 @@
-//! Tests alone: the calls of the stores of a situation, on small cases worked by hand.
+//! Tests alone: the calls of the stores of a situation and of the choice among what instances offer, on small cases worked by hand.
 #![tactic(auto)]
 
 #[cfg(test)]
@@ -11,3 +11,5 @@ mod module_tree_calls;
 mod queue_store_calls;
 #[cfg(test)]
 mod run_history_calls;
+#[cfg(test)]
+mod selection_calls;

@@ -1,13 +1,14 @@
 //! Tokens: what texts are cut into, where a text is refused, what stands behind, and lines and columns.
 
 use estelle_lexer::place::line_and_column;
-use estelle_lexer::{LexError, blank_to_end, tokens};
-use estelle_tree::{Placed, Symbol, Token};
+use estelle_lexer::{LexError, Tokens, blank_to_end, tokens};
+use estelle_tree::{Placed, Span, Symbol, Token};
+use std::alloc::Global;
 use std::test::Fail;
-use test_texts::WORKED;
+use test_texts::{WORKED, Worked, tokens_of};
 
 /// A token without its memory.
-#[derive(Clone, Copy, Debug, PartialEq)]
+#[derive(Clone, Copy)]
 enum Want {
     Word(&'static [u8]),
     Number(i64),
@@ -132,113 +133,158 @@ fn are_wanted(items: &[Placed], wanted: &[Want]) -> bool {
             .all(|(placed, want)| is_wanted(&placed.token, *want))
 }
 
+/// Whether a text has these tokens, and this place after them.
+fn has_tokens(alloc: Global, text: &[u8], wanted: &[Want], rest: u32) -> bool {
+    match tokens_of(alloc, text) {
+        Some(found) => found.rest == rest && are_wanted(found.items(), wanted),
+        None => false,
+    }
+}
+
 #[test]
 fn tokens_of_texts(rt: HostRuntime) {
-    for (text, wanted, rest) in ROWS {
-        assert!(rt; text.len() < 1 << 31);
-        match tokens(rt.alloc(), text) {
-            Ok(found) => {
-                assert!(rt; are_wanted(found.items(), wanted), "{rest}");
-                assert_eq!(rt; found.rest, rest);
-            }
-            Err(error) => assert!(rt; false, "{error:?}"),
+    for (text, wanted, rest) in &ROWS {
+        assert!(rt; has_tokens(rt.alloc(), text, wanted, *rest), "{rest}");
+    }
+}
+
+/// From `ab`, over a comment, to `(.`, `12` and `'x'`.
+const SPANS: [(u32, u32); 4] = [(0, 2), (6, 8), (8, 10), (11, 14)];
+
+fn are_spans(items: &[Placed]) -> bool {
+    if items.len() != SPANS.len() {
+        return false;
+    }
+    for (placed, (start, end)) in items.iter().zip(SPANS) {
+        if placed.span != (Span { start, end }) {
+            return false;
         }
     }
+    true
 }
 
 #[test]
 fn spans_of_a_text(rt: HostRuntime) -> Result<(), Fail> {
-    match tokens(rt.alloc(), b"ab {c}(.12 'x'") {
-        Ok(found) => {
-            let spans = [(0, 2), (6, 8), (8, 10), (11, 14)];
-            assert_eq!(rt; found.items().len(), 4);
-            for (placed, (start, end)) in found.items().iter().zip(spans) {
-                assert_eq!(rt; (placed.span.start, placed.span.end), (start, end));
-            }
-        }
-        Err(error) => assert!(rt; false, "{error:?}"),
-    }
+    let Some(found) = tokens_of(rt.alloc(), b"ab {c}(.12 'x'") else {
+        return Err(Fail::new("no tokens"));
+    };
+    assert!(rt; are_spans(found.items()));
     Ok(())
+}
+
+const REFUSED: [(&[u8], u32); 18] = [
+    (b"specification $;", 14),
+    (b"a {b", 2),
+    (b"a (*) b", 2),
+    (b"a (* b * )", 2),
+    (b"9223372036854775808", 0),
+    (b"x 123456789012345678901234567890 $", 2),
+    (b"\0", 0),
+    (b"a\x7f", 1),
+    (b"ab\xff", 2),
+    (b"a\x0bb", 1),
+    (b"'", 0),
+    (b" ''", 1),
+    (b"'''", 0),
+    (b"'ab'", 0),
+    (b"'\t'", 0),
+    (b"'\x7f'", 0),
+    (b"_a", 0),
+    (b"}", 0),
+];
+
+/// Where a text of less than 2 GiB has no tokens.
+fn refused_at(alloc: Global, text: &[u8]) -> Option<u32> {
+    if text.len() >= 1 << 31 {
+        return None;
+    }
+    match tokens(alloc, text) {
+        Err(LexError::At(at)) => Some(at),
+        _ => None,
+    }
 }
 
 #[test]
 fn places_of_errors(rt: HostRuntime) {
-    let rows: [(&[u8], u32); 18] = [
-        (b"specification $;", 14),
-        (b"a {b", 2),
-        (b"a (*) b", 2),
-        (b"a (* b * )", 2),
-        (b"9223372036854775808", 0),
-        (b"x 123456789012345678901234567890 $", 2),
-        (b"\0", 0),
-        (b"a\x7f", 1),
-        (b"ab\xff", 2),
-        (b"a\x0bb", 1),
-        (b"'", 0),
-        (b" ''", 1),
-        (b"'''", 0),
-        (b"'ab'", 0),
-        (b"'\t'", 0),
-        (b"'\x7f'", 0),
-        (b"_a", 0),
-        (b"}", 0),
-    ];
-    for (text, place) in rows {
-        assert!(rt; text.len() < 1 << 31);
-        match tokens(rt.alloc(), text) {
-            Err(LexError::At(at)) => assert_eq!(rt; at, place),
-            answer => assert!(rt; false, "{place} {answer:?}"),
-        }
+    for (text, place) in &REFUSED {
+        assert!(rt; refused_at(rt.alloc(), text) == Some(*place), "{place}");
+    }
+}
+
+/// Whether the tokens are as counted: how many, where the last one ends, and that only blanks are behind it.
+fn are_counted(text: &[u8], found: &Tokens, (count, end): (usize, u32)) -> bool {
+    found.items().len() == count && found.rest == end && is_behind(text, end, None)
+}
+
+fn is_counted(alloc: Global, worked: &Worked) -> bool {
+    let text = worked.text.as_bytes();
+    match (tokens_of(alloc, text), worked.counted) {
+        (Some(found), Some(counted)) => are_counted(text, &found, counted),
+        (Some(_), None) => true,
+        (None, _) => false,
     }
 }
 
 #[test]
 fn worked_texts(rt: HostRuntime) {
     for worked in &WORKED {
-        let text = worked.text.as_bytes();
-        assert!(rt; text.len() < 1 << 31);
-        match (tokens(rt.alloc(), text), worked.counted) {
-            (Ok(found), Some((count, end))) => {
-                assert_eq!(rt; found.items().len(), count, "{}", worked.name);
-                assert_eq!(rt; found.rest, end, "{}", worked.name);
-                assert!(rt; end as usize <= text.len());
-                assert_eq!(rt; blank_to_end(text, end), None, "{}", worked.name);
-            }
-            (Ok(_), None) => {}
-            (Err(error), _) => assert!(rt; false, "{} {error:?}", worked.name),
-        }
+        assert!(rt; is_counted(rt.alloc(), worked), "{}", worked.name);
     }
 }
 
-// What stands behind a place, and its line and column.
-#[test]
-fn behind_and_lines(rt: HostRuntime) {
-    let rows: [(&[u8], u32, Option<u32>); 7] = [
-        (b"end.", 4, None),
-        (b"end. \n{x}(*y} \t\r", 4, None),
-        (b"end.\nx\n", 4, Some(5)),
-        (b"end. {} {x", 4, Some(8)),
-        (b"end. (*", 4, Some(5)),
-        (b"end. \0", 4, Some(5)),
-        (b"x", 1, None),
-    ];
-    for (text, at, other) in rows {
-        assert!(rt; text.len() < 1 << 31);
-        assert!(rt; at as usize <= text.len());
-        assert_eq!(rt; blank_to_end(text, at), other);
-    }
+/// What stands behind places.
+const BEHIND: [(&[u8], u32, Option<u32>); 7] = [
+    (b"end.", 4, None),
+    (b"end. \n{x}(*y} \t\r", 4, None),
+    (b"end.\nx\n", 4, Some(5)),
+    (b"end. {} {x", 4, Some(8)),
+    (b"end. (*", 4, Some(5)),
+    (b"end. \0", 4, Some(5)),
+    (b"x", 1, None),
+];
 
-    let rows: [(&[u8], u32, (u32, u32)); 6] = [
-        (b"", 0, (1, 1)),
-        (b"specification $;", 14, (1, 15)),
-        (b"a\n", 1, (1, 2)),
-        (b"a\n", 2, (2, 1)),
-        (b"a\r\n\nbc\n", 5, (3, 2)),
-        (b"\n\n\n", 3, (4, 1)),
-    ];
-    for (text, at, place) in rows {
-        assert!(rt; text.len() < 1 << 31);
-        assert!(rt; at as usize <= text.len());
-        assert_eq!(rt; line_and_column(text, at), place);
+/// Whether a place is in a text, and this is the first that is no blank behind it.
+fn is_behind(text: &[u8], at: u32, other: Option<u32>) -> bool {
+    if text.len() >= 1 << 31 {
+        return false;
+    }
+    if at as usize > text.len() {
+        return false;
+    }
+    blank_to_end(text, at) == other
+}
+
+#[test]
+fn behind_places(rt: HostRuntime) {
+    for (text, at, other) in &BEHIND {
+        assert!(rt; is_behind(text, *at, *other), "{text:?}");
+    }
+}
+
+/// Lines and columns of places.
+const LINES: [(&[u8], u32, (u32, u32)); 6] = [
+    (b"", 0, (1, 1)),
+    (b"specification $;", 14, (1, 15)),
+    (b"a\n", 1, (1, 2)),
+    (b"a\n", 2, (2, 1)),
+    (b"a\r\n\nbc\n", 5, (3, 2)),
+    (b"\n\n\n", 3, (4, 1)),
+];
+
+/// Whether a place is in a text, on this line and in this column.
+fn is_in_line(text: &[u8], at: u32, place: (u32, u32)) -> bool {
+    if text.len() >= 1 << 31 {
+        return false;
+    }
+    if at as usize > text.len() {
+        return false;
+    }
+    line_and_column(text, at) == place
+}
+
+#[test]
+fn lines_and_columns(rt: HostRuntime) {
+    for (text, at, place) in &LINES {
+        assert!(rt; is_in_line(text, *at, *place), "{text:?}");
     }
 }

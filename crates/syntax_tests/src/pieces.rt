@@ -8,7 +8,7 @@ use std::test::Fail;
 use test_texts::tokens_of;
 
 /// The calls.
-#[derive(Clone, Copy, Debug, PartialEq, Eq)]
+#[derive(Clone, Copy)]
 enum Form {
     Expression,
     Type,
@@ -17,7 +17,7 @@ enum Form {
 }
 
 /// The place that is answered, in tokens.
-#[derive(Clone, Copy, Debug, PartialEq, Eq)]
+#[derive(Clone, Copy, PartialEq)]
 enum Place {
     /// Behind the node.
     Behind(u32),
@@ -246,7 +246,7 @@ const PIECES: [(Form, &str, u32, u32, Place); 117] = [
 fn ends_and_refusals(rt: HostRuntime) -> Result<(), Fail> {
     for (form, text, at, depth, wanted) in &PIECES {
         let found = answer(rt.alloc(), *form, text.as_bytes(), *at, *depth);
-        assert_eq!(rt; found, Some(*wanted), "{text}");
+        assert!(rt; found == Some(*wanted), "{text}");
     }
     Ok(())
 }
@@ -314,34 +314,61 @@ const LEVELS: [(Form, &str, &str, Place, Place, u32); 13] = [
     ),
 ];
 
+/// The answer to so many openings and what stands behind them.
+fn answer_to_many(
+    alloc: Global,
+    form: Form,
+    count: u32,
+    text: &str,
+    last: &str,
+) -> Result<Option<Place>, Fail> {
+    let all = many(alloc, count, text, last)?;
+    Ok(answer(alloc, form, &all, 0, 0))
+}
+
 // 200 levels may open, and what would open the 201st is left or refused; a long text of openings uses no more of the
 // stack.
 #[test]
 fn nesting(rt: HostRuntime) -> Result<(), Fail> {
-    let alloc = rt.alloc();
     for (form, opening, last, deepest, deeper, count) in &LEVELS {
         for (levels, wanted) in [(200, *deepest), (201, *deeper), (*count, *deeper)] {
-            let text = many(alloc, levels, opening, last)?;
-            assert_eq!(rt;
-                answer(alloc, *form, &text, 0, 0),
-                Some(wanted),
-                "{opening} {levels}"
-            );
+            let found = answer_to_many(rt.alloc(), *form, levels, opening, last)?;
+            assert!(rt; found == Some(wanted), "{opening} {levels}");
         }
     }
-    let closed = many(alloc, 200, ")", "")?;
-    let mut round = many(alloc, 200, "(", "a")?;
-    round.extend_from_slice(&closed)?;
-    assert_eq!(rt; answer(alloc, Expression, &round, 0, 0), Some(Behind(401)));
-    assert_eq!(rt; answer(alloc, Expression, &round, 0, 1), Some(At(199)));
-    let closed = many(alloc, 200, " end", "")?;
-    let mut records = many(alloc, 200, "record a: ", "b")?;
-    records.extend_from_slice(&closed)?;
-    assert_eq!(rt; answer(alloc, Type, &records, 0, 0), Some(Behind(801)));
-    let flat = many(alloc, 10_000, "a+b[1]*", "c")?;
-    assert_eq!(rt;
-        answer(alloc, Expression, &flat, 0, 0),
-        Some(Behind(70_001))
-    );
+    Ok(())
+}
+
+/// A text in 200 openings with their ends.
+fn enclosed(alloc: Global, opening: &str, inside: &str, ending: &str) -> Result<Vec<u8>, Fail> {
+    let mut text = many(alloc, 200, opening, inside)?;
+    for _ in 0..200 {
+        text.extend_from_slice(ending.as_bytes())?;
+    }
+    Ok(text)
+}
+
+#[test]
+fn parentheses(rt: HostRuntime) -> Result<(), Fail> {
+    let alloc = rt.alloc();
+    let text = enclosed(alloc, "(", "a", ")")?;
+    assert!(rt; answer(alloc, Expression, &text, 0, 0) == Some(Behind(401)));
+    assert!(rt; answer(alloc, Expression, &text, 0, 1) == Some(At(199)));
+    Ok(())
+}
+
+#[test]
+fn records(rt: HostRuntime) -> Result<(), Fail> {
+    let alloc = rt.alloc();
+    let text = enclosed(alloc, "record a: ", "b", " end")?;
+    assert!(rt; answer(alloc, Type, &text, 0, 0) == Some(Behind(801)));
+    Ok(())
+}
+
+// What opens levels one behind the other is no deeper.
+#[test]
+fn a_flat_expression(rt: HostRuntime) -> Result<(), Fail> {
+    let found = answer_to_many(rt.alloc(), Expression, 10_000, "a+b[1]*", "c")?;
+    assert!(rt; found == Some(Behind(70_001)));
     Ok(())
 }

@@ -120,6 +120,15 @@ fn mark(text: &[u8]) -> Option<usize> {
     None
 }
 
+/// Whether a text that is refused there, or read, has its mark there, or none.
+fn is_marked(text: &[u8], refused: Option<u32>) -> bool {
+    match (refused, mark(text)) {
+        (Some(place), Some(at)) => place as usize == at,
+        (None, None) => true,
+        _ => false,
+    }
+}
+
 /// Where the text is refused; none where it is read.
 fn refused_at(alloc: Global, text: &[u8]) -> Result<Option<u32>, Fail> {
     let Some(found) = tokens_of(alloc, text) else {
@@ -149,31 +158,36 @@ fn nested(alloc: Global, depth: u32, inside: &str) -> Result<Vec<u8>, Fail> {
 // The place of a refusal is that of the first token that goes on with no specification, or the end of the text.
 #[test]
 fn places_of_refusals(rt: HostRuntime) -> Result<(), Fail> {
-    let alloc = rt.alloc();
-    for (text, place) in ROWS {
-        assert_eq!(rt; refused_at(alloc, text)?, place);
+    for (text, place) in &ROWS {
+        assert!(rt; refused_at(rt.alloc(), text)? == *place, "{text:?}");
     }
+    Ok(())
+}
+
+#[test]
+fn marks_of_refusals(rt: HostRuntime) -> Result<(), Fail> {
     for text in &MARKED {
-        let found = refused_at(alloc, text.as_bytes())?;
-        assert!(rt; found.is_some(), "{text}");
+        let found = refused_at(rt.alloc(), text.as_bytes())?;
         assert!(rt;
-            found.map(|place| place as usize) == mark(text.as_bytes()),
+            found.is_some() && is_marked(text.as_bytes(), found),
             "{text}"
         );
     }
     Ok(())
 }
 
+/// Whether so many bodies in one another are refused at their mark, or read.
+fn is_nested(alloc: Global, depth: u32, inside: &str) -> Result<bool, Fail> {
+    let text = nested(alloc, depth, inside)?;
+    let found = refused_at(alloc, &text)?;
+    Ok(is_marked(&text, found))
+}
+
 // 200 levels may open, of bodies and of what stands in them, and what would open the 201st is refused.
 #[test]
 fn nested_bodies(rt: HostRuntime) -> Result<(), Fail> {
     for (depth, inside) in &NESTED {
-        let text = nested(rt.alloc(), *depth, inside)?;
-        let found = refused_at(rt.alloc(), &text)?;
-        assert!(rt;
-            found.map(|place| place as usize) == mark(&text),
-            "{depth} {inside}"
-        );
+        assert!(rt; is_nested(rt.alloc(), *depth, inside)?, "{depth} {inside}");
     }
     Ok(())
 }

@@ -162,7 +162,7 @@ fn whole_specification(rt: HostRuntime) -> Result<(), Fail> {
 #[test]
 fn no_parts(rt: HostRuntime) -> Result<(), Fail> {
     let read = spec(rt.alloc(), "", "specification s; end.")?;
-    assert_eq!(rt; read.parts.span, Span { start: 0, end: 0 });
+    assert!(rt; read.parts.span == Span { start: 0, end: 0 });
     Ok(())
 }
 
@@ -173,7 +173,7 @@ fn no_declarations(rt: HostRuntime) -> Result<(), Fail> {
         HEADING,
         "initialize to a begin end; trans begin end; end.",
     )?;
-    assert_eq!(rt; counts(&read.parts), (0, 1));
+    assert!(rt; counts(&read.parts) == (0, 1));
     Ok(())
 }
 
@@ -235,16 +235,25 @@ const DECLARED: [(Kind, usize, (u32, u32)); 9] = [
     (Kind::Stateset, 2, (157, 193)),
 ];
 
+/// The declarations are those.
+fn are_declared(decls: &[Decl]) -> bool {
+    if decls.len() != DECLARED.len() {
+        return false;
+    }
+    for (decl, (kind, count, place)) in decls.iter().zip(DECLARED) {
+        let span = behind(17, place);
+        if part_of(decl) != (kind, count, span) || decl.span() != span {
+            return false;
+        }
+    }
+    true
+}
+
 // Each declaration, its parts and its place.
 #[test]
 fn declarations(rt: HostRuntime) -> Result<(), Fail> {
-    let alloc = rt.alloc();
-    let read = declared(alloc, DECLARATIONS)?;
-    assert_eq!(rt; read.parts.decls.items().len(), DECLARED.len());
-    for (decl, (kind, count, place)) in read.parts.decls.items().iter().zip(DECLARED) {
-        assert_eq!(rt; part_of(decl), (kind, count, behind(17, place)));
-        assert_eq!(rt; decl.span(), behind(17, place));
-    }
+    let read = declared(rt.alloc(), DECLARATIONS)?;
+    assert!(rt; are_declared(read.parts.decls.items()));
     Ok(())
 }
 
@@ -722,13 +731,23 @@ fn spans_of(alloc: Global, text: &str) -> Result<Vec<Span>, Fail> {
     Ok(spans)
 }
 
+/// The places are those.
+fn are_places(spans: &[Span]) -> bool {
+    if spans.len() != PLACES.len() {
+        return false;
+    }
+    for (span, place) in spans.iter().zip(PLACES) {
+        if *span != behind(23, place) {
+            return false;
+        }
+    }
+    true
+}
+
 // Where bodies, groups, clauses and blocks stand.
 #[test]
 fn places_of_groups(rt: HostRuntime) -> Result<(), Fail> {
     let spans = spans_of(rt.alloc(), "from a to b begin end ; to c begin end ;")?;
-    assert_eq!(rt; spans.len(), PLACES.len());
-    for (span, place) in spans.iter().zip(PLACES) {
-        assert_eq!(rt; *span, behind(23, place));
-    }
+    assert!(rt; are_places(&spans));
     Ok(())
 }

@@ -5,8 +5,10 @@
 
 mod counter;
 mod reading;
+mod ring;
 mod worked;
 
 pub use counter::{COUNTER, counter_with};
 pub use reading::{tokens_of, tree};
+pub use ring::RING_OF_TWO;
 pub use worked::{WORKED, Worked};

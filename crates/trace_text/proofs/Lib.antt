@@ -1,0 +1,13 @@
+pub mod Runs
+pub mod FieldLemmas
+pub mod NumberLemmas
+pub mod WordLemmas
+pub mod PathLemmas
+pub mod ListLemmas
+pub mod ValueLemmas
+pub mod LineFields
+pub mod LineLemmas
+pub mod LineReadings
+pub mod BreakLemmas
+pub mod StageLemmas
+pub mod TraceLemmas

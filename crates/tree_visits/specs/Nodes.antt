@@ -4,14 +4,14 @@ use Rattle.std.specs.Option.{option_copied}
 use Rattle.tree_visits.specs.declared.node.Within.{Within}
 use Rattle.tree_visits.specs.declared.node.Node.{Node}
 use Rattle.tree_visits.specs.declared.node.Node.TheVariants as node
-use Rattle.tree_visits.specs.Visit.{Visited, Begins, Constants, Types, Variables, ChannelDeclared, HeaderDeclared, BodyDeclared, Ips, ModuleVariables, States, StateSets, RoutineDeclared, Initializes, Transitions, ClauseBegins, ClauseEnds, BlockBegins, Assigns, Calls, Tests, Counts, Selects, Labels, Inits, Releases, Connects, Disconnects, Attaches, Detaches, Outputs, Around, Visit}
+use Rattle.tree_visits.specs.Visit.{Visited, Begins, Constants, Types, Variables, ChannelDeclared, HeaderDeclared, BodyDeclared, Ips, ModuleVariables, States, StateSets, RoutineDeclared, Initializes, Transitions, ClauseBegins, BlockBegins, Assigns, Calls, Tests, Counts, Selects, Labels, Inits, Releases, Connects, Disconnects, Attaches, Detaches, Outputs, Around, Visit}
 use Rattle.tree_visits.specs.Visits.{routines_in, visit_of}
 
 abbrev pub around : Within → Around
-around w = record { header = option_copied w.header; attr = w.attr; span = w.span; routine = option_copied w.routine }
+around w = record { header = option_copied w.header; attr = w.attr; span = w.span; routine = option_copied w.routine; received = w.received; delayed = w.delayed }
 
 abbrev pub visited : Node → Visited
-visited (node.Begins decls) = Begins (routines_in decls.now)
+visited (node.Begins decls trans) = Begins (routines_in decls.now) trans.now
 visited (node.Constants defs) = Constants defs.now
 visited (node.Types defs) = Types defs.now
 visited (node.Variables vars) = Variables vars.now
@@ -26,7 +26,6 @@ visited (node.Routine routine) = RoutineDeclared routine.now
 visited (node.Initializes init) = Initializes init.now
 visited (node.Transitions span) = Transitions span
 visited (node.ClauseBegins clause) = ClauseBegins clause.now
-visited node.ClauseEnds = ClauseEnds
 visited (node.BlockBegins block) = BlockBegins block.now
 visited (node.Assigns variable value span) = Assigns variable.now value.now span
 visited (node.Calls name args span) = Calls name.now args.now span

@@ -1,5 +1,5 @@
 -- What a walk over a tree comes to, one node at a time, and what encloses each.
-use Rattle.std.specs.Prelude.{List, Option, Some, None}
+use Rattle.std.specs.Prelude.{Bool, List, Option, Some, None}
 use Rattle.estelle_tree.specs.declared.span.Span.{Span}
 use Rattle.estelle_tree.specs.declared.tree.name.Name.{Name}
 use Rattle.estelle_tree.specs.declared.tree.name.NameList.{NameList}
@@ -21,13 +21,14 @@ use Rattle.estelle_tree.specs.declared.tree.specification.Header.{Header}
 use Rattle.estelle_tree.specs.declared.tree.specification.IpDecl.{IpDecl}
 use Rattle.estelle_tree.specs.declared.tree.specification.ModvarDecl.{ModvarDecl}
 use Rattle.estelle_tree.specs.declared.tree.specification.StatesetDef.{StatesetDef}
+use Rattle.estelle_tree.specs.declared.tree.specification.Trans.{Trans}
 
 -- a node of the tree, with what stands in it but for statements, clauses and bodies, which are visited by themselves
 pub data Visited : Type 0 where
   -- ---- specifications and bodies
 
-  -- a specification or a body begins; its routines are visible in all of it
-  Begins : (routines : List Routine) → Visited
+  -- a specification or a body begins; its routines are visible in all of it, and its transitions stand at its end
+  Begins : (routines : List Routine) (trans : List Trans) → Visited
   Constants : (defs : List ConstDef) → Visited
   Types : (defs : List TypeDef) → Visited
   Variables : (vars : List TypedNames) → Visited
@@ -44,9 +45,8 @@ pub data Visited : Type 0 where
   Transitions : (span : Span) → Visited
   -- ---- clauses and blocks
 
-  -- a clause, which holds for what is visited until its end
+  -- a clause, before what it holds for
   ClauseBegins : (clause : Clause) → Visited
-  ClauseEnds : Visited
   BlockBegins : (block : Block) → Visited
   -- ---- statements
 
@@ -76,6 +76,9 @@ pub record Around : Type 0 where
   -- the specification or the body
   pub span : Span
   pub routine : Option Routine
+  -- a clause `when`, and a clause `delay`, holds for it
+  pub received : Bool
+  pub delayed : Bool
 
 pub record Visit : Type 0 where
   pub around : Around

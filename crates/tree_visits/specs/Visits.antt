@@ -1,5 +1,5 @@
 -- The visits of a tree, in text order.
-use Rattle.std.specs.Prelude.{List, [], ◌∷◌, ◌++◌, map, Option, Some, None}
+use Rattle.std.specs.Prelude.{Bool, true, false, List, [], ◌∷◌, ◌++◌, map, Option, Some, None}
 use Rattle.std.specs.List.{flat_map}
 use Rattle.estelle_tree.specs.declared.span.Span.{Span}
 use Rattle.estelle_tree.specs.declared.tree.name.Name.{Name}
@@ -12,6 +12,8 @@ use Rattle.estelle_tree.specs.declared.tree.declaration.BlockDecl.{BlockDecl}
 use Rattle.estelle_tree.specs.declared.tree.declaration.BlockDecl.TheVariants as block_decl
 use Rattle.estelle_tree.specs.declared.tree.declaration.Routine.{Routine}
 use Rattle.estelle_tree.specs.declared.tree.clause.Block.{Block}
+use Rattle.estelle_tree.specs.declared.tree.clause.Clause.{Clause}
+use Rattle.estelle_tree.specs.declared.tree.clause.Clause.TheVariants as clause
 use Rattle.estelle_tree.specs.declared.tree.clause.TransBody.{TransBody}
 use Rattle.estelle_tree.specs.declared.tree.clause.TransBody.TheOpen.{TransBody-F, Group-F}
 use Rattle.estelle_tree.specs.declared.tree.clause.TransBody.TheFolds.{fold-TransBody, fold-Group}
@@ -25,7 +27,7 @@ use Rattle.estelle_tree.specs.declared.tree.specification.Decl.{Decl}
 use Rattle.estelle_tree.specs.declared.tree.specification.Decl.TheOpen.{Decl-F, Body-F, Parts-F}
 use Rattle.estelle_tree.specs.declared.tree.specification.Decl.TheFolds.{fold-Decl, fold-Body, fold-Parts}
 use Rattle.estelle_tree.specs.declared.tree.specification.Body.{Body}
-use Rattle.tree_visits.specs.Visit.{Visited, Begins, Constants, Types, Variables, ChannelDeclared, HeaderDeclared, BodyDeclared, Ips, ModuleVariables, States, StateSets, RoutineDeclared, Initializes, Transitions, ClauseBegins, ClauseEnds, BlockBegins, Assigns, Calls, Tests, Counts, Selects, Labels, Inits, Releases, Connects, Disconnects, Attaches, Detaches, Outputs, Around, Visit}
+use Rattle.tree_visits.specs.Visit.{Visited, Begins, Constants, Types, Variables, ChannelDeclared, HeaderDeclared, BodyDeclared, Ips, ModuleVariables, States, StateSets, RoutineDeclared, Initializes, Transitions, ClauseBegins, BlockBegins, Assigns, Calls, Tests, Counts, Selects, Labels, Inits, Releases, Connects, Disconnects, Attaches, Detaches, Outputs, Around, Visit}
 
 abbrev pub Nodes : Type 0
 Nodes = List Visited
@@ -72,7 +74,7 @@ case_ = fold-Case Nodes Nodes Nodes stmt_layer case_layer stmts_layer
 unfoldable pub stmts : Stmts → Nodes
 stmts = fold-Stmts Nodes Nodes Nodes stmt_layer case_layer stmts_layer
 
--- ---- routines, blocks and clauses
+-- ---- definitions and blocks
 
 abbrev pub block_decl_node : BlockDecl → Visited
 block_decl_node (block_decl.Const defs span) = Constants defs
@@ -86,27 +88,11 @@ defined ds ss = map block_decl_node ds ++ stmts ss
 abbrev pub block : Block → Nodes
 block b = BlockBegins b ∷ defined b.decls b.body
 
-abbrev pub trans_body_layer : TransBody-F Nodes Nodes → Nodes
-trans_body_layer (TransBody-F.Block b) = block b
-trans_body_layer (TransBody-F.Groups groups span) = flat_map (λ g. g) groups
-
-abbrev pub group_layer : Group-F Nodes Nodes → Nodes
-group_layer g = ClauseBegins g.clause ∷ (g.body ++ ClauseEnds ∷ [])
-
-unfoldable pub trans_body : TransBody → Nodes
-trans_body = fold-TransBody Nodes Nodes trans_body_layer group_layer
-
-unfoldable pub group : Group → Nodes
-group = fold-Group Nodes Nodes trans_body_layer group_layer
-
 abbrev pub init_nodes : Option Init → Nodes
 init_nodes None = []
 init_nodes (Some x) = Initializes x ∷ block x.block
 
-abbrev pub trans_nodes : Trans → Nodes
-trans_nodes t = Transitions t.span ∷ trans_body t.body
-
--- ---- bodies
+-- ---- what nodes stand in
 
 abbrev pub visit_of : Around → Visited → Visit
 visit_of a n = record { around = a; node = n }
@@ -116,13 +102,39 @@ unfoldable pub standing : Around → Nodes → Visits
 standing a = map (visit_of a)
 
 abbrev pub in_specification : Option SysAttr → Span → Around
-in_specification attr span = record { header = None; attr = attr; span = span; routine = None }
+in_specification attr span = record { header = None; attr = attr; span = span; routine = None; received = false; delayed = false }
 
 abbrev pub in_body : Name → Span → Around
-in_body header span = record { header = Some header; attr = None; span = span; routine = None }
+in_body header span = record { header = Some header; attr = None; span = span; routine = None; received = false; delayed = false }
 
 abbrev pub in_routine : Around → Routine → Around
-in_routine a r = record { header = a.header; attr = a.attr; span = a.span; routine = Some r }
+in_routine a r = record { header = a.header; attr = a.attr; span = a.span; routine = Some r; received = a.received; delayed = a.delayed }
+
+-- for which a clause holds
+abbrev pub behind : Around → Clause → Around
+behind a (clause.When ip interaction params span) = record { header = a.header; attr = a.attr; span = a.span; routine = a.routine; received = true; delayed = a.delayed }
+behind a (clause.Delay low high span) = record { header = a.header; attr = a.attr; span = a.span; routine = a.routine; received = a.received; delayed = true }
+behind a c = a
+
+-- ---- clauses before blocks
+
+abbrev pub trans_body_layer : TransBody-F (Around → Visits) (Around → Visits) → Around → Visits
+trans_body_layer (TransBody-F.Block b) a = standing a (block b)
+trans_body_layer (TransBody-F.Groups groups span) a = flat_map (λ g. g a) groups
+
+abbrev pub group_layer : Group-F (Around → Visits) (Around → Visits) → Around → Visits
+group_layer g a = standing a (ClauseBegins g.clause ∷ []) ++ g.body (behind a g.clause)
+
+unfoldable pub trans_body : TransBody → Around → Visits
+trans_body = fold-TransBody (Around → Visits) (Around → Visits) trans_body_layer group_layer
+
+unfoldable pub group : Group → Around → Visits
+group = fold-Group (Around → Visits) (Around → Visits) trans_body_layer group_layer
+
+abbrev pub trans : Around → Trans → Visits
+trans a t = standing a (Transitions t.span ∷ []) ++ trans_body t.body a
+
+-- ---- bodies
 
 -- a declaration: the routine that it declares, and its visits
 pub record Declaring : Type 0 where
@@ -151,7 +163,7 @@ abbrev pub body_layer : Body-F Declaring (Around → Visits) (Around → Visits)
 body_layer b a = standing a (BodyDeclared b.name b.header b.span ∷ []) ++ b.parts (in_body b.header b.span)
 
 abbrev pub parts_layer : Parts-F Declaring (Around → Visits) (Around → Visits) → Around → Visits
-parts_layer ps a = standing a (Begins (flat_map (λ d. d.routines) ps.decls) ∷ []) ++ (flat_map (λ d. d.visits a) ps.decls ++ (standing a (init_nodes ps.init) ++ flat_map (λ t. standing a (trans_nodes t)) ps.trans))
+parts_layer ps a = standing a (Begins (flat_map (λ d. d.routines) ps.decls) ps.trans ∷ []) ++ (flat_map (λ d. d.visits a) ps.decls ++ (standing a (init_nodes ps.init) ++ flat_map (trans a) ps.trans))
 
 unfoldable pub decl : Decl → Declaring
 decl = fold-Decl Declaring (Around → Visits) (Around → Visits) decl_layer body_layer parts_layer

@@ -28,6 +28,8 @@ fn routine<V: Visitor>(
         attr: within.attr,
         span: within.span,
         routine: Some(routine),
+        received: within.received,
+        delayed: within.delayed,
     };
     defined(routine.decls.items(), &routine.body, &inside, visitor)
 }
@@ -37,7 +39,7 @@ fn transitions<V: Visitor>(
     within: &Within,
     visitor: &mut V,
 ) -> Result<(), AllocError>
-    ensures { OnOk result (visitor.new ≡ after_visits V.step visitor.old (flat_map (λ t. spec.standing (around within.now) (spec.trans_nodes t)) transitions.now)) }
+    ensures { OnOk result (visitor.new ≡ after_visits V.step visitor.old (flat_map (spec.trans (around within.now)) transitions.now)) }
 {
     for inner in transitions {
         trans(inner, within, visitor)?;
@@ -50,10 +52,17 @@ fn parts<V: Visitor>(parts: &Parts, within: &Within, visitor: &mut V) -> Result<
     ensures { OnOk result (visitor.new ≡ after_visits V.step visitor.old (spec.parts parts.now (around within.now))) }
 {
     let begun = parts.decls.items();
-    visitor.see(within, &Node::Begins { decls: begun })?;
+    let trans = parts.trans.items();
+    visitor.see(
+        within,
+        &Node::Begins {
+            decls: begun,
+            trans,
+        },
+    )?;
     decls(begun, within, visitor)?;
     init(&parts.init, within, visitor)?;
-    transitions(parts.trans.items(), within, visitor)
+    transitions(trans, within, visitor)
 }
 
 #[cycle(bodies)]
@@ -121,6 +130,8 @@ fn body<V: Visitor>(body: &Body, within: &Within, visitor: &mut V) -> Result<(),
         attr: None,
         span,
         routine: None,
+        received: false,
+        delayed: false,
     };
     parts(&body.parts, &inside, visitor)
 }
@@ -136,6 +147,8 @@ pub fn walk<V: Visitor>(tree: &Spec, visitor: &mut V) -> Result<(), AllocError>
         attr: tree.attr,
         span: tree.span,
         routine: None,
+        received: false,
+        delayed: false,
     };
     parts(&tree.parts, &within, visitor)
 }

@@ -2,7 +2,8 @@
 
 use estelle_tree::{
     Args, Block, Channel, Clause, Const, ConstDef, Decl, Expr, Header, Init, Ip, IpDecl,
-    ModvarDecl, Name, NameList, Routine, Span, StatesetDef, SysAttr, TypeDef, TypedNames, Variable,
+    ModvarDecl, Name, NameList, Routine, Span, StatesetDef, SysAttr, Trans, TypeDef, TypedNames,
+    Variable,
 };
 
 /// What a node stands in.
@@ -15,14 +16,19 @@ pub struct Within<'a> {
     /// The specification or the body.
     pub span: Span,
     pub routine: Option<&'a Routine>,
+    /// Whether a clause `when` holds for it.
+    pub received: bool,
+    /// Whether a clause `delay` holds for it.
+    pub delayed: bool,
 }
 
 /// A node, with what stands in it but for statements, clauses and bodies, which are visited by themselves.
 #[derive(Clone, Copy)]
 pub enum Node<'a> {
-    /// A specification or a body begins, with these declarations. Its routines are visible in all of it.
+    /// A specification or a body begins, with these declarations and transitions. Its routines are visible in all of it.
     Begins {
         decls: &'a [Decl],
+        trans: &'a [Trans],
     },
     /// A part `const`, of a body, a routine or a block; in the same way types and variables.
     Constants {
@@ -58,9 +64,8 @@ pub enum Node<'a> {
     Transitions {
         span: Span,
     },
-    /// A clause, which holds for what is visited until its end.
+    /// A clause, before what it holds for.
     ClauseBegins(&'a Clause),
-    ClauseEnds,
     BlockBegins(&'a Block),
     Assigns {
         variable: &'a Variable,

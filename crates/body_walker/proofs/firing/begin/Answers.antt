@@ -1,12 +1,19 @@
-use Rattle.std.proofs.Common.{[], subst}
-use Rattle.std.specs.Prelude.{IfOk}
-use Rattle.estelle_model.specs.Blocks.{fresh}
-use Rattle.plain_jobs.specs.Computed.{core_of, log_from, IsMade}
+use Rattle.std.proofs.Common.{[], refl, ap, ◌∙◌}
+use Rattle.estelle_model.specs.Subject.{Subject, meant}
+use Rattle.estelle_model.specs.Firing.{bare}
+use Rattle.estelle_model.specs.Computed.{core_of}
 use Rattle.meaning_table.specs.Known.{meanings_of}
-use Rattle.body_walker.specs.Runs.{block_and_state}
+use Rattle.body_walker.proofs.RootLemmas.{root_core, root_in_order}
+use Rattle.body_walker.proofs.FiringLemmas.{made_as}
 use Rattle.body_walker.proofs.firing.begin.Goals as goal
 
+pub run_on-requires : goal.run_on-requires
+run_on-requires c = root_in_order c.bodies-bodies.result.now c.in_ok-image.image c.in_ok-image.ensures
+
 pub returns : goal.returns
-returns c = λ s known how.
-    subst (λ p. IfOk c.run_on.result (λ made. IsMade (block_and_state (meanings_of c.args.table.now) how p c.args.routine.now [] s known c.args.to (fresh (log_from (core_of c.args.image)) c.args.budget)) made.0 made.1)) c.root-path.ensures
-    (subst (λ vs. IfOk c.run_on.result (λ made. IsMade (block_and_state (meanings_of c.args.table.now) how c.root-path.result c.args.routine.now vs s known c.args.to (fresh (log_from (core_of c.args.image)) c.args.budget)) made.0 made.1)) c.none.ensures (c.run_on.ensures s known how))
+returns c =
+    let s : Subject = c.args.program.now in
+    let b : Subject = c.bodies-bodies.result.now in
+    made_as b s (meanings_of c.table.result.now) (meant s) c.root-path.result [] c.args.routine.now c.args.routine.now c.none-values.result [] c.args.to c.args.to (core_of b c.in_ok-image.image) (bare s).core c.args.budget c.run_on.result
+    c.bodies-bodies.ensures (ap meanings_of c.table.ensures) c.root-path.ensures refl c.none-values.ensures refl
+    (root_core b c.in_ok-image.image c.in_ok-image.ensures ∙ ap (λ (x : Subject). (bare x).core) c.bodies-bodies.ensures) c.run_on.ensures

@@ -6,4 +6,4 @@ use Rattle.body_walker_state.specs.Follows.{Follows}
 use Rattle.body_walker.proofs.guards.provided.Goals as goal
 
 pub returns-in-Some : goal.returns-in-Some
-returns-in-Some c = λ s t is. subst (λ o. Follows (provided_step Logged on_log s c.args.path.now t c.args.values.now o) c.args.walk.now c.truth.result c.truth.new.walk) (sym (ap option_copied c.in-Some.is)) (c.truth.ensures s t is)
+returns-in-Some c = λ t is. subst (λ o. Follows (provided_step Logged on_log c.args.bodies.now c.args.path.now t c.args.values.now o) c.args.walk.now c.truth.result c.truth.new.walk) (sym (ap option_copied c.in-Some.is)) (c.truth.ensures t is)

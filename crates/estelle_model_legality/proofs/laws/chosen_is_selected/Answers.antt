@@ -1,14 +1,11 @@
-use Rattle.estelle_model_legality.specs.Choices.{LegalAreTree}
 use Rattle.estelle_model_legality.proofs.Choosing.{selected}
 use Rattle.estelle_model_legality.proofs.ChosenOnce.{one}
 use Rattle.estelle_model_legality.proofs.ChosenThere.{at_system}
+use Rattle.estelle_model_legality.proofs.Systems.{legal_tree}
 use Rattle.estelle_model_legality.proofs.laws.chosen_is_selected.Goals as goal
 
-trees : LegalAreTree
-trees s instances h p k i there = let parent = h.parents p k i there in record { parent = parent.parent; there = parent.there; allowed = parent.allowed }
-
 pub returns-clause-tree : goal.returns-clause-tree
-returns-clause-tree g c = trees
+returns-clause-tree g c = legal_tree
 
 pub returns-clause-selected : goal.returns-clause-selected
 returns-clause-selected g c = λ draw s budget g tree in_order m c takes rest chosen. selected s budget g tree in_order draw chosen

@@ -15,6 +15,15 @@ loop-index-preserved c =
       | in-On w ↦ subst (λ (f : Option ℕ). SoFar guards f (index + 1)) (sym (w.first-is ∙ w.earlier-first.ensures)) (after_on guards index c.loop-index.first w.in-On.low w.in-On.high c.loop-index.invariant (sym asked ∙ w.in-On.is))
     ]
 
+-- src/survey.rt:52:37
+pub returns-in-Faulted : goal.returns-in-Faulted
+returns-in-Faulted c =
+    let asked : c.in_ok-guard_plain.field-0 ≡ guard_on c.args.program.now c.args.budget c.args.image.now (c.loop-index.index + 1) = rw c.root-root.ensures at c.in_ok-guard_plain.ensures.computed in
+    record {
+      faults = sym asked ∙ c.in-Faulted.is;
+      first = λ k other less faulted. c.loop-index.invariant.sound k other (omega (arith, less)) faulted;
+    }
+
 pub returns : goal.returns
 returns c =
     let s = c.args.program.now in

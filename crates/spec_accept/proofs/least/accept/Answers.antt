@@ -9,8 +9,7 @@ invariant_of-result c =
     record {
       named = c.in-Ok.ensures.names;
       kept = none_broken c.args.spec c.in-Ok.names same c.in-Ok.ensures.kept c.in-Ok-None.field-0 c.in-Ok-None.field-0-is c.in-Ok-None.ensures.first;
-      listed = c.in-Ok-flat_list.ensures.listed;
-      unlisted = c.in-Ok-flat_list.ensures.others;
+      listed = c.in-Ok-flat_list.ensures;
     }
 
 pub returns-in-Ok-Some-clause-refused : goal.returns-in-Ok-Some-clause-refused

@@ -11,4 +11,4 @@ decls-loop-inner-preserved g t c =
     grind (arith)
 
 pub parts-returns : goal.parts-returns
-parts-returns g t c = on_ok c.transitions.result (parts_taken g.V.Visitor.step c.args.parts.now (around c.args.within.now) c.args.visitor.now c.see.new.self c.decls.new.visitor c.init.new.visitor c.transitions.new.visitor c.items-begun.result.now c.items.result.now c.items-begun.ensures c.items.ensures c.in_ok-see.ensures c.in_ok-decls.ensures c.in_ok-init.ensures) c.transitions.ensures
+parts-returns g t c = on_ok c.transitions.result (parts_taken g.V.Visitor.step c.args.parts.now (around c.args.within.now) c.args.visitor.now c.see.new.self c.decls.new.visitor c.init.new.visitor c.transitions.new.visitor c.items-begun.result.now c.items-trans.result.now c.items-begun.ensures c.items-trans.ensures c.in_ok-see.ensures c.in_ok-decls.ensures c.in_ok-init.ensures) c.transitions.ensures

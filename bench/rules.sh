@@ -1,0 +1,52 @@
+#!/bin/sh
+# Gives the texts of docs/RULES.md to the built program, and fails where an answer is not the one that stands there. It is no
+# part of the merge gate.
+#
+# usage: bench/rules.sh [PROGRAM]
+#
+# PROGRAM is what `rt run` builds in crates/estelle_tool. A text with a form that is not run yet is refused as such before its
+# rules are asked; it is counted, and is no failure.
+set -u
+top=$(cd "$(dirname "$0")/.." && pwd)
+program=${1:-$top/crates/estelle_tool/out/estelle_tool}
+if [ ! -x "$program" ]; then
+    echo "rules: no program $program: call rt run in crates/estelle_tool first" >&2
+    exit 1
+fi
+folder=$(mktemp -d)
+trap 'rm -rf "$folder"' EXIT
+
+echo accepted >"$folder/accepted"
+: >"$folder/nothing"
+
+# Each text into a file NUMBER.input, with the line that is wanted on err in NUMBER.wanted: that behind a text that breaks a
+# rule, none for a mended one.
+awk -v folder="$folder" '
+    /^```$/ { inside = !inside; if (inside) { count++; file = sprintf("%s/%03d", folder, count); printf "" > (file ".wanted") } else close(file ".input"); next }
+    inside { print > (file ".input") }
+    /^`estelle: / { gsub(/`/, ""); print > (file ".wanted"); close(file ".wanted") }
+' "$top/docs/RULES.md"
+
+tried=0
+failed=0
+unbuilt=0
+for input in "$folder"/*.input; do
+    tried=$((tried + 1))
+    "$program" check <"$input" >"$folder/out" 2>"$folder/err"
+    status=$?
+    wanted=0
+    written=$folder/accepted
+    if [ -s "${input%.input}.wanted" ]; then
+        wanted=1
+        written=$folder/nothing
+    fi
+    if [ "$(cat "$folder/err")" = 'estelle: form not built' ]; then
+        unbuilt=$((unbuilt + 1))
+    elif [ "$status" -ne "$wanted" ] || ! cmp -s "$folder/out" "$written" || ! cmp -s "$folder/err" "${input%.input}.wanted"; then
+        failed=$((failed + 1))
+        echo "FAILED: status $status (wanted $wanted), err '$(head -c 200 "$folder/err")' (wanted '$(cat "${input%.input}.wanted")')"
+        cat "$input"
+    fi
+done
+echo "$tried texts, $failed failed, $unbuilt with a form that is not run yet"
+[ "$failed" -eq 0 ] && [ "$tried" -gt 0 ]

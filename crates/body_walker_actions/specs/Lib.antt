@@ -1,0 +1,2 @@
+-- ---- what is read of instances before children are made, or ended
+pub mod Children

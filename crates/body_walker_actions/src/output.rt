@@ -1,0 +1,65 @@
+//! Outputs, at interaction points (ISO/IEC 9074: output).
+
+ghost use Rattle.std.specs.Prelude.{◌≡◌, ◌&&◌};
+ghost use Rattle.estelle_model.specs.States.{Logged, on_log};
+ghost use Rattle.estelle_model.specs.Meant.{Meanings};
+ghost use Rattle.estelle_model.specs.Belonging.{are_values_of};
+ghost use Rattle.estelle_model.specs.InteractionPoints.{point};
+ghost use Rattle.estelle_model.specs.Actions as actions;
+ghost use Rattle.body_walker_state.specs.Follows.{Follows};
+
+use crate::points::{is_sent_at, point};
+use body_walker_state::{LogEntry, ModuleBodies, Walk};
+use body_walker_values::{Stop, are_values_of};
+use estelle_model::{Meaning, Type};
+use estelle_tree::{IpAddr, Name, Sequence};
+use pascal_values::{Fault, Values};
+use std::alloc::Global;
+
+/// The types of the parameters of an interaction.
+pub fn types_of<'m>(meaning: &'m Meaning) -> &'m [Type]
+    ensures { result.now ≡ actions.types_of meaning.now }
+{
+    match meaning {
+        Meaning::Interaction(kind) => kind.parameters.as_slice(),
+        _ => &[],
+    }
+}
+
+fn may_output(
+    bodies: &ModuleBodies,
+    walk: &Walk,
+    meaning: &Meaning,
+    values: &Values,
+    a: &IpAddr,
+) -> bool
+    ensures { result ≡ (actions.is_sent_at (point bodies.now walk.now.instances a.now) meaning.now && are_values_of (actions.types_of meaning.now) values.now) }
+{
+    is_sent_at(point(walk, bodies, a), meaning) && are_values_of(types_of(meaning), values.items())
+}
+
+/// An output of an interaction at an interaction point, with values of its parameters.
+pub fn output_at(
+    alloc: Global,
+    bodies: &ModuleBodies,
+    walk: &mut Walk,
+    ip: &Name,
+    interaction: &Name,
+    meaning: &Meaning,
+    values: Values,
+    a: IpAddr,
+) -> Result<(), Stop>
+    ensures { (known : Meanings) → known interaction.now ≡ meaning.now → Follows (actions.output_at Logged on_log bodies.now known ip.now interaction.now values a) walk.old result walk.new }
+{
+    if !may_output(bodies, walk, meaning, &values, &a) {
+        return Err(Stop::Fault(Fault::Unset));
+    }
+    let made = LogEntry::Output {
+        from: a,
+        ip: ip.word.copy(alloc)?,
+        name: interaction.word.copy(alloc)?,
+        values,
+    };
+    walk.make(alloc, made)?;
+    Ok(())
+}

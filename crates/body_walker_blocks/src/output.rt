@@ -1,0 +1,45 @@
+//! Outputs (ISO/IEC 9074: output).
+
+ghost use Rattle.body_walker_state.specs.Follows.{Follows};
+ghost use Rattle.body_walker_blocks.specs.Walked as walked;
+
+use crate::calls::value_arguments;
+use crate::labels::exprs_of;
+use crate::points::own_ip;
+use crate::scope::Scope;
+use body_walker_actions::{output_at, types_of};
+use body_walker_state::Walk;
+use body_walker_values::Stop;
+use estelle_model::Environment;
+use estelle_tree::{Args, Name};
+use std::alloc::Global;
+
+/// The arguments, then the unit.
+#[cycle(walk)]
+pub fn output(
+    scope: &Scope,
+    alloc: Global,
+    here: &Environment,
+    walk: &mut Walk,
+    ip: &Name,
+    interaction: &Name,
+    args: &Option<Args>,
+) -> Result<(), Stop>
+    ensures { Follows (walked.output scope.now here.now ip.now interaction.now args.now) walk.old result walk.new }
+{
+    let meaning = scope.meaning(interaction);
+    let types = types_of(meaning);
+    let given = value_arguments(scope, alloc, here, walk, types, exprs_of(args))?;
+    walk.spend()?;
+    let a = own_ip(scope, alloc, here, ip)?;
+    output_at(
+        alloc,
+        scope.bodies(),
+        walk,
+        ip,
+        interaction,
+        meaning,
+        given.values,
+        a,
+    )
+}

@@ -1,0 +1,3 @@
+pub mod Numbered
+pub mod Telling
+pub mod Holding

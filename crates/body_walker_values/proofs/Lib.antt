@@ -1,0 +1,4 @@
+pub mod TypeLemmas
+pub mod BelongingLemmas
+pub mod ValueLemmas
+pub mod FrameLemmas

@@ -1,0 +1,2 @@
+-- ---- what an operation on values gives in code
+pub mod Gives

@@ -1,0 +1,5 @@
+pub mod Forms
+pub mod Readings
+pub mod Fields
+pub mod Lines
+pub mod Stages

@@ -1,0 +1,6 @@
+pub mod Rising
+pub mod Blocks
+pub mod Apart
+pub mod Walks
+pub mod Downwards
+pub mod Priorities

@@ -1,0 +1,5 @@
+-- ---- what instances offer
+pub mod Blocks
+pub mod Offers
+-- ---- what is chosen of it
+pub mod Choosing

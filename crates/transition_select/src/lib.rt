@@ -1,0 +1,13 @@
+//! The choice among what the instances at and below a system offer (ISO/IEC 9074: a parent goes before its children; of a
+//! process each child goes on, of an activity one).
+//!
+//! It stands on `estelle_model`, whose `Chosen` the choice is, on the laws on trees of instances in `estelle_model_legality`,
+//! and on the choosers of `outside`. A choice takes the time of what stands at and below the system, times the depth of
+//! activities in a row that offer nothing.
+#![tactic(auto)]
+
+mod choice;
+mod offers;
+
+pub use choice::choose;
+pub use offers::{Counted, Offer, offered};
