@@ -30,7 +30,7 @@ body
 
 /// In one body a value is chosen.
 const WITH_ANY: &str =
-    "specification s; state go; module h; end; body x for h; trans any i: 1..2 do begin end; end; \
+    "specification s systemprocess; state go; module h process; end; body x for h; trans any i: 1..2 do begin end; end; \
 initialize to go begin end; trans from go begin end; end.";
 
 const CHOSEN: &str = "\
