@@ -11,3 +11,4 @@ mod root;
 
 pub use body_walker_program::Program;
 pub use plain::{fire_plain, guard_plain};
+pub use root::root_part;

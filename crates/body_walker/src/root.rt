@@ -22,7 +22,8 @@ fn no_children(alloc: Global, count: usize) -> Result<Items<Option<Path>>, Alloc
     Ok(held)
 }
 
-fn root_part(alloc: Global, body: &ModuleBody) -> Result<Part, AllocError>
+/// Its part, in which nothing is set.
+pub fn root_part(alloc: Global, body: &ModuleBody) -> Result<Part, AllocError>
     ensures { IfOk result (λ part. part ≡ root_part body.now) }
 {
     let mut vars = Values::none(alloc);

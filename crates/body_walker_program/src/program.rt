@@ -3,6 +3,8 @@
 ghost use Rattle.std.specs.Prelude.{◌≡◌, option_map, option_and_then, slice_get, length, IfOk};
 ghost use Rattle.std.specs.Option.{option_copied};
 ghost use Rattle.estelle_model.specs.Subject.{body, ips_of, transitions, transition};
+ghost use Rattle.estelle_model.specs.Attributes.{attribute};
+ghost use Rattle.estelle_model.specs.InteractionPoints.{internal_at};
 ghost use Rattle.estelle_model.specs.Queues.{common_at};
 ghost use Rattle.body_walker_program.specs.Told.{flat_at};
 ghost use Rattle.body_walker_program.specs.Programs.{known_of, block_in};
@@ -11,7 +13,7 @@ use crate::flat::BodyTransitions;
 use crate::standings::{Standings, all_standings};
 use body_table::meanings;
 use body_walker_state::ModuleBodies;
-use estelle_model::Routine;
+use estelle_model::{Attribute, Routine};
 use estelle_tree::{Items, Names, Sequence, Spec};
 use flat_transitions::Transition;
 use meaning_table::Table;
@@ -121,6 +123,33 @@ impl<'a> Program<'a> {
                 None => false,
                 Some(point) => point.common,
             },
+        }
+    }
+
+    /// How many interaction points the body with a number has.
+    pub fn points(&self, number: u32) -> usize
+        ensures { result ≡ length (ips_of self.now number) }
+    {
+        self.bodies.ips(number).len()
+    }
+
+    /// The attribute of the body with a number.
+    pub fn attribute(&self, number: u32) -> Option<Attribute>
+        ensures { result ≡ option_and_then (λ b. attribute self.now number) (body self.now number) }
+    {
+        match self.bodies.get(number) {
+            None => None,
+            Some(body) => body.attribute,
+        }
+    }
+
+    /// Whether a body declares an interaction point for itself, and not in its header, both by their numbers.
+    pub fn is_internal(&self, number: u32, ip: u32) -> bool
+        ensures { result ≡ internal_at (slice_get (ips_of self.now number) ip) }
+    {
+        match self.bodies.ips(number).get(ip as usize) {
+            None => false,
+            Some(point) => !point.external,
         }
     }
 

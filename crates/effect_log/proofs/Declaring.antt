@@ -20,7 +20,7 @@ use Rattle.estelle_model.specs.Subject.{Subject, ips_of}
 use Rattle.estelle_model.specs.InteractionPoints.{point_of}
 use Rattle.estelle_model.specs.Queues.{common_at}
 use Rattle.estelle_model.proofs.Members.{Among}
-use Rattle.estelle_model.proofs.PrivateParts.{point_same}
+use Rattle.estelle_model.proofs.PrivateParts.{body_of, point_same}
 use Rattle.effect_log.specs.Underway.{is_common_in, declared_all, AllFresh}
 use Rattle.effect_log.proofs.Lists.{filter-alike, filter-nothing}
 use Rattle.effect_log.proofs.Filing.{Filed, with_one, filed-declared, declared-found, among-append}
@@ -110,7 +110,7 @@ module _ (s : Subject) (body : ℕ) (c : Path) where
       from-below n (suc k) (with_one (at c k) (is_common_in s body (at c k)) d) j (omega (arith, h))
       ∙ ap (λ b. if b then Some (is_common_in s body (at c k)) else d (at c j)) (false-unless (same_ip (at c k) (at c j)) (λ e. let same = ap (λ (x : IpAddr). x.ip) (same_ip-equal (at c k) (at c j) e) in absurd (omega (arith, h, same))))
 
-  from-own : (n k : ℕ) (d : IpAddr → Option Bool) (j : ℕ) → k ≤ j → from_on k n d (at c j) ≡ (if nat_lt j (k + n) then Some (is_common_in s body (at c j)) else d (at c j))
+  pub from-own : (n k : ℕ) (d : IpAddr → Option Bool) (j : ℕ) → k ≤ j → from_on k n d (at c j) ≡ (if nat_lt j (k + n) then Some (is_common_in s body (at c j)) else d (at c j))
   from-own zero k d j le = ap (λ b. if b then Some (is_common_in s body (at c j)) else d (at c j)) (let none : nat_lt j (k + 0) ≡ false = grind (arith, nat_tests) in sym none)
   from-own (suc n) k d j le = by (nat_eq k j) refl (from-own n (suc k) (with_one (at c k) (is_common_in s body (at c k)) d) j)
     where
@@ -139,30 +139,32 @@ common-get [] j = ap (λ b. if b then Some (common_at (slice_get [] j)) else Non
 common-get (p ∷ ps) zero = ap (λ b. if b then Some p.common else None) (let some : nat_lt 0 (suc (length ps)) ≡ true = grind (arith, nat_tests) in sym some)
 common-get (p ∷ ps) (suc j) = common-get ps j ∙ ap (λ b. if b then Some (common_at (slice_get ps j)) else None) (let same : nat_lt j (length ps) ≡ nat_lt (suc j) (suc (length ps)) = grind (arith, nat_tests) in same)
 
--- with all its points declared, the disciplines are those of the instances with the new one
-pub discipline-created : (s : Subject) (x : Instances) (p : Path) (k : ℕ) (i : Instance) → map.get x (child p k) ≡ None → (a : IpAddr)
-    → from_on s i.body (child p k) 0 (length (ips_of s i.body)) (discipline s x) a ≡ discipline s (created x p k i) a
-discipline-created s x p k i fresh a = by (bytes_eq a.path (child p k)) refl
+-- with all points of a new instance declared, the disciplines are those of the instances with it
+pub discipline-with : (s : Subject) (x y : Instances) (c : Path) (i : Instance) → map.get x c ≡ None → map.get y c ≡ Some i → ((q : Path) → q ≢ c → body_of (map.get y q) ≡ body_of (map.get x q)) → (a : IpAddr)
+    → from_on s i.body c 0 (length (ips_of s i.body)) (discipline s x) a ≡ discipline s y a
+discipline-with s x y c i fresh new others a = by (bytes_eq a.path c) refl
   where
-    n : ℕ
-    n = length (ips_of s i.body)
-
-    other : a.path ≢ child p k → from_on s i.body (child p k) 0 (length (ips_of s i.body)) (discipline s x) a ≡ discipline s (created x p k i) a
+    other : a.path ≢ c → from_on s i.body c 0 (length (ips_of s i.body)) (discipline s x) a ≡ discipline s y a
     other h =
-        from-other s i.body (child p k) (length (ips_of s i.body)) 0 (discipline s x) a h
-        ∙ ap (option_map (λ (q : InteractionPoint). q.common)) (point_same s (map.get x a.path) (map.get (created x p k i) a.path) (sym (body-created x p k i a.path h)) a.ip)
+        from-other s i.body c (length (ips_of s i.body)) 0 (discipline s x) a h
+        ∙ ap (option_map (λ (q : InteractionPoint). q.common)) (point_same s (map.get x a.path) (map.get y a.path) (sym (others a.path h)) a.ip)
 
-    own : a.path ≡ child p k → from_on s i.body (child p k) 0 (length (ips_of s i.body)) (discipline s x) a ≡ discipline s (created x p k i) a
+    own : a.path ≡ c → from_on s i.body c 0 (length (ips_of s i.body)) (discipline s x) a ≡ discipline s y a
     own e =
-        let here : a ≡ at (child p k) a.ip = λ j. record { path = e j; ip = a.ip } in
-        let none : discipline s x (at (child p k) a.ip) ≡ None = ap (λ o. option_map (λ (q : InteractionPoint). q.common) (point_of s o a.ip)) fresh in
+        let here : a ≡ at c a.ip = λ j. record { path = e j; ip = a.ip } in
+        let none : discipline s x (at c a.ip) ≡ None = ap (λ o. option_map (λ (q : InteractionPoint). q.common) (point_of s o a.ip)) fresh in
         let zero-plus : 0 + length (ips_of s i.body) ≡ length (ips_of s i.body) = omega arith in
-        ap (from_on s i.body (child p k) 0 (length (ips_of s i.body)) (discipline s x)) here
-        ∙ from-own s i.body (child p k) (length (ips_of s i.body)) 0 (discipline s x) a.ip (omega arith)
+        ap (from_on s i.body c 0 (length (ips_of s i.body)) (discipline s x)) here
+        ∙ from-own s i.body c (length (ips_of s i.body)) 0 (discipline s x) a.ip (omega arith)
         ∙ (λ j. if nat_lt a.ip (zero-plus j) then Some (common_at (slice_get (ips_of s i.body) a.ip)) else none j)
         ∙ sym (common-get (ips_of s i.body) a.ip)
-        ∙ sym (ap (λ o. option_map (λ (q : InteractionPoint). q.common) (point_of s o a.ip)) (ap (map.get (created x p k i)) e ∙ get-new x p k i))
+        ∙ sym (ap (λ o. option_map (λ (q : InteractionPoint). q.common) (point_of s o a.ip)) (ap (map.get y) e ∙ new))
 
-    by : (b : Bool) → bytes_eq a.path (child p k) ≡ b → from_on s i.body (child p k) 0 (length (ips_of s i.body)) (discipline s x) a ≡ discipline s (created x p k i) a
-    by true e = own (same_path-equal a.path (child p k) e)
-    by false e = other (λ is. let wrong : true ≡ false = sym (same_path-refl (child p k)) ∙ ap (λ q. bytes_eq q (child p k)) (sym is) ∙ e in cc)
+    by : (b : Bool) → bytes_eq a.path c ≡ b → from_on s i.body c 0 (length (ips_of s i.body)) (discipline s x) a ≡ discipline s y a
+    by true e = own (same_path-equal a.path c e)
+    by false e = other (λ is. let wrong : true ≡ false = sym (same_path-refl c) ∙ ap (λ q. bytes_eq q c) (sym is) ∙ e in cc)
+
+-- so it is with a new child
+pub discipline-created : (s : Subject) (x : Instances) (p : Path) (k : ℕ) (i : Instance) → map.get x (child p k) ≡ None → (a : IpAddr)
+    → from_on s i.body (child p k) 0 (length (ips_of s i.body)) (discipline s x) a ≡ discipline s (created x p k i) a
+discipline-created s x p k i fresh = discipline-with s x (created x p k i) (child p k) i fresh (get-new x p k i) (body-created x p k i)

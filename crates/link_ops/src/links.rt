@@ -1,6 +1,6 @@
 //! Links in order.
 
-ghost use Rattle.std.specs.Prelude.{◌≡◌, ◌≢◌, ℕ, ◌+◌, ◌≤◌, ◌||◌, ◌++◌, ◌∷◌, [], not, is_some, filter, length, Some, None, IfSome, false, IsOk, IsErr, OnOk, OnErr, IsTrue, ◌↔◌};
+ghost use Rattle.std.specs.Prelude.{◌≡◌, ◌≢◌, ℕ, ◌+◌, ◌≤◌, ◌||◌, ◌++◌, ◌∷◌, [], not, is_some, filter, length, Some, None, IfSome, false, IsOk, IsErr, IfOk, OnOk, OnErr, IsTrue, ◌↔◌};
 ghost use Rattle.std.specs.Option.{option_copied};
 ghost use Rattle.estelle_tree.specs.Links.{joins, is_upper_of, touches, connection, attachment, peer, above, below, bottom, route};
 ghost use Rattle.link_ops.specs.Linked.{is_bound, AreProper, IsChild};
@@ -9,7 +9,7 @@ ghost use Rattle.link_ops.specs.Pairs as spec;
 use crate::pairs::Pairing;
 use crate::points::{Points, Role};
 use crate::{pairs, points};
-use estelle_tree::{IpAddr, LinkKind, Path};
+use estelle_tree::{IpAddr, Link, LinkKind, Path};
 use std::alloc::{AllocError, Global};
 use std::marker::Model;
 
@@ -193,6 +193,13 @@ impl Links {
         } else {
             Err(LinkAbsent)
         }
+    }
+
+    /// Copies of the links, in order.
+    pub fn copies(&self, alloc: Global) -> Result<Vec<Link>, AllocError>
+        ensures { IfOk result (λ links. links.items ≡ self.now.links) }
+    {
+        pairs::copies(alloc, &self.points, &self.pairs)
     }
 
     /// Removes every link with an end at the instance or below it. It takes no memory.

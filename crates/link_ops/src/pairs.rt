@@ -1,6 +1,6 @@
 //! Links as pairs of numbers of points.
 
-ghost use Rattle.std.specs.Prelude.{◌≡◌, ℕ, ◌≤◌, ◌≢◌, ◌*◌, OnOk, vec_capacity, ◌+◌, ◌-◌, ◌<◌, ◌++◌, ◌∷◌, [], length, Some, None, false, slice_set, IsSome, filter, not};
+ghost use Rattle.std.specs.Prelude.{◌≡◌, ℕ, ◌≤◌, ◌≢◌, ◌*◌, IfOk, OnOk, vec_capacity, ◌+◌, ◌-◌, ◌<◌, ◌++◌, ◌∷◌, [], length, Some, None, false, slice_set, IsSome, filter, not};
 ghost use Rattle.std.specs.Option.{option_copied};
 ghost use Rattle.slab.specs.Slab.{get, slab_len};
 ghost use Rattle.estelle_tree.specs.Links.{touches};
@@ -10,8 +10,8 @@ ghost use Rattle.link_ops.specs.Pairs as spec;
 
 use crate::points;
 use crate::points::{Points, Role, find, insert, ip_of, link_of, set_link};
-use estelle_tree::{IpAddr, LinkKind, Path};
-use std::alloc::AllocError;
+use estelle_tree::{IpAddr, Link, LinkKind, Path};
+use std::alloc::{AllocError, Global};
 
 /// The numbers of the points of a link.
 #[derive(Clone, Copy)]
@@ -126,6 +126,55 @@ pub fn route<'a>(
     let top = walk(points, pairs, Role::Lower, steps, number);
     let peer = step(points, pairs, Role::Joined, top)?;
     ip_of(points, walk(points, pairs, Role::Upper, steps, peer))
+}
+
+fn copy_point(alloc: Global, points: &Points, number: usize) -> Result<IpAddr, AllocError>
+    ensures { IfOk result (λ copy. copy ≡ spec.ip_at points.now number) }
+{
+    match ip_of(points, number) {
+        None => Ok(IpAddr {
+            path: Path::root(alloc),
+            ip: 0,
+        }),
+        Some(at) => Ok(IpAddr {
+            path: at.path.copy(alloc)?,
+            ip: at.ip,
+        }),
+    }
+}
+
+/// Adds a copy of a link, if there is one.
+fn push_copy(
+    alloc: Global,
+    points: &Points,
+    pair: &Option<Pairing>,
+    links: &mut Vec<Link>,
+) -> Result<(), AllocError>
+    ensures { OnOk result (links.new.items ≡ links.old.items ++ spec.seen points.now (pair.now ∷ [])) }
+{
+    if let Some(pair) = pair {
+        links.push(Link {
+            kind: pair.kind,
+            first: copy_point(alloc, points, pair.first)?,
+            second: copy_point(alloc, points, pair.second)?,
+        })?;
+    }
+    Ok(())
+}
+
+/// Copies of the links, in order.
+pub fn copies(
+    alloc: Global,
+    points: &Points,
+    pairs: &[Option<Pairing>],
+) -> Result<Vec<Link>, AllocError>
+    ensures { IfOk result (λ links. links.items ≡ spec.seen points.now pairs.now) }
+{
+    let mut links = Vec::new(alloc);
+    for pair in pairs {
+        push_copy(alloc, points, pair, &mut links)?;
+    }
+    Ok(links)
 }
 
 /// The number of a point, which is put there where it is not there yet.

@@ -47,7 +47,7 @@ chain_start f P n last xs is none = ap (λ ks. map f (reverse ks)) (passing_late
 pub passes_where : (P : ℕ → Bool) (n k : ℕ) → k ≡ latest P n → k ≢ 0 → P k ≡ true
 passes_where P n k is some = subst (λ k. P k ≡ true) (sym is) (latest_there P n (λ e. some (is ∙ e)))
 
-map-reverse : {A B : Type 0} (f : A → B) (xs : List A) → map f (reverse xs) ≡ reverse (map f xs)
+pub map-reverse : {A B : Type 0} (f : A → B) (xs : List A) → map f (reverse xs) ≡ reverse (map f xs)
 map-reverse f [] = refl
 map-reverse f (x ∷ xs) = ap (map f) (reverse-append (x ∷ []) xs) ∙ map-append f (reverse xs) (x ∷ []) ∙ ap (λ ys. ys ++ f x ∷ []) (map-reverse f xs) ∙ sym (reverse-append (f x ∷ []) (map f xs))
 

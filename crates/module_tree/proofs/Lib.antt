@@ -7,5 +7,7 @@ pub mod Unlinking
 pub mod Placing
 pub mod Steps
 pub mod Removing
+pub mod Order
+pub mod Below
 pub mod Chains
 pub mod Standing

@@ -76,6 +76,10 @@ module _ {R : Type 0} where
   abbrev pub without : Instances R → Path → Instances R
   without m p = map.retain_keys m (λ q. not (is_inside p q))
 
+  -- what is kept of an instance and of all below it, in path order
+  abbrev pub parts_below : Instances R → Path → List R
+  parts_below m p = each (λ e. e.1.part) (map.entries (map.retain_keys m (is_inside p)))
+
   -- after a write to what is kept of an instance
   abbrev pub with_part : Tree R → Path → R → Tree R
   with_part t p part = record t { instances = changed t.instances p (with_other_part part) }

@@ -1,10 +1,11 @@
 //! The table of the nodes by their paths.
 
-ghost use Rattle.std.specs.Prelude.{◌≡◌, ◌≢◌, ◌≤◌, ◌<◌, ◌+◌, ◌↔◌, ℕ, [], None, Some, IsErr, IfSome, IfNone, OnOk, OnErr, IfErr, IfOk, map, reverse, IsSome, IsTrue, cond, length, List};
+ghost use Rattle.std.specs.Prelude.{◌≡◌, ◌≢◌, ◌≤◌, ◌<◌, ◌+◌, ◌↔◌, ℕ, [], None, Some, IsErr, IfSome, IfNone, OnOk, OnErr, IfErr, IfOk, map, reverse, IsSome, IsTrue, cond, length, List, false};
 ghost use Rattle.std.specs.Option.{option_map};
 ghost use Rattle.std.specs.Vec.{vec_capacity};
 ghost use Rattle.indexmap.specs.IndexMap.{spare, index_map_len};
-ghost use Rattle.estelle_tree.specs.Paths.{child, parent_of, last_of, is_inside};
+ghost use Rattle.std.specs.Ordering.{is_lt};
+ghost use Rattle.estelle_tree.specs.Paths.{child, parent_of, last_of, is_inside, path_cmp};
 ghost use Rattle.std.specs.FinMap as finite;
 ghost use Rattle.module_tree.specs.Trees.{lone, placed, without};
 ghost use Rattle.module_tree.specs.Nodes.{found, instances_of, child_numbers, number_at, same, Changes, Linked, links, with_last, with_previous, with_next, with_birth, backward, node_back};
@@ -213,7 +214,7 @@ fn unlink<R: Drop>(nodes: &mut Nodes<R>, way: &mut [u64])
 }
 
 /// From an instance on to its last child, and on to that one's, until there is none.
-fn descend<R>(nodes: &Nodes<R>, way: &mut Vec<u64>, depth: usize)
+pub fn descend<R>(nodes: &Nodes<R>, way: &mut Vec<u64>, depth: usize)
     requires linked { Linked (links nodes.now.entries) }
     requires there { IsSome (found nodes.now.entries way.old.items) }
     requires bounded { (q : List ℕ) → IsSome (found nodes.now.entries q) → length q ≤ depth }
@@ -221,6 +222,7 @@ fn descend<R>(nodes: &Nodes<R>, way: &mut Vec<u64>, depth: usize)
     ensures there { IsSome (found nodes.now.entries way.new.items) }
     ensures leaf { number_at (λ n. n.last) (links nodes.now.entries) way.new.items ≡ 0 }
     ensures below { IsTrue (is_inside way.old.items way.new.items) }
+    ensures last { (q : List ℕ) → IsSome (found nodes.now.entries q) → IsTrue (is_inside way.old.items q) → is_lt (path_cmp way.new.items q) ≡ false }
     ensures room { vec_capacity way.new ≡ vec_capacity way.old }
 {
     let mut last = last_child(nodes, way);

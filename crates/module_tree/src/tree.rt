@@ -1,10 +1,11 @@
-ghost use Rattle.std.specs.Prelude.{◌≡◌, ◌≢◌, ◌≤◌, ◌+◌, ◌↔◌, ℕ, List, [], length, None, Err, IsSome, IfSome, IsErr, IfOk, IfErr, OnOk, OnErr};
+ghost use Rattle.std.specs.Prelude.{◌≡◌, ◌≢◌, ◌≤◌, ◌+◌, ◌↔◌, ℕ, List, [], length, None, Err, IsSome, IfSome, IsErr, IfOk, IfErr, OnOk, OnErr, map as each};
 ghost use Rattle.estelle_tree.specs.Paths.{parent_of, last_of};
 ghost use Rattle.module_tree.specs.declared.tree.TreeError.TheVariants as errors;
 ghost use Rattle.std.specs.Option.{option_copied, option_copied_mut};
 ghost use Rattle.std.specs.Borrow.{sem};
 
 use crate::nodes::{self, Nodes};
+use crate::walk;
 use estelle_tree::Path;
 use std::alloc::{AllocError, Global};
 use std::marker::Model;
@@ -162,6 +163,22 @@ impl<R> Tree<R> {
         }
         match nodes::paths_below(&self.nodes, alloc, path) {
             Ok(paths) => Ok(paths),
+            Err(_) => Err(TreeError::Memory),
+        }
+    }
+
+    /// What is kept of the instance and of all below it, in path order: a parent before its descendants, siblings by
+    /// birth number. Nothing of it is copied, and the time is that of as many look-ups.
+    pub fn below<'a>(&'a self, alloc: Global, path: &Path) -> Result<Vec<&'a R>, TreeError>
+        ensures parts { IfOk result (λ parts. each (λ r. r.now) parts.items ≡ trees.parts_below self.now.instances path.now) }
+        ensures no_such { (result ≡ Err errors.NoSuch) ↔ (trees.instance_at self.now path.now ≡ None) }
+    {
+        let numbers = path.items();
+        if !self.nodes.contains_key(numbers) {
+            return Err(TreeError::NoSuch);
+        }
+        match walk::parts(&self.nodes, alloc, numbers, self.depth) {
+            Ok(parts) => Ok(parts),
             Err(_) => Err(TreeError::Memory),
         }
     }

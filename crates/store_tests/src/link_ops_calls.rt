@@ -2,7 +2,7 @@
 
 ghost use Rattle.std.specs.Prelude.{◌≡◌, IfOk};
 
-use estelle_tree::{IpAddr, Path};
+use estelle_tree::{IpAddr, Link, Path};
 use link_ops::{LinkAbsent, LinkTaken, Links};
 use std::alloc::{AllocError, Global};
 use std::process::Abort;
@@ -62,6 +62,22 @@ fn number(ip: Option<&IpAddr>) -> Option<u32> {
     }
 }
 
+fn joins(link: Option<&Link>, first: u32, second: u32) -> bool {
+    match link {
+        Some(link) => link.first.ip == first && link.second.ip == second,
+        None => false,
+    }
+}
+
+fn are_copied(rt: &impl Abort, alloc: Global, links: &Links) -> Result<(), Fail> {
+    let copies = links.copies(alloc)?;
+    assert_eq!(rt; copies.len(), 3);
+    assert!(rt; joins(copies.get(0), 1, 2));
+    assert!(rt; joins(copies.get(1), 2, 3));
+    assert!(rt; joins(copies.get(2), 4, 1));
+    Ok(())
+}
+
 fn ways(
     rt: &impl Abort,
     alloc: Global,
@@ -91,6 +107,7 @@ fn ways_of_outputs(rt: HostRuntime) -> Result<(), Fail> {
     let mut links = linked(alloc)?;
     let sender = point(alloc, &[2], 4)?;
     let middle = point(alloc, &[1, 1], 2)?;
+    are_copied(&rt, alloc, &links)?;
     ways(&rt, alloc, &mut links, &sender, &middle)
 }
 

@@ -75,6 +75,21 @@ fn children(alloc: Global, tree: &Tree<u32>, numbers: &[u64]) -> Result<Vec<u64>
     Ok(last)
 }
 
+/// What is kept at and below an instance; 1000 where it is not there.
+fn below(alloc: Global, tree: &Tree<u32>, numbers: &[u64]) -> Result<Vec<u32>, Fail> {
+    let mut copied = Vec::new(alloc);
+    match tree.below(alloc, &path(alloc, numbers)?) {
+        Ok(parts) => {
+            for part in &parts {
+                copied.push(**part)?;
+            }
+        }
+        Err(TreeError::NoSuch) => copied.push(1000)?,
+        Err(TreeError::Memory) => return Err(Fail::new("no memory")),
+    }
+    Ok(copied)
+}
+
 /// The placed instances: parent, number, part.
 const PLACED: [(&[u64], u64, u32); 6] = [
     (&[], 1, 10),
@@ -136,6 +151,38 @@ fn children_stand_by_number(rt: HostRuntime) -> Result<(), Fail> {
         assert_eq!(rt; children(alloc, &tree, numbers)?.as_slice(), wanted);
     }
     Ok(())
+}
+
+/// Whether this is kept at and below an instance, in this order.
+fn are_below(
+    alloc: Global,
+    tree: &Tree<u32>,
+    numbers: &[u64],
+    wanted: &[u32],
+) -> Result<bool, Fail> {
+    Ok(below(alloc, tree, numbers)?.as_slice() == wanted)
+}
+
+fn lists_below(rt: &impl Abort, alloc: Global, tree: &mut Tree<u32>) -> Result<(), Fail> {
+    let rows: [(&[u64], &[u32]); 5] = [
+        (&[], &[7, 10, 20, 21, 211, 22, 30]),
+        (&[2], &[20, 21, 211, 22]),
+        (&[2, 1], &[21, 211]),
+        (&[3], &[30]),
+        (&[4], &[1000]),
+    ];
+    for (numbers, wanted) in rows {
+        assert!(rt; are_below(alloc, tree, numbers, wanted)?);
+    }
+    assert_eq!(rt; remove(alloc, tree, &[2, 1])?, Ok(()));
+    assert!(rt; are_below(alloc, tree, &[], &[7, 10, 20, 22, 30])?);
+    Ok(())
+}
+
+#[test]
+fn parts_below_stand_in_path_order(rt: HostRuntime) -> Result<(), Fail> {
+    let mut tree = grown(rt.alloc())?;
+    lists_below(&rt, rt.alloc(), &mut tree)
 }
 
 fn removes(rt: &impl Abort, alloc: Global, tree: &mut Tree<u32>) -> Result<(), Fail> {

@@ -17,7 +17,7 @@ use outside::Chooser;
 use std::alloc::{AllocError, Global};
 
 /// Picks one of so many candidates by its number; of one the chooser is not asked.
-fn pick<H: Chooser>(chooser: &mut H, count: usize) -> usize
+pub fn pick<H: Chooser>(chooser: &mut H, count: usize) -> usize
     requires { 0 < count }
     ensures below { result < count }
     ensures drawn { (result, chooser.new) ≡ choosers.pick H.draw chooser.old count }

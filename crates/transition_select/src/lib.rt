@@ -9,5 +9,5 @@
 mod choice;
 mod offers;
 
-pub use choice::choose;
+pub use choice::{choose, pick};
 pub use offers::{Counted, Offer, offered};
