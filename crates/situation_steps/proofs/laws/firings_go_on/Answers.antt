@@ -1,0 +1,5 @@
+use Rattle.situation_steps.proofs.Events as by
+use Rattle.situation_steps.proofs.laws.firings_go_on.Goals as goal
+
+pub returns : goal.returns
+returns c = by.firings_go_on

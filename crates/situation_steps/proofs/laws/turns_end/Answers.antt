@@ -1,0 +1,5 @@
+use Rattle.situation_steps.proofs.Ends as by
+use Rattle.situation_steps.proofs.laws.turns_end.Goals as goal
+
+pub returns : goal.returns
+returns c = by.turns_end

@@ -1,0 +1,6 @@
+-- ---- which specifications
+pub mod OneSystems
+-- ---- how a run goes on
+pub mod UnderWay
+pub mod Laws
+pub mod Ends

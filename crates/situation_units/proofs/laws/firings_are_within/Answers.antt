@@ -1,0 +1,5 @@
+use Rattle.situation_units.proofs.Weighing as by
+use Rattle.situation_units.proofs.laws.firings_are_within.Goals as goal
+
+pub returns : goal.returns
+returns c = by.firings_are_within
