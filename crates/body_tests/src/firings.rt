@@ -3,8 +3,8 @@
 use estelle_model::{End, Event, Run};
 use estelle_tree::Sequence;
 use pascal_values::Fault;
-use plain_world::{Limits, execute};
-use run_forms::is_built;
+use run_forms::{is_built, is_one_system};
+use situation::{Limits, execute};
 use spec_accept::{Checked, accept};
 use std::alloc::Global;
 use std::test::Fail;
@@ -91,15 +91,18 @@ fn accepted(alloc: Global, text: &[u8]) -> Option<Checked> {
     accept(alloc, tree(alloc, text)?).ok()
 }
 
-/// The run of a text, where each firing and each guard has so many units.
-fn run_with(alloc: Global, text: &[u8], budget: u32) -> Option<(Run, End)> {
+/// The run of a text, where each firing and each guard has 5 units.
+fn run_of(alloc: Global, text: &[u8]) -> Option<(Run, End)> {
     let checked = accepted(alloc, text)?;
     if !is_built(&checked.spec) {
         return None;
     }
+    if !is_one_system(alloc, &checked.spec, &checked.names).ok()? {
+        return None;
+    }
     let limits = Limits {
         turns: 10_000,
-        budget,
+        budget: 5,
     };
     execute(alloc, &checked.spec, &checked.names, limits).ok()
 }
@@ -116,7 +119,7 @@ fn firings(events: &[Event]) -> usize {
 fn budgets(rt: HostRuntime) -> Result<(), Fail> {
     for (declared, guard, block, fires, end) in &BUDGETS {
         let text = counter_with(rt.alloc(), declared, guard, block)?;
-        let answer = run_with(rt.alloc(), text.as_bytes(), 5);
+        let answer = run_of(rt.alloc(), text.as_bytes());
         assert!(rt; answer.is_some(), "{guard}: {block}");
         if let Some((run, found)) = answer {
             assert_eq!(rt; firings(run.events.items()), *fires, "{guard}: {block}");

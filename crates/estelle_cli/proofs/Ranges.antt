@@ -1,13 +1,14 @@
 -- The numbers of what is asked for lie in their ranges.
-use Rattle.std.proofs.Common.{◌≡◌, ℕ, zero, suc, ◌≤◌, Bool, true, false, List, [], ◌∷◌, Option, Some, None, refl, sym, subst, arith}
+use Rattle.std.proofs.Common.{◌≡◌, ℕ, zero, suc, ◌≤◌, ◌<◌, ◌+◌, ◌*◌, ◌^◌, Bool, true, false, List, [], ◌∷◌, Option, Some, None, refl, sym, subst, arith}
 use Rattle.std.specs.Prelude.{◌&&◌, nat_le, if◌then◌else◌, IfSome, codes, map, option_and_then}
 use Rattle.std.proofs.lemmas.Bool.Decides.{nat_tests}
+use Rattle.std.proofs.Math.Nat.{mul-le-mul_left}
 use Rattle.std.specs.Str.Parse.{digits_value}
 use Rattle.estelle_words.specs.Words.{Text, Pair, meaning, command_of, pairs_of, word_of, fits, options_of, value_in, settings_by, settings_if_fit, number_in, number_or, number_if_any, greatest_seed, is_decimal}
 use Rattle.estelle_words.specs.declared.command.Settings.{Settings}
 use Rattle.estelle_words.specs.declared.command.Command.{Command}
 use Rattle.estelle_words.specs.declared.command.Command.TheVariants as command
-use Rattle.plain_world.specs.declared.world.Limits.{Limits}
+use Rattle.situation.specs.declared.limits.Limits.{Limits}
 use Rattle.estelle_cli.specs.declared.task.Task.{Task}
 use Rattle.estelle_cli.specs.Tasks.{IsInRange, run_by, task_by, task_of, limits_of, asked}
 
@@ -37,22 +38,26 @@ ranged low high default above below (Some text) = tested (is_decimal text) low h
 
 -- ---- settings
 
-abbrev HasRange : Settings → Type 0
-HasRange set = IsFrom 2 200 set.stations
+record HasRange (set : Settings) : Type 0 where
+  pub turns : set.turns ≤ 1000000
+  pub budget : set.budget ≤ 100000000
+  pub stations : IsFrom 2 200 set.stations
 
 settings_ranged : (c : Command) (value : Text → Option Text) → IfSome (settings_by c value) HasRange
 settings_ranged c value =
     go (number_or 0 1000000 10000 (value (codes "turns"))) (number_if_any 0 greatest_seed (value (codes "seed"))) (number_or 0 64 0 (value (codes "workers")))
-    (number_or 1 100000000 1000000 (value (codes "budget"))) (number_or 2 200 2 (value (codes "stations"))) (ranged 2 200 2 (omega arith) (omega arith) (value (codes "stations")))
+    (number_or 1 100000000 1000000 (value (codes "budget"))) (number_or 2 200 2 (value (codes "stations")))
+    (ranged 0 1000000 10000 (omega arith) (omega arith) (value (codes "turns"))) (ranged 1 100000000 1000000 (omega arith) (omega arith) (value (codes "budget")))
+    (ranged 2 200 2 (omega arith) (omega arith) (value (codes "stations")))
   where
-    go : (turns : Option ℕ) (seed : Option (Option ℕ)) (workers budget stations : Option ℕ) → IfSome stations (IsFrom 2 200)
+    go : (turns : Option ℕ) (seed : Option (Option ℕ)) (workers budget stations : Option ℕ) → IfSome turns (IsFrom 0 1000000) → IfSome budget (IsFrom 1 100000000) → IfSome stations (IsFrom 2 200)
         → IfSome (turns >>= λ t. seed >>= λ s. workers >>= λ w. budget >>= λ b. stations >>= λ n. Some (record { command = c; turns = t; seed = s; workers = w; budget = b; stations = n })) HasRange
-    go None seed workers budget stations h = tt
-    go (Some t) None workers budget stations h = tt
-    go (Some t) (Some s) None budget stations h = tt
-    go (Some t) (Some s) (Some w) None stations h = tt
-    go (Some t) (Some s) (Some w) (Some b) None h = tt
-    go (Some t) (Some s) (Some w) (Some b) (Some n) h = h
+    go None seed workers budget stations h i j = tt
+    go (Some t) None workers budget stations h i j = tt
+    go (Some t) (Some s) None budget stations h i j = tt
+    go (Some t) (Some s) (Some w) None stations h i j = tt
+    go (Some t) (Some s) (Some w) (Some b) None h i j = tt
+    go (Some t) (Some s) (Some w) (Some b) (Some n) h i j = record { turns = h.1; budget = i.1; stations = j }
 
 fitting : (c : Command) (ps : List Pair) → IfSome (settings_if_fit c ps) HasRange
 fitting c ps = by (fits (options_of c) ps)
@@ -72,17 +77,17 @@ meant (word ∷ rest) = go (command_of word) (pairs_of (map word_of rest))
 
 -- ---- tasks
 
-run_ranged : (seed : Option ℕ) (workers : ℕ) (limits : Limits) → IfSome (run_by seed workers limits) IsInRange
-run_ranged None zero limits = tt
-run_ranged None (suc n) limits = tt
-run_ranged (Some seed) workers limits = tt
+run_ranged : (seed : Option ℕ) (workers : ℕ) (limits : Limits) → (limits.turns ≤ 1000000) × (limits.budget ≤ 100000000) → IfSome (run_by seed workers limits) IsInRange
+run_ranged None zero limits h = h
+run_ranged None (suc n) limits h = tt
+run_ranged (Some seed) workers limits h = tt
 
 task_ranged : (c : Command) (set : Settings) → HasRange set → IfSome (task_by c set) IsInRange
-task_ranged command.Run set h = run_ranged set.seed set.workers (limits_of set)
+task_ranged command.Run set h = run_ranged set.seed set.workers (limits_of set) (h.turns, h.budget)
 task_ranged command.Check set h = tt
 task_ranged command.Show set h = tt
 task_ranged command.Replay set h = tt
-task_ranged command.Make set h = h
+task_ranged command.Make set h = h.stations
 task_ranged command.Trial set h = tt
 
 asked_ranged : (words : List Text) → IfSome (asked words) IsInRange
@@ -94,3 +99,11 @@ asked_ranged words = go (meaning words) (meant words)
 
 pub in_range : (words : List Text) (task : Task) → Some task ≡ asked words → IsInRange task
 in_range words task e = subst (λ (o : Option Task). IfSome o IsInRange) (sym e) (asked_ranged words)
+
+-- ---- limits
+
+-- what a run within these limits can count
+pub has_room : (budget turns : ℕ) → turns ≤ 1000000 → budget ≤ 100000000 → budget * (turns + 1) < 2 ^ 63
+has_room budget turns h k =
+    let most : budget * (turns + 1) ≤ budget * 1000001 = mul-le-mul_left budget (omega (arith, h)) in
+    omega (arith, most, k)

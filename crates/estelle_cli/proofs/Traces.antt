@@ -6,9 +6,9 @@ use Rattle.estelle_model.specs.declared.event.End.{End}
 use Rattle.estelle_model.specs.Subject.{Subject}
 use Rattle.estelle_model.specs.Trace.{text}
 use Rattle.spec_accept.specs.declared.checked.Checked.{Checked}
-use Rattle.plain_world.specs.declared.world.Limits.{Limits}
-use Rattle.plain_world.specs.Processes.{subject as with_names}
-use Rattle.plain_world.specs.Worlds.{IsStopped}
+use Rattle.situation.specs.declared.limits.Limits.{Limits}
+use Rattle.run_forms.specs.Laws.{subject as with_names}
+use Rattle.situation.specs.Runs.{IsStopped}
 use Rattle.estelle_cli.specs.Input.{Reads}
 use Rattle.estelle_cli.specs.Answers.{subject, IsTrace}
 

@@ -18,7 +18,7 @@ use Rattle.estelle_model.specs.Ends.{Stops}
 use Rattle.estelle_model.specs.Choosers.{always_first}
 use Rattle.estelle_model.specs.Schedule.{IsScheduled}
 use Rattle.estelle_model.specs.Trace.{text, kind_text, line_end}
-use Rattle.plain_world.specs.declared.world.Limits.{Limits}
+use Rattle.situation.specs.declared.limits.Limits.{Limits}
 use Rattle.estelle_cli.specs.declared.outcome.Place.{Place}
 use Rattle.estelle_cli.specs.declared.outcome.Refusal.{Refusal}
 use Rattle.estelle_cli.specs.declared.outcome.Refusal.TheVariants.{TooLong, Bytes, TextAfterEnd, Syntax, NotBuilt, Rule}

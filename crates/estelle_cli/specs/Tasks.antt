@@ -4,7 +4,7 @@ use Rattle.estelle_words.specs.Words.{meaning}
 use Rattle.estelle_words.specs.declared.command.Settings.{Settings}
 use Rattle.estelle_words.specs.declared.command.Command.{Command}
 use Rattle.estelle_words.specs.declared.command.Command.TheVariants as command
-use Rattle.plain_world.specs.declared.world.Limits.{Limits}
+use Rattle.situation.specs.declared.limits.Limits.{Limits}
 use Rattle.estelle_cli.specs.declared.task.Task.{Task}
 use Rattle.estelle_cli.specs.declared.task.Task.TheVariants.{Run, Check, Show, Make}
 
@@ -40,9 +40,9 @@ ReadsInput Check = ⊤
 ReadsInput Show = ⊤
 ReadsInput (Make n) = ⊥
 
--- a ring has 2 to 200 stations
+-- a run has up to 1,000,000 firings of up to 100,000,000 units each, and a ring has 2 to 200 stations
 abbrev pub IsInRange : Task → Type 0
-IsInRange (Run limits) = ⊤
+IsInRange (Run limits) = (limits.turns ≤ 1000000) × (limits.budget ≤ 100000000)
 IsInRange Check = ⊤
 IsInRange Show = ⊤
 IsInRange (Make n) = (2 ≤ n) × (n ≤ 200)

@@ -1,6 +1,6 @@
 //! The program on one thread.
 
-ghost use Rattle.std.specs.Prelude.{◌≡◌, ◌≢◌, ◌≤◌, ◌+◌, List, ℕ, None, Some, IfSome, IsSomeAnd, IsNone, IfOk, OnOk, IfErr};
+ghost use Rattle.std.specs.Prelude.{◌≡◌, ◌≢◌, ◌≤◌, ◌+◌, List, ℕ, None, Some, IfSome, IsSomeAnd, IsNone, IfOk, OnOk, IfErr, IsTrue};
 ghost use Rattle.std.specs.Io.KnownBytes.{IsAtEnd};
 ghost use Rattle.outside.specs.Counts.{Rose};
 ghost use Rattle.pascal_values.specs.declared.fault.Fault.{Fault};
@@ -12,20 +12,24 @@ ghost use Rattle.estelle_cli.specs.declared.outcome.Stop.TheVariants as stop;
 ghost use Rattle.estelle_cli.specs.Tasks.{asked, ReadsInput, IsInRange};
 ghost use Rattle.estelle_cli.specs.Input.{Reads, Refuses, TakesAtMost, HasStopped, input_limit};
 ghost use Rattle.estelle_cli.specs.Answers.{IsTrace, IsMade, IsOutput, Writes, WritesPrefix, IsQuiet, Reports, usage_line, refusal_line, read_fault_line, write_fault_line, memory_line, fault_line, IsFinished, HasNoOutput, MayRefuse, MayFinish, MayBeUsage, NeedsInput, HasFailed, Emits, IsRefusedOr, Explains};
-ghost use Rattle.plain_world.specs.Worlds.{IsClockless};
+ghost use Rattle.run_forms.specs.Forms.{is_built};
+ghost use Rattle.run_forms.specs.Laws.{subject};
+ghost use Rattle.situation.specs.Runs.{IsStopped, IsClockless};
 
 use crate::input::load;
 use crate::lines::{fault_line, refusal_line};
 use crate::outcome::{Outcome, Refusal, Status, Stop};
 use crate::task::{Task, asked};
-use estelle_model::End;
+use estelle_model::{End, Run};
 use estelle_printer::spell;
 use estelle_tree::Text;
 use outside::{Clock, Sink, Source, write_all};
 use pascal_values::Fault;
-use plain_world::{Limits, execute};
+use run_forms::is_one_system;
+use situation::{Limits, execute};
+use spec_accept::Checked;
 use spec_maker::make;
-use std::alloc::Global;
+use std::alloc::{AllocError, Global};
 use trace_text::{put, write};
 
 /// Hands err the line. A fault of err changes nothing else.
@@ -35,8 +39,21 @@ fn report<E: Sink>(err: &mut E, line: &[u8])
     let _ = write_all(err, line);
 }
 
+/// Runs an accepted specification to its end. That it is one system is tested before.
+fn executed(alloc: Global, checked: &Checked, limits: Limits) -> Result<(Run, End), AllocError>
+    requires form { IsTrue (is_built checked.now.spec) }
+    requires range { IsInRange (task.Run limits) }
+    ensures { IfOk result (λ r. IsStopped (subject checked.now.spec checked.now.names) limits.budget limits.turns r.0.events r.1) }
+{
+    if !is_one_system(alloc, &checked.spec, &checked.names)? {
+        return Err(AllocError);
+    }
+    execute(alloc, &checked.spec, &checked.names, limits)
+}
+
 /// Reads and runs the input, and gives the trace and its end.
 fn traced<S: Source>(alloc: Global, limits: Limits, source: &mut S) -> Result<(Text, End), Stop>
+    requires { IsInRange (task.Run limits) }
     ensures trace { IfOk result (λ x. IsTrace limits (S.left source.old) x.1 x.0) }
     ensures clockless { IfOk result (λ x. IsClockless x.1) }
     ensures end { OnOk result (IsAtEnd (S.left source.new)) }
@@ -44,7 +61,7 @@ fn traced<S: Source>(alloc: Global, limits: Limits, source: &mut S) -> Result<(T
     ensures cause { IfErr result (HasStopped (S.left source.old) (S.faults source.old) (S.faults source.new)) }
 {
     let checked = load(alloc, source)?;
-    let (run, end) = execute(alloc, &checked.spec, &checked.names, limits)?;
+    let (run, end) = executed(alloc, &checked, limits)?;
     let text = write(alloc, &run, end)?;
     Ok((text, end))
 }
@@ -55,6 +72,7 @@ fn ran<S: Source>(
     limits: Limits,
     source: &mut S,
 ) -> Result<(Text, Option<Fault>), Stop>
+    requires { IsInRange (task.Run limits) }
     ensures output { IfOk result (λ x. IsOutput (task.Run limits) (S.left source.old) x.1 x.0) }
     ensures end { OnOk result (IsAtEnd (S.left source.new)) }
     ensures stops { TakesAtMost (input_limit + 1) (S.left source.old) (S.left source.new) }

@@ -5,7 +5,7 @@ ghost use Rattle.estelle_words.specs.Words.{texts};
 ghost use Rattle.estelle_cli.specs.Tasks.{asked, task_of};
 
 use estelle_words::{Command, Settings, settings};
-use plain_world::Limits;
+use situation::Limits;
 use std::alloc::{AllocError, Global};
 
 /// What is done.

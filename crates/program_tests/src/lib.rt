@@ -20,6 +20,8 @@ mod pascal;
 #[cfg(test)]
 mod rows;
 #[cfg(test)]
+mod systems;
+#[cfg(test)]
 mod trace_reading;
 #[cfg(test)]
 mod traces;

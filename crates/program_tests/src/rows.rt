@@ -6,7 +6,7 @@ use crate::traces::{
     COUNTER_TRACE, DEADLOCK, OVERFLOW_TRACE, OVERFLOWING, TURNS, filled, is_trace,
 };
 use estelle_cli::{Status, Task, asked};
-use plain_world::Limits;
+use situation::Limits;
 use std::alloc::{AllocError, Global};
 use std::test::Fail;
 use test_texts::{COUNTER, counter_with};

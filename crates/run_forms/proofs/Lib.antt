@@ -1,2 +1,2 @@
 mod Walks
-pub mod Built
+mod OneSystem

@@ -1,3 +1,6 @@
+-- ---- what is run
 pub mod Forms
-pub mod Walks
+pub mod States
 pub mod Laws
+-- ---- what the walk over bodies asks
+pub mod Own

@@ -1,12 +1,8 @@
 //! What the specifications that are run today have in common. The contract is the law, and the function does nothing.
 
-ghost use Rattle.run_forms.specs.Laws.{BuiltArePlain, BuiltStandAlone, BuiltTransitionsAreSimple, BuiltAreProcesses, BuiltHaveFew};
+ghost use Rattle.run_forms.specs.Laws.{BuiltAreOneSystem};
 
-/// Such a specification is one process of Pascal alone, which stands alone, with few and simple transitions.
-pub fn built_specifications()
-    ensures plain { BuiltArePlain }
-    ensures alone { BuiltStandAlone }
-    ensures simple { BuiltTransitionsAreSimple }
-    ensures process { BuiltAreProcesses }
-    ensures few { BuiltHaveFew }
+/// Such a specification is one system without delays, where its bodies lead to states of their own.
+pub fn built_are_one_system()
+    ensures { BuiltAreOneSystem }
 {}

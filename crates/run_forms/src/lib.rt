@@ -1,17 +1,20 @@
-//! Which specifications are run today.
+//! Which specifications are run today: those of one system, without delays.
 //!
-//! It stands on `plain_jobs`, which says what bodies of Pascal alone mean. It promises `is_built`, the test for the
-//! forms that are run, and laws of what such specifications have in common. It grows as more forms are run, and goes
-//! when all are.
-#![tactic(auto, using(crate::proofs::Walks::walks))]
+//! It stands on `body_table` for bodies and what their names mean, and on `situation_steps` for what one system is.
+//! It promises `is_built`, the test for the forms that are run, and `is_one_system`, which tests before a run that
+//! such a specification is one system. It grows as more forms are run, and goes when all are.
+#![tactic(auto)]
 
+#[tactic(auto, using(crate::proofs::Walks::bodies, estelle_tree::specs::declared::tree::specification::Decl::the_lemmas))]
+mod bodies;
+#[tactic(auto, using(crate::proofs::Walks::clauses, estelle_tree::specs::declared::tree::clause::TransBody::the_lemmas))]
+mod clauses;
+#[tactic(auto, using(crate::proofs::Walks::bodies))]
+mod forms;
 mod laws;
-#[tactic(auto, using(crate::proofs::Walks::walks, estelle_tree::specs::declared::tree::specification::Decl::the_lemmas))]
-mod specification;
-#[tactic(auto, using(crate::proofs::Walks::statements, estelle_tree::specs::declared::tree::statement::Stmt::the_lemmas))]
-mod statements;
-#[tactic(auto, using(crate::proofs::Walks::groups, estelle_tree::specs::declared::tree::clause::TransBody::the_lemmas))]
-mod transitions;
+#[tactic(auto, using(crate::proofs::Walks::bodies, estelle_tree::specs::declared::tree::specification::Decl::the_lemmas))]
+mod states;
 
-pub use laws::built_specifications;
-pub use specification::is_built;
+pub use forms::is_built;
+pub use laws::built_are_one_system;
+pub use states::is_one_system;

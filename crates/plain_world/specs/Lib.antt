@@ -1,4 +1,0 @@
-pub mod Processes
-pub mod Worlds
-pub mod Surveys
-pub mod Open

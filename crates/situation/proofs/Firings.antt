@@ -1,0 +1,249 @@
+-- A firing of a run that goes on: it is put, or it faults.
+use Rattle.std.proofs.Common.{◌≡◌, ◌≢◌, ℕ, zero, suc, ◌+◌, ◌*◌, ◌^◌, ◌<◌, ◌≤◌, Bool, true, false, List, [], ◌∷◌, ◌++◌, Option, Some, None, refl, sym, ap, subst, ◌∙◌, inl, inr, arith, length}
+use Rattle.std.specs.Prelude.{Contains, ◌&&◌, nat_eq}
+use Rattle.std.specs.Str.{bytes_eq}
+use Rattle.std.specs.FinMap as map
+use Rattle.std.proofs.Math.Nat.{mul-suc, mul-le-mul_left}
+use Rattle.std.proofs.lemmas.List.{append-nil}
+use Rattle.std.proofs.lemmas.List.Sums.{sum_by-cons}
+use Rattle.pascal_values.specs.declared.fault.Fault as fault
+use Rattle.estelle_tree.specs.declared.transition.Pair.{Pair}
+use Rattle.estelle_tree.specs.Paths.{Path}
+use Rattle.estelle_tree.specs.Timers.{pair, Timers}
+use Rattle.estelle_model.specs.declared.event.Event.{Event}
+use Rattle.estelle_model.specs.declared.event.Event.TheVariants.{Start, Select, Fire, Fault}
+use Rattle.estelle_model.specs.declared.event.End.TheVariants.{Faulted}
+use Rattle.estelle_model.specs.declared.effect.Effect.{Effect as LoggedEffect}
+use Rattle.estelle_model.specs.declared.image.Image.{Image}
+use Rattle.estelle_model.specs.declared.image.Part.{Part}
+use Rattle.estelle_model.specs.declared.job.Job.{Job}
+use Rattle.estelle_model.specs.declared.job.Done.{Done}
+use Rattle.estelle_model.specs.declared.job.Outcome.{Outcome}
+use Rattle.estelle_model.specs.declared.job.Outcome.TheVariants as outcome
+use Rattle.estelle_model.specs.Core.{Instance}
+use Rattle.estelle_model.specs.Effects.{Effect, Output, Connect, Disconnect, Attach, Detach, Create, Remove}
+use Rattle.estelle_model.specs.Transitions.{Transition, When}
+use Rattle.estelle_model.specs.Subject.{Subject}
+use Rattle.estelle_model.specs.Situation.{Situation, Acting, acting_after, made_after}
+use Rattle.estelle_model.specs.Firing.{Firing, Ran, Failed, begun, fire, transition_at, taken}
+use Rattle.estelle_model.specs.Jobs.{IsJobIn, IsAnswer, IsPut, Answers, AnswersAt, put, after_all, taken_by, all_logged, logged_as}
+use Rattle.estelle_model.specs.Runs.{FiringFaults, HasFailed, situation, without}
+use Rattle.estelle_model.specs.Choosers.{Draw, Picks}
+use Rattle.estelle_model.specs.Schedule.{Kept, kept_first, FiringIsPlanned}
+use Rattle.estelle_model_legality.specs.Situations.{IsLegal}
+use Rattle.effect_log.specs.Putting.{log_of, parts_of, effects_of, IsJobAt, AnswersIn, begun_by, after_put}
+use Rattle.effect_log.specs.Rooms.{outputs_of, outputs_in}
+use Rattle.effect_log.proofs.Answered.{log-is}
+use Rattle.effect_log.proofs.Lawful.{no-initial}
+use Rattle.run_history.specs.declared.entry.Entry.{Entry}
+use Rattle.run_history.specs.Histories.{project, fires}
+use Rattle.run_history.specs.Tickets.{MayTake, tickets, AreTickets}
+use Rattle.run_history.proofs.Entries.{fires_more}
+use Rattle.situation_steps.specs.OneSystems.{IsOneSystem}
+use Rattle.situation_steps.specs.UnderWay.{IsUnderWay}
+use Rattle.situation_steps.specs.Laws.{HasFired}
+use Rattle.situation_steps.specs.Ends.{HasEnded}
+use Rattle.situation_steps.proofs.Events.{firings_go_on, others_are_not_due}
+use Rattle.situation_steps.proofs.Ends.{faults_end}
+use Rattle.situation_units.specs.Counting.{births_at, IsWithinUnits}
+use Rattle.situation_units.proofs.Weighing.{firings_are_within}
+use Rattle.estelle_model_legality.proofs.Lists.{in_none, path_is, number_is, both_and}
+use Rattle.situation.specs.Runs.{noted, ending, take_of, AllSettled, IsWithin, IsGoing, IsClosed, AreReached, IsJobFor}
+use Rattle.situation.proofs.Tickets.{still_settled, still_tickets, fired_tickets, fired_settled, fired_count}
+use Rattle.situation.proofs.Steps.{project_push, reached_on, reached_end, closed_on}
+
+-- ---- numbers
+
+pub once_more : (b f : ℕ) → b * (f + 1) ≡ b * f + b
+once_more b f = let e : f + 1 ≡ suc f = omega arith in ap (λ n. b * n) e ∙ mul-suc b f
+
+-- outputs are counted
+pub made_all : (s : Subject) (es : List Effect) (a : Acting) → (after_all es a).situation.made ≡ a.situation.made + outputs_in (all_logged s es)
+unfolding made_after
+made_all s [] a = omega arith
+made_all s (e ∷ es) a = one e (made_all s es (acting_after e a)) (sum_by-cons outputs_of (logged_as s e) (all_logged s es))
+  where
+    one : (e : Effect) → (after_all es (acting_after e a)).situation.made ≡ (acting_after e a).situation.made + outputs_in (all_logged s es) → outputs_in (all_logged s (e ∷ es)) ≡ outputs_of (logged_as s e) + outputs_in (all_logged s es)
+        → (after_all es (acting_after e a)).situation.made ≡ a.situation.made + outputs_in (all_logged s (e ∷ es))
+    one (Output from ip name values) h sum = omega (arith, h, sum)
+    one (Connect x y) h sum = omega (arith, h, sum)
+    one (Disconnect x) h sum = omega (arith, h, sum)
+    one (Attach upper lower) h sum = omega (arith, h, sum)
+    one (Detach upper) h sum = omega (arith, h, sum)
+    one (Create p k i) h sum = omega (arith, h, sum)
+    one (Remove p k) h sum = omega (arith, h, sum)
+
+taken_made : (s : Subject) (g : Situation) (m : Path) (o : Option Transition) → (taken_by s g m o).made ≡ g.made
+taken_made s g m None = refl
+taken_made s g m (Some t) = by t
+  where
+    by : (t : Transition) → (taken s g m t.when).made ≡ g.made
+    by t = other t.when
+      where
+        other : (w : Option When) → (taken s g m w).made ≡ g.made
+        other None = refl
+        other (Some w) = refl
+
+-- ---- what is computed of a pending firing
+
+module _ (s : Subject) (budget : ℕ) (g : Situation) (legal : IsLegal s g) (p : Pair) (pending : Contains g.pending p) (job : Job) (of : IsJobFor s g budget p job) (done : Done) (answers : Answers s job done) where
+  abbrev at_it : Option Transition
+  at_it = transition_at s p.trans (map.get g.core.instances p.path)
+
+  none_at_zero : p.trans ≡ 0 → ⊥
+  none_at_zero e =
+      let its = legal.pending.each p pending in
+      let none : transition_at s p.trans (Some its.instance) ≡ None = ap (λ n. transition_at s n (Some its.instance)) e ∙ no-initial s (Some its.instance) in
+      let wrong : Some its.transition ≡ None = sym its.its ∙ none in
+      absurd (cc)
+
+  answer_at : (n : ℕ) → job.trans ≡ n → AnswersAt s job n done.outcome done.left → IsAnswer s job.path job.trans (taken_by s g job.path (transition_at s job.trans (map.get g.core.instances job.path))) done.outcome done.left (fire s job.budget g job.path job.trans)
+  answer_at zero e a = absurd (none_at_zero (sym of.trans ∙ e))
+  answer_at (suc n) e a = a g of.in_it
+
+  answer : IsAnswer s p.path p.trans (taken_by s g p.path at_it) done.outcome done.left (fire s budget g p.path p.trans)
+  answer = subst (λ (x : ℕ). IsAnswer s p.path p.trans (taken_by s g p.path at_it) done.outcome done.left (fire s x g p.path p.trans)) of.units
+      (subst (λ (q : Pair). IsAnswer s q.path q.trans (taken_by s g q.path (transition_at s q.trans (map.get g.core.instances q.path))) done.outcome done.left (fire s job.budget g q.path q.trans)) same
+      (answer_at job.trans refl answers.answers))
+    where
+      same : pair job.path job.trans ≡ p
+      same = (λ i. record { path = of.path i; trans = of.trans i })
+
+  job_at : (n : ℕ) → job.trans ≡ n → IsJobAt s g job n
+  job_at zero e = absurd (none_at_zero (sym of.trans ∙ e))
+  job_at (suc n) e = (legal, of.in_it)
+
+  pub answers_in : AnswersIn s g done
+  answers_in = record { job = job; at = job_at job.trans refl; answers = answers }
+
+  pub failing : (kind : fault.Fault) → done.outcome ≡ outcome.Faulted kind → FiringFaults s budget g p.path p.trans kind
+  failing kind is =
+      let f : fire s budget g p.path p.trans ≡ Failed kind done.left = subst (λ (o : Outcome). IsAnswer s p.path p.trans (taken_by s g p.path at_it) o done.left (fire s budget g p.path p.trans)) is answer in
+      record { pending = pending; failed = subst (HasFailed kind) (sym f) refl }
+
+  module _ (image : Image) (effects : List LoggedEffect) (is : done.outcome ≡ outcome.Ran image effects) where
+    is_put : IsPut s p.path p.trans (taken_by s g p.path at_it) image effects done.left (fire s budget g p.path p.trans)
+    is_put = subst (λ (o : Outcome). IsAnswer s p.path p.trans (taken_by s g p.path at_it) o done.left (fire s budget g p.path p.trans)) is answer
+
+    path_is_its : done.path ≡ p.path
+    path_is_its = answers.path ∙ of.path
+
+    trans_is_its : done.trans ≡ p.trans
+    trans_is_its = answers.trans ∙ of.trans
+
+    log_is_its : effects_of (log_of done.outcome) ≡ is_put.log
+    log_is_its = ap (λ (o : Outcome). effects_of (log_of o)) is ∙ log-is s p.path p.trans (taken_by s g p.path at_it) image effects done.left (fire s budget g p.path p.trans) is_put
+
+    parts_are_its : parts_of done.outcome ≡ image.parts
+    parts_are_its = ap parts_of is
+
+    after_is : after_put s g done ≡ put p.path is_put.log image.parts (begun (taken_by s g p.path at_it))
+    after_is = (λ i. put (path_is_its i) (log_is_its i) (parts_are_its i) (begun (taken_by s g (path_is_its i) (transition_at s (trans_is_its i) (map.get g.core.instances (path_is_its i))))))
+
+    within_units : IsWithinUnits budget g (after_put s g done).situation
+    within_units =
+        let h = firings_are_within s budget g p.path p.trans _ _ _ _ is_put.result in
+        subst (λ (a : Acting). IsWithinUnits budget g a.situation) (sym after_is) (record { made = h.made; births = h.births })
+
+    pub few_outputs : outputs_in (log_of done.outcome) ≤ budget
+    few_outputs =
+        let all : (after_put s g done).situation.made ≡ (taken_by s g p.path at_it).made + outputs_in (all_logged s is_put.log) = ap (λ (a : Acting). a.situation.made) after_is ∙ made_all s is_put.log (begun (taken_by s g p.path at_it)) in
+        let log : outputs_in (log_of done.outcome) ≡ outputs_in (all_logged s is_put.log) = ap (λ (o : Outcome). outputs_in (log_of o)) is ∙ ap outputs_in is_put.logged in
+        omega (arith, all, log, taken_made s g p.path at_it, within_units.made)
+
+-- ---- a pending firing goes on
+
+module _ {C : Type 0} (draw : Draw C) (s : Subject) (one : IsOneSystem s) (budget turns : ℕ) (es : List Entry) (waits : Bool) (w : IsGoing s budget turns es waits) (below : fires es < turns)
+    (p : Pair) (pending : Contains (situation s budget (project es)).pending p) (k : ℕ) (next_is : k ≡ length (tickets es) + 1) where
+  abbrev g : Situation
+  g = situation s budget (project es)
+
+  some_pending : (ps : List Pair) → Contains ps p → ps ≢ []
+  some_pending ps c none = in_none Pair p (subst (λ (qs : List Pair). Contains qs p) none c)
+
+  planned : (c rest : C) → Picks draw c g.pending p rest → (clock : Option ℕ) → FiringIsPlanned draw s budget (project es) (kept_first clock c) p.path p.trans rest
+  planned c rest picks clock = record { none_due = others_are_not_due s one budget (project es) waits w.under_way (inr (some_pending g.pending pending)); picked = picks }
+
+  may_take : MayTake s budget es p.path p.trans
+  may_take = record { pending = pending; free = λ k. w.settled k p.trans p.path }
+
+  abbrev with_take : List Entry
+  with_take = es ++ take_of k p ∷ []
+
+  project_after : (e : Event) → project (with_take ++ noted e ∷ []) ≡ project es ++ e ∷ []
+  project_after e = project_push with_take (noted e) ∙ ap (λ (xs : List Event). xs ++ e ∷ []) (project_push es (take_of k p) ∙ append-nil (project es))
+
+  settles_own : (bytes_eq p.path p.path && nat_eq p.trans p.trans) ≡ true
+  settles_own = both_and (bytes_eq p.path p.path) (nat_eq p.trans p.trans) (path_is p.path) (number_is p.trans)
+
+  -- it faults
+  pub failed_closes : (kind : fault.Fault) → FiringFaults s budget g p.path p.trans kind → IsClosed s budget turns ((with_take ++ noted (Fault p.path p.trans kind) ∷ []) ++ ending (Faulted kind) ∷ []) (Faulted kind)
+  failed_closes kind f =
+      let e = noted (Fault p.path p.trans kind) in
+      let count : fires (with_take ++ e ∷ []) ≡ fires es = omega (arith, fires_more with_take e, fires_more es (take_of k p)) in
+      let t = fired_tickets s budget es k p.trans p.path e w.tickets w.settled next_is may_take refl refl settles_own in
+      let settled = fired_settled s budget es k p.trans p.path e w.tickets w.settled next_is may_take refl refl settles_own in
+      closed_on s budget turns (with_take ++ e ∷ []) (Faulted kind)
+      (subst (λ (events : List Event). HasEnded s budget turns events (Faulted kind)) (sym (project_after (Fault p.path p.trans kind))) (faults_end s budget turns (project es) waits w.under_way p.path p.trans kind (inl f)))
+      (omega (arith, count, w.below)) (still_tickets s budget (with_take ++ e ∷ []) (ending (Faulted kind)) refl settled t)
+
+  pub failed_reached : (kind : fault.Fault) (c rest : C) → Picks draw c g.pending p rest → (first : C) → AreReached draw s budget turns first es c → AreReached draw s budget turns first ((with_take ++ noted (Fault p.path p.trans kind) ∷ []) ++ ending (Faulted kind) ∷ []) rest
+  failed_reached kind c rest picks first reached =
+      let e = noted (Fault p.path p.trans kind) in
+      reached_end draw s budget turns (with_take ++ e ∷ []) (Faulted kind) first rest
+      (reached_on draw s budget turns es (project (with_take ++ e ∷ [])) (Fault p.path p.trans kind) c rest (project_after (Fault p.path p.trans kind)) below refl (λ clock. inr (planned c rest picks clock)) first reached)
+
+  -- it runs
+  module _ (job : Job) (of : IsJobFor s g budget p job) (done : Done) (answers : Answers s job done) (image : Image) (effects : List LoggedEffect) (is : done.outcome ≡ outcome.Ran image effects) where
+    abbrev a : Acting
+    a = after_put s g done
+
+    abbrev fire_event : Event
+    fire_event = Fire p.path p.trans a.outs a.drops
+
+    abbrev after : List Entry
+    after = with_take ++ noted fire_event ∷ []
+
+    legal : IsLegal s g
+    legal = w.under_way.sound.legal
+
+    fired : HasFired s budget (project es) p.path p.trans a
+    fired = subst (λ (x : Acting). HasFired s budget (project es) p.path p.trans x) (sym (after_is s budget g legal p pending job of done answers image effects is))
+        (firings_go_on s one budget (project es) waits w.under_way p.path p.trans pending (taken_by s g p.path (transition_at s p.trans (map.get g.core.instances p.path))) refl image effects done.left
+        (is_put s budget g legal p pending job of done answers image effects is))
+
+    pub fired_situation : situation s budget (project after) ≡ record a.situation { timers = map.empty; pending = without p g.pending }
+    fired_situation = ap (situation s budget) (project_after fire_event) ∙ fired.situation_is
+
+    pub count_is : fires after ≡ fires es + 1
+    count_is = omega (arith, fires_more with_take (noted fire_event), fires_more es (take_of k p))
+
+    still_within : IsWithin budget (fires es + 1) (record a.situation { timers = map.empty; pending = without p g.pending })
+    still_within =
+        let u = within_units s budget g legal p pending job of done answers image effects is in
+        record {
+          made = omega (arith, u.made, w.within.made, once_more budget (fires es + 1));
+          births = λ q. omega (arith, u.births q, w.within.births q, once_more budget (fires es + 1));
+        }
+
+    pub fired_going : IsGoing s budget turns after true
+    fired_going = record {
+      under_way = subst (λ (events : List Event). IsUnderWay s budget events true) (sym (project_after fire_event)) fired.under_way;
+      below = omega (arith, count_is, below);
+      within = subst (λ (h : Situation). IsWithin budget (fires after) h) (sym fired_situation) (subst (λ (n : ℕ). IsWithin budget n (record a.situation { timers = map.empty; pending = without p g.pending })) (sym count_is) still_within);
+      tickets = fired_tickets s budget es k p.trans p.path (noted fire_event) w.tickets w.settled next_is may_take refl refl settles_own;
+      settled = fired_settled s budget es k p.trans p.path (noted fire_event) w.tickets w.settled next_is may_take refl refl settles_own;
+    }
+
+    pub fired_next : length (tickets after) ≡ k
+    fired_next = fired_count s budget es k p.trans p.path (noted fire_event) w.tickets w.settled next_is may_take refl refl settles_own
+
+    pub fired_reached : (c rest : C) → Picks draw c g.pending p rest → (first : C) → AreReached draw s budget turns first es c → AreReached draw s budget turns first after rest
+    fired_reached c rest picks first reached = reached_on draw s budget turns es (project after) fire_event c rest (project_after fire_event) below refl (λ clock. planned c rest picks clock) first reached
+
+    -- the count of outputs keeps below the greatest
+    pub fired_numbers : budget * (turns + 1) < 2 ^ 63 → g.made + outputs_in (log_of done.outcome) < 2 ^ 64
+    fired_numbers room =
+        let few = few_outputs s budget g legal p pending job of done answers image effects is in
+        let most : budget * (fires es + 1) ≤ budget * turns = mul-le-mul_left budget (omega (arith, below)) in
+        omega (arith, few, most, w.within.made, once_more budget turns, room)

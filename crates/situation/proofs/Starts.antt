@@ -1,0 +1,182 @@
+-- The start of a run: it is put, or it faults.
+use Rattle.std.proofs.Common.{◌≡◌, ℕ, zero, suc, ◌+◌, ◌*◌, ◌^◌, ◌<◌, ◌≤◌, cond, Bool, true, false, List, [], ◌∷◌, ◌++◌, Option, Some, None, refl, sym, ap, subst, ◌∙◌, arith}
+use Rattle.std.specs.Prelude.{option_map}
+use Rattle.std.specs.FinMap as map
+use Rattle.std.proofs.Math.Nat.{mul-le-mul_left}
+use Rattle.pascal_values.specs.declared.fault.Fault as fault
+use Rattle.estelle_tree.specs.declared.transition.Pair.{Pair}
+use Rattle.std.specs.Ordering.{eq_by_cmp}
+use Rattle.estelle_tree.specs.Paths.{Path, path_cmp}
+use Rattle.estelle_tree.specs.Timers.{pair}
+use Rattle.estelle_model.specs.declared.event.Event.{Event}
+use Rattle.estelle_model.specs.declared.event.Event.TheVariants.{Start, Fault}
+use Rattle.estelle_model.specs.declared.event.End.TheVariants.{Faulted}
+use Rattle.estelle_model.specs.declared.effect.Effect.{Effect as LoggedEffect}
+use Rattle.estelle_model.specs.declared.image.Image.{Image}
+use Rattle.estelle_model.specs.declared.job.Job.{Job}
+use Rattle.estelle_model.specs.declared.job.Done.{Done}
+use Rattle.estelle_model.specs.declared.job.Outcome.{Outcome}
+use Rattle.estelle_model.specs.declared.job.Outcome.TheVariants as outcome
+use Rattle.estelle_model.specs.Bodies.{BodyAlone}
+use Rattle.estelle_model.specs.Core.{Instance, Instances}
+use Rattle.estelle_model.specs.Effects.{Effect}
+use Rattle.estelle_model.specs.Transitions.{Transition}
+use Rattle.estelle_model.specs.Subject.{Subject, body, new_instance}
+use Rattle.estelle_model.specs.Situation.{Situation, Acting, acting_after}
+use Rattle.estelle_model.specs.Firing.{Firing, Failed, begun, start, bare, alone, transition_at}
+use Rattle.estelle_model.specs.Jobs.{IsAnswer, IsPut, Answers, AnswersAt, put, after_all, taken_by, all_logged}
+use Rattle.estelle_model.specs.Runs.{Begins, situation, started}
+use Rattle.estelle_model.specs.Choosers.{Draw}
+use Rattle.estelle_model.specs.Schedule.{begins}
+use Rattle.estelle_model.proofs.Maps.{total}
+use Rattle.effect_log.specs.Putting.{log_of, parts_of, effects_of, IsJobAt, AnswersIn, begun_by, after_put}
+use Rattle.effect_log.specs.Rooms.{outputs_in}
+use Rattle.effect_log.proofs.Answered.{log-is}
+use Rattle.effect_log.proofs.Lawful.{no-initial}
+use Rattle.run_history.specs.declared.entry.Entry.{Entry}
+use Rattle.run_history.specs.declared.entry.What.TheVariants as what
+use Rattle.run_history.specs.Histories.{project}
+use Rattle.run_history.specs.Tickets.{AreTickets, tickets}
+use Rattle.situation_steps.specs.OneSystems.{IsOneSystem}
+use Rattle.situation_steps.specs.UnderWay.{IsUnderWay}
+use Rattle.situation_steps.proofs.Events.{starts_go_on}
+use Rattle.situation_units.specs.Counting.{births_of, births_at, IsWithinUnits}
+use Rattle.situation_units.proofs.Weighing.{starts_are_within}
+use Rattle.situation.specs.Runs.{noted, ending, AllSettled, IsWithin, IsGoing, IsClosed, AreReached}
+use Rattle.situation.proofs.Tickets.{too_short, still_settled, still_tickets}
+use Rattle.situation.proofs.Firings.{once_more, made_all}
+
+-- ---- before the first entry
+
+no_tickets : (s : Subject) (budget : ℕ) → AreTickets s budget []
+no_tickets s budget = record {
+  in_order = refl;
+  taken = λ k n by m before after take. absurd (too_short (record { by = by; what = what.Take k m n }) before after take.stands);
+  by_taker = λ k n by m before after take. absurd (too_short (record { by = by; what = what.Take k m n }) before after take.stands);
+}
+
+none_settled : AllSettled []
+none_settled k n m o = too_short (record { by = o.by; what = what.Take k m n }) o.before o.after o.take.stands
+
+-- ---- the instance before it
+
+abbrev none_at_all : Instances
+none_at_all = map.empty
+
+births_of_none : (q : Path) → births_of (map.get none_at_all q) ≡ 0
+births_of_none q = ap births_of (map.get-empty path_cmp q)
+
+births_alone : (q : Path) (i : Instance) → i.births ≡ 0 → births_of (map.get (map.insert none_at_all [] i) q) ≡ 0
+births_alone q i none = by (eq_by_cmp path_cmp q []) (map.get-insert total none_at_all [] i q)
+  where
+    by : (c : Bool) → map.get (map.insert none_at_all [] i) q ≡ cond c (Some i) (map.get none_at_all q) → births_of (map.get (map.insert none_at_all [] i) q) ≡ 0
+    by true e = ap births_of e ∙ none
+    by false e = ap births_of e ∙ births_of_none q
+
+no_births : (s : Subject) (q : Path) → births_at q (bare s) ≡ 0
+no_births s q = by (body s 0)
+  where
+    by : (o : Option BodyAlone) → births_of (map.get (alone (option_map (λ (b : BodyAlone). new_instance s 0 b []) o)) q) ≡ 0
+    by None = births_of_none q
+    by (Some b) = births_alone q (new_instance s 0 b []) refl
+
+-- what is pending stays
+pending_stays : (es : List Effect) (a : Acting) → (after_all es a).situation.pending ≡ a.situation.pending
+pending_stays [] a = refl
+pending_stays (e ∷ es) a = pending_stays es (acting_after e a)
+
+module _ (s : Subject) (one : IsOneSystem s) (budget turns : ℕ) (job : Job) (first : job.trans ≡ 0) (root : job.path ≡ []) (units : job.budget ≡ budget) (done : Done) (answers : Answers s job done) where
+  pub start_answers_in : AnswersIn s (bare s) done
+  start_answers_in = record { job = job; at = subst (λ (n : ℕ). IsJobAt s (bare s) job n) (sym first) (refl, root); answers = answers }
+
+  answer : IsAnswer s [] 0 (bare s) done.outcome done.left (start s budget)
+  answer = subst (λ (x : ℕ). IsAnswer s [] 0 (bare s) done.outcome done.left (start s x)) units (subst (λ (n : ℕ). AnswersAt s job n done.outcome done.left) first answers.answers)
+
+  -- ---- it faults
+
+  module _ (kind : fault.Fault) (is : done.outcome ≡ outcome.Faulted kind) where
+    abbrev failed_entries : List Entry
+    failed_entries = (noted (Fault [] 0 kind) ∷ []) ++ ending (Faulted kind) ∷ []
+
+    failed : start s budget ≡ Failed kind done.left
+    failed = subst (λ (o : Outcome). IsAnswer s [] 0 (bare s) o done.left (start s budget)) is answer
+
+    pub start_closes : IsClosed s budget turns failed_entries (Faulted kind)
+    start_closes =
+        let e = noted (Fault [] 0 kind) in
+        record {
+          before = e ∷ [];
+          last = refl;
+          run = subst (λ (f : Firing). Begins s budget f (Fault [] 0 kind) []) (sym failed) (refl, refl, refl, refl);
+          stops = refl;
+          planned = refl;
+          below = omega arith;
+          tickets = still_tickets s budget (e ∷ []) (ending (Faulted kind)) refl (still_settled [] e refl none_settled) (still_tickets s budget [] e refl none_settled (no_tickets s budget));
+        }
+
+    pub start_failed_reached : {C : Type 0} (draw : Draw C) (c : C) → AreReached draw s budget turns c failed_entries c
+    start_failed_reached draw c clock = begins (Fault [] 0 kind)
+
+  -- ---- it runs
+
+  module _ (image : Image) (effects : List LoggedEffect) (is : done.outcome ≡ outcome.Ran image effects) where
+    is_put : IsPut s [] 0 (bare s) image effects done.left (start s budget)
+    is_put = subst (λ (o : Outcome). IsAnswer s [] 0 (bare s) o done.left (start s budget)) is answer
+
+    path_is_root : done.path ≡ []
+    path_is_root = answers.path ∙ root
+
+    trans_is_first : done.trans ≡ 0
+    trans_is_first = answers.trans ∙ first
+
+    log_is_its : effects_of (log_of done.outcome) ≡ is_put.log
+    log_is_its = ap (λ (o : Outcome). effects_of (log_of o)) is ∙ log-is s [] 0 (bare s) image effects done.left (start s budget) is_put
+
+    parts_are_its : parts_of done.outcome ≡ image.parts
+    parts_are_its = ap parts_of is
+
+    abbrev a : Acting
+    a = after_put s (bare s) done
+
+    after_is : a ≡ put [] is_put.log image.parts (begun (bare s))
+    after_is = (λ i. put (path_is_root i) (log_is_its i) (parts_are_its i) (begun (taken_by s (bare s) (path_is_root i) (transition_at s (trans_is_first i) (map.get (bare s).core.instances (path_is_root i))))))
+        ∙ ap (λ (o : Option Transition). put [] is_put.log image.parts (begun (taken_by s (bare s) [] o))) (no-initial s (map.get (bare s).core.instances []))
+
+    abbrev start_event : Event
+    start_event = Start a.outs a.drops
+
+    abbrev begun_entries : List Entry
+    begun_entries = noted start_event ∷ []
+
+    start_left : situation s budget (project begun_entries) ≡ record (put [] is_put.log image.parts (begun (bare s))).situation { timers = map.remove (put [] is_put.log image.parts (begun (bare s))).situation.timers (pair [] 0) }
+    start_left = ap (started s) is_put.result
+
+    pub start_situation : situation s budget (project begun_entries) ≡ record a.situation { timers = map.remove a.situation.timers (pair [] 0); pending = [] }
+    start_situation = start_left
+        ∙ ap (λ (ps : List Pair). record (put [] is_put.log image.parts (begun (bare s))).situation { timers = map.remove (put [] is_put.log image.parts (begun (bare s))).situation.timers (pair [] 0); pending = ps }) (pending_stays is_put.log (begun (bare s)))
+        ∙ ap (λ (x : Acting). record x.situation { timers = map.remove x.situation.timers (pair [] 0); pending = [] }) (sym after_is)
+
+    within_units : IsWithinUnits budget (bare s) (situation s budget (project begun_entries))
+    within_units = let h = starts_are_within s budget _ _ _ _ is_put.result in subst (IsWithinUnits budget (bare s)) (sym start_left) h
+
+    pub start_going : IsGoing s budget turns begun_entries true
+    start_going = record {
+      under_way = subst (λ (x : Acting). IsUnderWay s budget (Start x.outs x.drops ∷ []) true) (sym after_is) (starts_go_on s one budget image effects done.left is_put);
+      below = omega arith;
+      within = record {
+        made = omega (arith, within_units.made, once_more budget 0);
+        births = λ q. omega (arith, within_units.births q, no_births s q, once_more budget 0);
+      };
+      tickets = still_tickets s budget [] (noted start_event) refl none_settled (no_tickets s budget);
+      settled = still_settled [] (noted start_event) refl none_settled;
+    }
+
+    pub start_reached : {C : Type 0} (draw : Draw C) (c : C) → AreReached draw s budget turns c begun_entries c
+    start_reached draw c clock = begins start_event
+
+    pub start_numbers : budget * (turns + 1) < 2 ^ 63 → outputs_in (log_of done.outcome) < 2 ^ 64
+    start_numbers room =
+        let all : a.situation.made ≡ 0 + outputs_in (all_logged s is_put.log) = ap (λ (x : Acting). x.situation.made) after_is ∙ made_all s is_put.log (begun (bare s)) in
+        let made_is : (situation s budget (project begun_entries)).made ≡ a.situation.made = ap (λ (g : Situation). g.made) start_situation in
+        let log : outputs_in (log_of done.outcome) ≡ outputs_in (all_logged s is_put.log) = ap (λ (o : Outcome). outputs_in (log_of o)) is ∙ ap outputs_in is_put.logged in
+        omega (arith, all, made_is, log, within_units.made, once_more budget turns, room)

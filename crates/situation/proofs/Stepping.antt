@@ -1,0 +1,53 @@
+-- A step from a course whose history has more memory.
+use Rattle.std.proofs.Common.{◌≡◌, ℕ, ◌+◌, ◌<◌, ◌≤◌, List, Option, Some, None, refl, sym, ap, subst, ◌∙◌, arith, length}
+use Rattle.estelle_model.specs.declared.event.End.{End}
+use Rattle.estelle_model.specs.Choosers.{Draw}
+use Rattle.run_history.specs.declared.entry.Entry.{Entry}
+use Rattle.run_history.specs.Histories.{History, project, fires}
+use Rattle.situation.specs.declared.limits.Stepped.{Stepped}
+use Rattle.situation.specs.declared.limits.Stepped.TheVariants as did
+use Rattle.situation.specs.declared.course.Course.{Course}
+use Rattle.situation.specs.Runs.{IsClosed, AreReached}
+use Rattle.situation.specs.Worlds.{IsOpen, IsOpenCourse, IsKept, IsCourse, HasStepped, IsUnchanged, Leaves, work, left_to_do}
+use Rattle.situation.specs.Steps.{GoesOn}
+
+module _ {H : Type 0} where
+  -- an ended course answers its end
+  pub same_end : (draw : Draw H) (c : Course H) (e : End) → IsCourse c → c.end ≡ Some e → HasStepped draw c c (did.Ended e)
+  same_end draw c e h is = record { keeps = h; goes_on = record { program = refl; limits = refl; reached = λ first r. r }; leaves = is }
+
+  abbrev with_history : Course H → History → Course H
+  with_history c h = record c { history = h }
+
+  kept_so : (c : Course H) (h : History) → h.entries ≡ c.history.entries → (e : Option End) → IsKept c e → IsKept (with_history c h) e
+  kept_so c h same None k = record { open_run = subst (λ (es : List Entry). IsOpen c.program.now c.limits es c.shared c.pending.items c.awaits c.tickets) (sym same) k.open_run; empty = k.empty }
+  kept_so c h same (Some e) k = subst (λ (es : List Entry). IsClosed c.program.now c.limits.budget c.limits.turns es e) (sym same) k
+
+  -- it is the same run
+  pub refused_so : (c : Course H) (h : History) → h.entries ≡ c.history.entries → IsCourse c → IsUnchanged c (with_history c h)
+  refused_so c h same k = record { keeps = kept_so c h same c.end k; program = refl; limits = refl; entries = same }
+
+  -- which goes on where it has not ended
+  pub goes_on_so : (c : Course H) (h : History) (n : ℕ) → h.entries ≡ c.history.entries → n ≤ h.spare → c.end ≡ None → IsCourse c → GoesOn n (with_history c h)
+  goes_on_so c h n same room none k = record { is_open = subst (IsKept (with_history c h)) none (kept_so c h same c.end k); unended = none; spare = room }
+
+  leaves_so : (b c n : Course H) (d : Stepped) → left_to_do b ≡ left_to_do c → Leaves b n d → Leaves c n d
+  leaves_so b c n did.Selected same h = subst (λ (x : ℕ). left_to_do n < x) same h
+  leaves_so b c n did.Waited same h = subst (λ (x : ℕ). left_to_do n < x) same h
+  leaves_so b c n did.Fired same h = subst (λ (x : ℕ). left_to_do n < x) same h
+  leaves_so b c n did.Faulted same h = subst (λ (x : ℕ). left_to_do n < x) same h
+  leaves_so b c n (did.Ended e) same h = h
+
+  pub stepped_so : (draw : Draw H) (c n : Course H) (h : History) (d : Stepped) → h.entries ≡ c.history.entries → HasStepped draw (with_history c h) n d → HasStepped draw c n d
+  stepped_so draw c n h d same s = record {
+    keeps = s.keeps;
+    goes_on = record {
+      program = s.goes_on.program;
+      limits = s.goes_on.limits;
+      reached = λ first r. s.goes_on.reached first (subst (λ (es : List Entry). AreReached draw c.program.now c.limits.budget c.limits.turns first es c.chooser) (sym same) r);
+    };
+    leaves = leaves_so (with_history c h) c n d (ap (λ (es : List Entry). work c.limits.turns (fires es) c.awaits c.end) same) s.leaves;
+  }
+
+  pub unchanged_so : (c n : Course H) (h : History) → h.entries ≡ c.history.entries → IsUnchanged (with_history c h) n → IsUnchanged c n
+  unchanged_so c n h same u = record { keeps = u.keeps; program = u.program; limits = u.limits; entries = u.entries ∙ same }

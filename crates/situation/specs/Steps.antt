@@ -1,0 +1,144 @@
+-- What the functions that make a step tell each other.
+use Rattle.std.specs.Prelude.{◌≡◌, ◌≢◌, ◌≤◌, ◌<◌, ◌+◌, ◌^◌, ℕ, true, List, [], ◌∷◌, ◌++◌, slice_get, Option, Some, None, Contains}
+use Rattle.pascal_values.specs.declared.fault.Fault.{Fault}
+use Rattle.estelle_tree.specs.Paths.{Path}
+use Rattle.estelle_tree.specs.Timers.{pair}
+use Rattle.estelle_tree.specs.declared.transition.Pair.{Pair}
+use Rattle.estelle_model.specs.declared.event.Event.TheVariants as event
+use Rattle.estelle_model.specs.declared.event.End.TheVariants.{Faulted}
+use Rattle.estelle_model.specs.declared.job.Job.{Job}
+use Rattle.estelle_model.specs.declared.job.Done.{Done}
+use Rattle.estelle_model.specs.declared.job.Outcome.{Outcome}
+use Rattle.estelle_model.specs.declared.job.Outcome.TheVariants as outcome
+use Rattle.estelle_model.specs.Subject.{Subject}
+use Rattle.estelle_model.specs.Situation.{Situation}
+use Rattle.estelle_model.specs.Firing.{bare}
+use Rattle.estelle_model.specs.Choosers.{Draw, Picks}
+use Rattle.estelle_model.specs.Jobs.{Answers}
+use Rattle.effect_log.specs.declared.notes.Notes.{Notes}
+use Rattle.effect_log.specs.Standing.{Stands}
+use Rattle.effect_log.specs.Putting.{IsRan, log_of, AnswersIn, after_put}
+use Rattle.effect_log.specs.Rooms.{outputs_in, HasRoomFor}
+use Rattle.run_history.specs.declared.entry.Entry.{Entry}
+use Rattle.run_history.specs.Histories.{fires}
+use Rattle.situation.specs.declared.course.Course.{Course}
+use Rattle.situation.specs.declared.limits.Limits.{Limits}
+use Rattle.situation.specs.declared.limits.Stepped.{Stepped}
+use Rattle.situation.specs.declared.limits.Stepped.TheVariants as stepped
+use Rattle.situation.specs.Runs.{noted, ending, IsJobFor}
+use Rattle.situation.specs.Worlds.{IsOpenCourse, IsCourse, AreEmpty, HasStepped, IsOfProgram, HasBegun, now, entries_of}
+
+-- the fault, if it is one
+abbrev pub failure_of : Outcome → Option Fault
+failure_of (outcome.Ran image effects) = None
+failure_of (outcome.Faulted kind) = Some kind
+
+module _ {H : Type 0} where
+  -- the run goes on, and there is memory for so many entries
+  pub record GoesOn (n : ℕ) (c : Course H) : Type 0 where
+    pub is_open : IsOpenCourse c
+    pub unended : c.end ≡ None
+    pub spare : n ≤ c.history.spare
+
+  -- the system is due
+  pub record IsDue (c : Course H) : Type 0 where
+    pub awaits : c.awaits ≡ true
+    pub none : c.pending.items ≡ []
+    pub below : fires c.history.entries < c.limits.turns
+
+  -- a pending firing is next
+  pub record IsReady (c : Course H) : Type 0 where
+    pub some : c.pending.items ≢ []
+    pub below : fires c.history.entries < c.limits.turns
+
+  -- ---- what is put
+
+  -- what was done answers in this situation, for which the shared state stands, and there is room for it
+  pub record MayPut (g : Situation) (c : Course H) (done : Done) : Type 0 where
+    pub stands : Stands c.program.now c.shared g
+    pub answers : AnswersIn c.program.now g done
+    pub room : HasRoomFor done.outcome c.shared c.notes
+    pub numbers : c.shared.outputs + outputs_in (log_of done.outcome) < 2 ^ 64
+
+  -- the shared state stands for the situation after it, and its outputs and drops are noted
+  pub record HasPut (g : Situation) (before : Notes) (c : Course H) (done : Done) : Type 0 where
+    pub stands : Stands c.program.now c.shared (after_put c.program.now g done).situation
+    pub outs : c.notes.outs.items ≡ before.outs.items ++ (after_put c.program.now g done).outs
+    pub drops : c.notes.drops.items ≡ before.drops.items ++ (after_put c.program.now g done).drops
+
+  -- ---- what is computed
+
+  -- it is what was computed of a pending firing, and there is memory for it
+  pub record IsComputed (c : Course H) (p : Pair) (done : Done) : Type 0 where
+    pub pending : Contains c.pending.items p
+    pub job : Job
+    pub is_for : IsJobFor c.program.now (now c) c.limits.budget p job
+    pub answers : Answers c.program.now job done
+    pub room : HasRoomFor done.outcome c.shared c.notes
+
+  -- of the pending firing with this number
+  abbrev pub IsComputedAt : ℕ → Course H → Done → Type 0
+  IsComputedAt at c done = (p : Pair) × (slice_get c.pending.items at ≡ Some p) × IsComputed c p done
+
+  -- what was computed may be put, if it ran, and there is memory for its entries
+  pub record MaySettle (g : Situation) (c : Course H) (done : Done) : Type 0 where
+    pub may : IsRan done.outcome → MayPut g c done
+    pub empty : AreEmpty c.notes
+    pub spare : 2 ≤ c.history.spare
+
+  -- the firing was put and noted
+  pub record HasFired (g : Situation) (old new : Course H) (path : Path) (trans : ℕ) (done : Done) : Type 0 where
+    pub stands : Stands old.program.now new.shared (after_put old.program.now g done).situation
+    pub noted : new.history.entries ≡ old.history.entries ++ noted (event.Fire path trans (after_put old.program.now g done).outs (after_put old.program.now g done).drops) ∷ []
+    pub empty : AreEmpty new.notes
+    pub rest : new ≡ record old { shared = new.shared; history = new.history; notes = new.notes; awaits = true }
+
+  -- its fault was noted, which ends the run
+  pub record HasFailed (old new : Course H) (path : Path) (trans : ℕ) (kind : Fault) : Type 0 where
+    pub noted : new.history.entries ≡ (old.history.entries ++ noted (event.Fault path trans kind) ∷ []) ++ ending (Faulted kind) ∷ []
+    pub rest : new ≡ record old { history = new.history; end = Some (Faulted kind) }
+
+  abbrev pub SettledSo : Situation → Course H → Course H → Path → ℕ → Done → Outcome → Stepped → Type 0
+  SettledSo g old new path trans done (outcome.Ran image effects) did = HasFired g old new path trans done × (did ≡ stepped.Fired)
+  SettledSo g old new path trans done (outcome.Faulted kind) did = HasFailed old new path trans kind × (did ≡ stepped.Faulted)
+
+  abbrev pub HasSettled : Situation → Course H → Course H → Path → ℕ → Done → Stepped → Type 0
+  HasSettled g old new path trans done did = SettledSo g old new path trans done done.outcome did
+
+  -- what a firing that was picked comes to, where this chooser was asked for it
+  abbrev pub HasCommitted : Draw H → Course H → Course H → Path → ℕ → Stepped → Type 0
+  HasCommitted draw old new path trans did = (first : H) → Picks draw first old.pending.items (pair path trans) old.chooser → HasStepped draw (record old { chooser = first }) new did
+
+  -- ---- the start
+
+  -- nothing has happened yet, and the shared state stands for the situation before the initialization
+  pub record IsFresh (s : Subject) (limits : Limits) (chooser : H) (c : Course H) : Type 0 where
+    pub program : c.program.now ≡ s
+    pub limits_are : c.limits ≡ limits
+    pub stands : Stands s c.shared (bare s)
+    pub pending : c.pending.items ≡ []
+    pub entries : c.history.entries ≡ []
+    pub tickets : c.tickets ≡ 0
+    pub unended : c.end ≡ None
+    pub empty : AreEmpty c.notes
+    pub chooser_is : c.chooser ≡ chooser
+
+  -- the start was put and noted
+  pub record HasBeenPut (old new : Course H) (done : Done) : Type 0 where
+    pub stands : Stands old.program.now new.shared (after_put old.program.now (bare old.program.now) done).situation
+    pub noted : new.history.entries ≡ old.history.entries ++ noted (event.Start (after_put old.program.now (bare old.program.now) done).outs (after_put old.program.now (bare old.program.now) done).drops) ∷ []
+    pub empty : AreEmpty new.notes
+    pub rest : new ≡ record old { shared = new.shared; history = new.history; notes = new.notes; awaits = true }
+
+  abbrev pub StartedSo : Course H → Course H → Done → Outcome → Type 0
+  StartedSo old new done (outcome.Ran image effects) = HasBeenPut old new done
+  StartedSo old new done (outcome.Faulted kind) = HasFailed old new [] 0 kind
+
+  abbrev pub HasStarted : Course H → Course H → Done → Type 0
+  HasStarted old new done = StartedSo old new done done.outcome
+
+  -- the world of a program within limits has begun with this chooser
+  pub record IsBegun (draw : Draw H) (s : Subject) (limits : Limits) (chooser : H) (c : Course H) : Type 0 where
+    pub keeps : IsCourse c
+    pub of : IsOfProgram s limits c
+    pub begun : HasBegun draw chooser c

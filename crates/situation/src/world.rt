@@ -1,0 +1,87 @@
+//! Worlds.
+
+ghost use Rattle.std.specs.Prelude.{◌≡◌, ◌*◌, ◌+◌, ◌<◌, ◌^◌, IfOk, IfErr, IfSome, OnErr, IsSome};
+ghost use Rattle.situation_steps.specs.OneSystems.{IsOneSystem};
+
+use crate::begin;
+use crate::course::Course;
+use crate::limits::{Limits, Stepped};
+use body_walker::Program;
+use estelle_model::End;
+use outside::Chooser;
+use run_history::History;
+use std::alloc::{AllocError, Global};
+
+/// A run of a specification with its chooser, and the clock that it was given.
+#[derive(Drop)]
+pub struct World<'a, C, H> {
+    course: Course<'a, H>,
+    clock: C,
+}
+
+impl<'a, C: Drop, H: Chooser + Drop> World<'a, C, H> {
+    ghost use Rattle.situation.specs.Worlds.{IsCourse, IsOfProgram, HasBegun, HasStepped, IsUnchanged};
+
+    /// Runs the start. The refusal is want of memory.
+    pub fn begin(
+        alloc: Global,
+        program: &'a Program<'a>,
+        limits: Limits,
+        clock: C,
+        chooser: H,
+    ) -> Result<World<'a, C, H>, C>
+        requires one { IsOneSystem program.now }
+        requires room { limits.budget * (limits.turns + 1) < 2 ^ 63 }
+        ensures keeps { IfOk result (λ world. IsCourse world.course) }
+        ensures of { IfOk result (λ world. IsOfProgram program.now limits world.course) }
+        ensures begun { IfOk result (λ world. HasBegun H.draw chooser world.course) }
+        ensures clock { IfErr result (λ refused. refused ≡ clock) }
+    {
+        match begin::begin(alloc, program, limits, chooser) {
+            Ok(course) => Ok(World { course, clock }),
+            Err(_) => Err(clock),
+        }
+    }
+
+    /// One step: a selection, or a firing, or the end. After a refusal, which is want of memory, what is kept is as before,
+    /// but the chooser may have been drawn from.
+    pub fn step(&mut self, alloc: Global) -> Result<Stepped, AllocError>
+        requires { IsCourse self.old.course }
+        ensures keeps { IsCourse self.new.course }
+        ensures stepped { IfOk result (HasStepped H.draw self.old.course self.new.course) }
+        ensures refused { OnErr result (IsUnchanged self.old.course self.new.course) }
+        ensures clock { self.new.clock ≡ self.old.clock }
+    {
+        self.course.step(alloc)
+    }
+
+    /// The end, once there is one.
+    pub fn end(&self) -> Option<End>
+        ensures { result ≡ self.now.course.end }
+    {
+        self.course.end
+    }
+
+    /// The history of a run that has ended, its end, and the clock.
+    pub fn finish(self) -> (History, End, C)
+        requires { IsSome self.course.end }
+        ensures history { result.0 ≡ self.entry.course.history }
+        ensures end { IfSome self.entry.course.end (λ end. result.1 ≡ end) }
+        ensures clock { result.2 ≡ self.entry.clock }
+    {
+        let World { course, clock } = self;
+        let Course { history, end, .. } = course;
+        match end {
+            Some(end) => (history, end, clock),
+            None => unreachable!(),
+        }
+    }
+
+    /// The clock, without the run.
+    pub fn give_up(self) -> C
+        ensures { result ≡ self.entry.clock }
+    {
+        let World { course: _, clock } = self;
+        clock
+    }
+}

@@ -1,0 +1,23 @@
+use Rattle.estelle_model.specs.Subject.{Subject}
+use Rattle.estelle_model_legality.specs.Choices.{AreTree}
+use Rattle.estelle_model_legality.proofs.Systems.{legal_tree}
+use Rattle.situation_images.proofs.jobs.job_of.Goals as goal
+
+pub returns-clause-job : goal.returns-clause-job
+returns-clause-job c = λ g stands legal pending.
+    let s : Subject = c.args.program.now in
+    let tree : AreTree s g.core.instances = legal_tree s g.core.instances legal.instances in
+    let image = c.in_ok-image_of.ensures.image g stands tree in
+    let head = c.in_ok-head.ensures g c.args.ticket c.args.budget stands legal pending in
+    λ i. record {
+      ticket = c.args.ticket;
+      path = c.in_ok-copy.ensures i;
+      trans = c.args.pair.now.trans;
+      image = image i;
+      head = head i;
+      budget = c.args.budget;
+    }
+
+pub returns-clause-in_order : goal.returns-clause-in_order
+returns-clause-in_order c = λ g stands legal.
+    c.in_ok-image_of.ensures.in_order g stands (legal_tree c.args.program.now g.core.instances legal.instances)

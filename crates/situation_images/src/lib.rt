@@ -1,0 +1,19 @@
+//! What is read of the shared state for an instance: its private part as an image of its own, the interaction that a
+//! transition finds at its queue, and the job of a pending firing, which has both.
+//!
+//! It stands on `effect_log`, whose `Stands` says for which situation the shared state stands, and on `body_walker_program`
+//! for what bodies declare. An image is a copy: it takes the time and the memory of the instances at and below its own, and
+//! of all links.
+#![tactic(auto)]
+
+mod bare;
+mod heads;
+mod images;
+mod jobs;
+mod laws;
+
+pub use bare::bare_shared;
+pub use heads::{copied_head, found_head};
+pub use images::image_of;
+pub use jobs::{job_of, start_job};
+pub use laws::parts_are_of_instances;

@@ -1,0 +1,93 @@
+-- What all instances of one system offer, and the first guard of all that faults.
+use Rattle.std.proofs.Common.{◌≡◌, ◌⊎◌, ℕ, ◌<◌, List, [], ◌∷◌, ◌++◌, refl, sym, ap, subst, ◌∙◌, inl, inr}
+use Rattle.std.specs.Ordering.{nat_cmp, ordering_then, MatchOrdering}
+use Rattle.std.specs.Cmp.{ranks}
+use Rattle.std.specs.List.{AllByRecursion}
+use Rattle.std.specs.List.Sorted.{IsStrictlySortedBy}
+use Rattle.std.specs.declared.cmp.Ordering.{Ordering}
+use Rattle.std.specs.declared.cmp.Ordering.TheVariants.{Less, Equal, Greater}
+use Rattle.std.proofs.lemmas.List.{map-append}
+use Rattle.pascal_values.specs.declared.fault.Fault.{Fault}
+use Rattle.estelle_tree.specs.Paths.{Path, path_cmp}
+use Rattle.estelle_tree.specs.Timers.{pair, pair_cmp}
+use Rattle.estelle_model.specs.declared.job.Guard.TheVariants.{Faulted}
+use Rattle.estelle_model.specs.Subject.{Subject}
+use Rattle.estelle_model.specs.Situation.{Situation}
+use Rattle.estelle_model.specs.Firing.{guard}
+use Rattle.estelle_model.specs.Runs.{NoGuardFaults, IsFirstFault}
+use Rattle.estelle_model.proofs.AlikeActions.{inside_root}
+use Rattle.estelle_model.proofs.Maps.{total, apart}
+use Rattle.estelle_model_legality.proofs.Members.{Has}
+use Rattle.transition_select.specs.declared.offers.Offer.{Offer}
+use Rattle.transition_select.specs.Blocks.{at_and_below}
+use Rattle.transition_select.specs.Offers.{AreOffers, IsOffer}
+use Rattle.transition_select.proofs.Blocks.{below_has, below_rises}
+use Rattle.transition_select.proofs.Rising.{Rises, before_has, itself}
+use Rattle.situation_steps.specs.UnderWay.{IsLegalRoot}
+use Rattle.situation_offers.specs.Guards.{NoneFaults, IsFirst, HaveOffered}
+use Rattle.situation_offers.proofs.Counting.{all_more, faulted_there}
+
+-- ---- lists
+
+all_has : {A : Type 0} (P : A → Type 0) (xs : List A) (x : A) → AllByRecursion P xs → Has xs x → P x
+all_has P [] x all h = absurd h
+all_has P (y ∷ xs) x all (inl is) = subst P is all.0
+all_has P (y ∷ xs) x all (inr h) = all_has P xs x all.1 h
+
+-- of a list that rises what is less than an element stands before it
+stands_before : (qs : List Path) (m : Path) (rest : List Path) (q : Path) → Rises (qs ++ m ∷ rest) → Has (qs ++ m ∷ rest) q → path_cmp q m ≡ Less → Has qs q
+unfolding IsStrictlySortedBy
+stands_before [] m rest q rises (inl is) less = absurd (itself m (ap (λ p. path_cmp p m) is ∙ less))
+stands_before [] m rest q rises (inr h) less = absurd (itself q (total.trans q m q less (before_has m rest q rises.0 h)))
+stands_before (p ∷ qs) m rest q rises (inl is) less = inl is
+stands_before (p ∷ qs) m rest q rises (inr h) less = inr (stands_before qs m rest q rises.1 h less)
+
+module _ (s : Subject) (budget : ℕ) (g : Situation) where
+  -- ---- one instance more
+
+  pub none_offered : HaveOffered s budget g [] []
+  none_offered = record { paths = refl; offers = tt; sound = tt }
+
+  pub one_more : (ms : List Path) (os : List Offer) (m : Path) (o : Offer) → HaveOffered s budget g ms os → o.path ≡ m → IsOffer s budget g o → NoneFaults s budget g m → HaveOffered s budget g (ms ++ m ∷ []) (os ++ o ∷ [])
+  one_more ms os m o have is offer none = record {
+    paths = map-append (λ (p : Offer). p.path) os (o ∷ []) ∙ (λ i. have.paths i ++ (is i ∷ []));
+    offers = all_more (IsOffer s budget g) os o have.offers offer;
+    sound = all_more (NoneFaults s budget g) ms m have.sound none;
+  }
+
+  -- ---- all of them
+
+  -- a guard that faults is that of an instance which is there
+  faulted_has : (m : Path) (n : ℕ) (kind : Fault) → guard s budget g m n ≡ Faulted kind → Has (at_and_below g []) m
+  faulted_has m n kind e = below_has s g [] m (faulted_there s budget g m n kind e) (inside_root m)
+
+  pub all_offered : (os : List Offer) → IsLegalRoot s g → HaveOffered s budget g (at_and_below g []) os → AreOffers s budget g [] os × NoGuardFaults s budget g []
+  all_offered os legal have = (
+    record { there = (legal.root.0, legal.root.1); paths = have.paths; offers = have.offers },
+    λ m n kind inside e. all_has (NoneFaults s budget g) (at_and_below g []) m have.sound (faulted_has m n kind e) n kind e,
+  )
+
+  -- ---- the first fault
+
+  abbrev Earlier : Path → ℕ → Path → ℕ → Type 0
+  Earlier q k m n = (path_cmp q m ≡ Less) ⊎ ((path_cmp q m ≡ Equal) × (nat_cmp k n ≡ Less))
+
+  earlier : (q m : Path) (k n : ℕ) → pair_cmp (pair q k) (pair m n) ≡ Less → Earlier q k m n
+  earlier q m k n e = by (path_cmp q m) refl e
+    where
+      by : (o : Ordering) → path_cmp q m ≡ o → ordering_then o (nat_cmp k n) ≡ Less → Earlier q k m n
+      by Less is e = inl is
+      by Equal is e = inr (is, e)
+      by Greater is e = absurd (cc)
+
+  pub first_of_all : (ms : List Path) (m : Path) (rest : List Path) (n : ℕ) (kind : Fault) → at_and_below g [] ≡ ms ++ m ∷ rest → AllByRecursion (NoneFaults s budget g) ms → IsFirst s budget g m n kind → IsFirstFault s budget g [] m n kind
+  first_of_all ms m rest n kind e before is = record {
+    inside = inside_root m;
+    faults = is.faults;
+    first = λ q k other inside less fault. by q k other fault (earlier q m k n less);
+  }
+    where
+      by : (q : Path) (k : ℕ) (other : Fault) → guard s budget g q k ≡ Faulted other → Earlier q k m n → ⊥
+      by q k other fault (inl less) = all_has (NoneFaults s budget g) ms q before
+          (stands_before ms m rest q (subst Rises e (below_rises s g [])) (subst (λ ps. Has ps q) e (faulted_has q k other fault)) less) k other fault
+      by q k other fault (inr same) = is.first k other (subst (λ (o : Ordering). MatchOrdering o (k < n) (k ≡ n) (n < k)) same.1 (ranks k n)) (ap (λ p. guard s budget g p k) (sym (apart q m same.0)) ∙ fault)

@@ -1,0 +1,49 @@
+-- Instances that are asked one after another, as the items of a list.
+use Rattle.std.proofs.Common.{◌≡◌, ℕ, zero, suc, ◌+◌, ◌<◌, ◌≤◌, List, [], ◌∷◌, ◌++◌, map as each, length, take, drop, get_or, sym, ap, subst, ◌∙◌, arith, add-one}
+use Rattle.std.specs.List.{AllByRecursion}
+use Rattle.std.proofs.lemmas.List.{take_all}
+use Rattle.pascal_values.specs.declared.fault.Fault.{Fault}
+use Rattle.estelle_tree.specs.Paths.{Path}
+use Rattle.estelle_model.specs.Subject.{Subject}
+use Rattle.estelle_model.specs.Situation.{Situation}
+use Rattle.estelle_model.specs.Runs.{NoGuardFaults, IsFirstFault}
+use Rattle.transition_select.specs.declared.offers.Offer.{Offer}
+use Rattle.transition_select.specs.Blocks.{at_and_below}
+use Rattle.transition_select.specs.Offers.{AreOffers, IsOffer}
+use Rattle.situation_steps.specs.UnderWay.{IsLegalRoot}
+use Rattle.situation_offers.specs.Guards.{NoneFaults, IsFirst, HaveOffered}
+use Rattle.situation_offers.proofs.Offers as offers
+
+-- what holds of what each item stands for holds at one
+pub mapped_at : {A B : Type 0} (P : B → Type 0) (h : A → B) (xs : List A) (k : ℕ) (a : A) → k < length xs → a ≡ get_or xs k a → AllByRecursion P (each h xs) → P (h a)
+mapped_at P h [] k a less is all = absurd (omega arith)
+mapped_at P h (x ∷ xs) zero a less is all = subst (λ y. P (h y)) (sym is) all.0
+mapped_at P h (x ∷ xs) (suc k) a less is all = mapped_at P h xs k a (omega arith) is all.1
+
+module _ {A : Type 0} (path : A → Path) where
+  more : (xs : List A) (k : ℕ) (a : A) → k < length xs → a ≡ get_or xs k a → each path (take (k + 1) xs) ≡ each path (take k xs) ++ path a ∷ []
+  more xs k a less is = rw add-one (by xs k less is)
+    where
+      by : (ys : List A) (j : ℕ) → j < length ys → a ≡ get_or ys j a → each path (take (suc j) ys) ≡ each path (take j ys) ++ path a ∷ []
+      by [] j less is = absurd (omega arith)
+      by (y ∷ ys) zero less is = ap (λ z. path z ∷ []) (sym is)
+      by (y ∷ ys) (suc j) less is = ap (λ ps. path y ∷ ps) (by ys j (omega arith) is)
+
+  parted : (xs : List A) (k : ℕ) (a : A) → k < length xs → a ≡ get_or xs k a → each path xs ≡ each path (take k xs) ++ path a ∷ each path (drop (suc k) xs)
+  parted [] k a less is = absurd (omega arith)
+  parted (x ∷ xs) zero a less is = ap (λ z. path z ∷ each path xs) (sym is)
+  parted (x ∷ xs) (suc k) a less is = ap (λ ps. path x ∷ ps) (parted xs k a (omega arith) is)
+
+  module _ (s : Subject) (budget : ℕ) (g : Situation) (legal : IsLegalRoot s g) (xs : List A) (k : ℕ) (os : List Offer) (have : HaveOffered s budget g (each path (take k xs)) os) where
+    pub one_more : (a : A) → k < length xs → a ≡ get_or xs k a → (o : Offer) → o.path ≡ path a → IsOffer s budget g o → NoneFaults s budget g (path a) → (after : List Offer) → after ≡ os ++ o ∷ []
+        → HaveOffered s budget g (each path (take (k + 1) xs)) after
+    one_more a less is o same offer none after pushed =
+        subst (λ ms. HaveOffered s budget g ms after) (sym (more xs k a less is))
+        (subst (HaveOffered s budget g (each path (take k xs) ++ path a ∷ [])) (sym pushed) (offers.one_more s budget g (each path (take k xs)) os (path a) o have same offer none))
+
+    module _ (all : each path xs ≡ at_and_below g []) where
+      pub first_fault : (a : A) → k < length xs → a ≡ get_or xs k a → (n : ℕ) (kind : Fault) → IsFirst s budget g (path a) n kind → IsFirstFault s budget g [] (path a) n kind
+      first_fault a less is n kind fault = offers.first_of_all s budget g (each path (take k xs)) (path a) (each path (drop (suc k) xs)) n kind (sym all ∙ parted xs k a less is) have.sound fault
+
+      pub all_asked : length xs ≤ k → AreOffers s budget g [] os × NoGuardFaults s budget g []
+      all_asked ends = offers.all_offered s budget g os legal (subst (λ ms. HaveOffered s budget g ms os) (ap (each path) (take_all k xs ends) ∙ all) have)

@@ -1,0 +1,22 @@
+use Rattle.std.proofs.Common.{◌∙◌, sym, ap, subst}
+use Rattle.std.specs.Prelude.{option_and_then}
+use Rattle.estelle_model.specs.Bodies.{BodyAlone}
+use Rattle.estelle_model.specs.Subject.{body}
+use Rattle.estelle_model.specs.Attributes.{attribute, is_process}
+use Rattle.estelle_model.specs.Schedule.{offered}
+use Rattle.transition_select.specs.Offers.{IsOfKind}
+use Rattle.situation_offers.proofs.Active.{kind_is}
+use Rattle.situation_offers.proofs.guards.offer.Goals as goal
+
+pub returns : goal.returns
+returns c = λ g budget one legal of are.
+    let s = c.args.program.now in
+    let kind = kind_is s one g legal c.args.path.now of.0 of.1 c.is_of_process.result
+    (c.is_of_process.ensures ∙ ap (λ k. is_process (option_and_then (λ (x : BodyAlone). attribute s k) (body s k))) (sym of.2)) in
+    record {
+      path = c.in_ok-copy.ensures;
+      offer = record {
+        kind = subst (λ p. IsOfKind s g p c.is_of_process.result) (sym c.in_ok-copy.ensures) kind;
+        offered = c.in_ok-offered.ensures s budget g c.args.path.now are ∙ ap (offered s budget g) (sym c.in_ok-copy.ensures);
+      };
+    }
