@@ -1,0 +1,9 @@
+pub mod EveryBlock
+pub mod Counts
+pub mod Fates
+pub mod Vanished
+pub mod Lasting
+pub mod Order
+pub mod Overtaking
+pub mod FirstOut
+pub mod Worked
