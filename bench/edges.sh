@@ -424,7 +424,7 @@ transitions() {
 transitions 4096 >"$folder/text"
 runs '4,096 transitions' 'start s4096 f4096 s- dead' <"$folder/text"
 transitions 4097 >"$folder/text"
-refuses '4,097 transitions' 'form not built' <"$folder/text"
+refuses '4,097 transitions' 'rule 33 1:1' <"$folder/text"
 
 # A block in which so many `begin` stand in one another, each in a line of its own from line 7 on, with this statement inside.
 nested() {
@@ -522,29 +522,29 @@ var n: integer;
 function f: integer; begin  n := 1; f := 1 end;
 end.
 END
-refuses 'systemactivity' 'form not built' <<'END'
+runs 'systemactivity' 'start s- dead' <<'END'
 specification t systemactivity;
 end.
 END
-refuses 'no attribute' 'form not built' <<'END'
+runs 'no attribute' 'start dead' <<'END'
 specification t;
 end.
 END
-for clause in 'priority 1' 'any i: 1..2 do' 'delay(1)'; do
-    refuses "$clause" 'form not built' <<END
+for clause in 'priority 1' 'any i: 1..2 do' 'delay(0)'; do
+    runs "$clause" 'start s1 f1 s- dead' <<END
 specification t systemprocess;
-state go;
+state go, done;
 initialize to go begin end;
-trans from go to go $clause begin end;
+trans from go to done $clause begin end;
 end.
 END
 done
-refuses 'a module' 'form not built' <<'END'
+runs 'a module' 'start s- dead' <<'END'
 specification t systemprocess;
 module m process; end;
 end.
 END
-refuses 'an Estelle statement in a routine' 'form not built' <<'END'
+refuses 'an Estelle statement in a routine' 'rule 2 2:28' <<'END'
 specification t systemprocess;
 procedure p; begin release x end;
 end.

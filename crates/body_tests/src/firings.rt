@@ -1,14 +1,23 @@
 //! The units that firings and guards have.
 
+ghost use Rattle.std.specs.Prelude.{IfSome};
+ghost use Rattle.estelle_tree.specs.Lexed.{FollowOneAnother};
+ghost use Rattle.estelle_tree.specs.Spells.{Spells};
+ghost use Rattle.estelle_model_legality.specs.Instances.{LeadsToStates};
+ghost use Rattle.situation.specs.Runs.{subject};
+
+use accepted_states::accepted_lead_to_states;
+use estelle_lexer::Tokens;
 use estelle_model::{End, Event, Run};
-use estelle_tree::Sequence;
+use estelle_parser::parse;
+use estelle_tree::{Sequence, Spec};
+use outside::{FirstChooser, VirtualClock};
 use pascal_values::Fault;
-use run_forms::{is_built, is_one_system};
 use situation::{Limits, execute};
 use spec_accept::{Checked, accept};
 use std::alloc::Global;
 use std::test::Fail;
-use test_texts::{counter_with, tree};
+use test_texts::{counter_with, tokens_of};
 
 /// A function that is true and takes so many units and one more.
 const SPIN: &str = "function spin(k: integer): boolean;
@@ -87,24 +96,45 @@ const BUDGETS: [(&str, &str, &str, usize, End); 11] = [
     ),
 ];
 
-fn accepted(alloc: Global, text: &[u8]) -> Option<Checked> {
-    accept(alloc, tree(alloc, text)?).ok()
+fn accepted_of(alloc: Global, found: &Tokens, spec: Spec) -> Option<Checked>
+    requires spelled { Spells spec found.now.items }
+    requires spans { FollowOneAnother 0 found.now.items found.now.rest }
+    ensures { IfSome result (λ checked. LeadsToStates (subject checked.spec checked.names)) }
+{
+    accepted_lead_to_states();
+    match accept(alloc, spec) {
+        Ok(checked) => Some(checked),
+        Err(_) => None,
+    }
+}
+
+fn accepted(alloc: Global, text: &[u8]) -> Option<Checked>
+    ensures { IfSome result (λ checked. LeadsToStates (subject checked.spec checked.names)) }
+{
+    let found = tokens_of(alloc, text)?;
+    match parse(alloc, &found) {
+        Ok(spec) => accepted_of(alloc, &found, spec),
+        Err(_) => None,
+    }
 }
 
 /// The run of a text, where each firing and each guard has 5 units.
 fn run_of(alloc: Global, text: &[u8]) -> Option<(Run, End)> {
     let checked = accepted(alloc, text)?;
-    if !is_built(&checked.spec) {
-        return None;
-    }
-    if !is_one_system(alloc, &checked.spec, &checked.names).ok()? {
-        return None;
-    }
     let limits = Limits {
         turns: 10_000,
         budget: 5,
     };
-    execute(alloc, &checked.spec, &checked.names, limits).ok()
+    let mut clock = VirtualClock { moment: 0 };
+    execute(
+        alloc,
+        &checked.spec,
+        &checked.names,
+        limits,
+        &mut clock,
+        FirstChooser,
+    )
+    .ok()
 }
 
 fn firings(events: &[Event]) -> usize {

@@ -12,12 +12,11 @@ use Rattle.estelle_lexer.proofs.Blanks.{answer_blank, answer_other}
 use Rattle.scope_rules.specs.declared.refusal.Breach.{Breach}
 use Rattle.scope_rules.specs.Least.{is_before, IsLeast}
 use Rattle.spec_accept.specs.Rules.{RuleBroken}
-use Rattle.run_forms.specs.Forms.{is_built}
 use Rattle.estelle_cli.specs.declared.outcome.Place.{Place}
 use Rattle.estelle_cli.specs.declared.outcome.Refusal.{Refusal}
-use Rattle.estelle_cli.specs.declared.outcome.Refusal.TheVariants.{TooLong, Bytes, TextAfterEnd, Syntax, NotBuilt, Rule}
+use Rattle.estelle_cli.specs.declared.outcome.Refusal.TheVariants.{TooLong, Bytes, TextAfterEnd, Syntax, Rule}
 use Rattle.estelle_cli.specs.Input.{HasTokens, IsTextOf, Reads, HasNoTokens, HasTextAfterEnd, HasNoTree, BreaksRule, Refuses, Same, place_of}
-use Rattle.pascal_values.specs.declared.fault.Fault.{Fault}
+use Rattle.estelle_cli.specs.declared.outcome.Close.{Close}
 use Rattle.estelle_cli.specs.declared.task.Task.{Task}
 use Rattle.estelle_cli.specs.declared.task.Task.TheVariants.{Run, Check, Show, Make}
 use Rattle.estelle_cli.specs.Tasks.{ReadsInput}
@@ -78,12 +77,6 @@ same_tree one input s t a b =
     let tokens = same_tokens input a.tokens b.tokens a.read b.read in
     one s t b.tokens (subst (Spells s) tokens a.spells) b.spells
 
-form_or_none : (one : OneTree) (input : List ℕ) (s t : Spec) → IsTextOf input s → IsTextOf input t → IsTrue (is_built s) → is_built t ≡ false → ⊥
-form_or_none one input s t a b form none =
-    let tree = same_tree one input s t a b in
-    let true_false : ◌≡◌ {A = Bool} true false = sym (subst (λ u. IsTrue (is_built u)) tree form) ∙ none in
-    cc
-
 -- ---- the least broken rule
 
 -- no breach is reported rather than one that is reported, so of two such the rules are the same, and the places
@@ -123,37 +116,26 @@ module _ (one : OneTree) (input : List ℕ) where
   one_refusal TooLong (Bytes q) a b = absurd (let w = b.within in omega arith)
   one_refusal TooLong (TextAfterEnd q) a b = absurd (let w = b.within in omega arith)
   one_refusal TooLong (Syntax q) a b = absurd (let w = b.read.within in omega arith)
-  one_refusal TooLong NotBuilt a b = absurd (let w = b.text.read.within in omega arith)
   one_refusal TooLong (Rule m q) a b = absurd (let w = b.text.read.within in omega arith)
   one_refusal (Bytes p) TooLong a b = absurd (let w = a.within in omega arith)
   one_refusal (Bytes p) (Bytes q) a b = ap (λ p. Bytes p) (one_place input p q a b)
   one_refusal (Bytes p) (TextAfterEnd q) a b = absurd (text_or_none input q p b a)
   one_refusal (Bytes p) (Syntax q) a b = absurd (tokens_or_none input b.tokens p b.read a)
-  one_refusal (Bytes p) NotBuilt a b = absurd (tokens_or_none input b.text.tokens p b.text.read a)
   one_refusal (Bytes p) (Rule m q) a b = absurd (tokens_or_none input b.text.tokens p b.text.read a)
   one_refusal (TextAfterEnd p) TooLong a b = absurd (let w = a.within in omega arith)
   one_refusal (TextAfterEnd p) (Bytes q) a b = absurd (text_or_none input p q a b)
   one_refusal (TextAfterEnd p) (TextAfterEnd q) a b = ap (λ p. TextAfterEnd p) (one_text input p q a b)
   one_refusal (TextAfterEnd p) (Syntax q) a b = absurd (tokens_or_text input b.tokens p b.read a)
-  one_refusal (TextAfterEnd p) NotBuilt a b = absurd (tokens_or_text input b.text.tokens p b.text.read a)
   one_refusal (TextAfterEnd p) (Rule m q) a b = absurd (tokens_or_text input b.text.tokens p b.text.read a)
   one_refusal (Syntax p) TooLong a b = absurd (let w = a.read.within in omega arith)
   one_refusal (Syntax p) (Bytes q) a b = absurd (tokens_or_none input a.tokens q a.read b)
   one_refusal (Syntax p) (TextAfterEnd q) a b = absurd (tokens_or_text input a.tokens q a.read b)
   one_refusal (Syntax p) (Syntax q) a b = tt
-  one_refusal (Syntax p) NotBuilt a b = absurd (tree_or_none input b.spec p b.text a)
   one_refusal (Syntax p) (Rule m q) a b = absurd (tree_or_none input b.spec p b.text a)
-  one_refusal NotBuilt TooLong a b = absurd (let w = a.text.read.within in omega arith)
-  one_refusal NotBuilt (Bytes q) a b = absurd (tokens_or_none input a.text.tokens q a.text.read b)
-  one_refusal NotBuilt (TextAfterEnd q) a b = absurd (tokens_or_text input a.text.tokens q a.text.read b)
-  one_refusal NotBuilt (Syntax q) a b = absurd (tree_or_none input a.spec q a.text b)
-  one_refusal NotBuilt NotBuilt a b = refl
-  one_refusal NotBuilt (Rule m q) a b = absurd (form_or_none one input b.spec a.spec b.text a.text b.form a.form)
   one_refusal (Rule n p) TooLong a b = absurd (let w = a.text.read.within in omega arith)
   one_refusal (Rule n p) (Bytes q) a b = absurd (tokens_or_none input a.text.tokens q a.text.read b)
   one_refusal (Rule n p) (TextAfterEnd q) a b = absurd (tokens_or_text input a.text.tokens q a.text.read b)
   one_refusal (Rule n p) (Syntax q) a b = absurd (tree_or_none input a.spec q a.text b)
-  one_refusal (Rule n p) NotBuilt a b = absurd (form_or_none one input a.spec b.spec a.text b.text a.form b.form)
   one_refusal (Rule n p) (Rule m q) a b = one_rule one input n m p q a b
 
 -- ---- an input that was run
@@ -164,7 +146,6 @@ module _ (one : OneTree) where
   read_or_refused (Bytes q) input t a b = tokens_or_none input a.text.tokens q a.text.read b
   read_or_refused (TextAfterEnd q) input t a b = tokens_or_text input a.text.tokens q a.text.read b
   read_or_refused (Syntax q) input t a b = tree_or_none input t q a.text b
-  read_or_refused NotBuilt input t a b = form_or_none one input t b.spec a.text b.text a.form b.form
   read_or_refused (Rule n p) input t a b =
       let tree = same_tree one input b.spec t b.text a.text in
       a.kept b.breach (subst (λ u. RuleBroken u b.breach) tree b.least.broken)
@@ -176,11 +157,11 @@ module _ (one : OneTree) where
   reads_refused left t reads r input is refuses = read_or_refused r input t (at_some (λ i. Reads i t) left input is reads) refuses
 
   -- an input of which something is written is none to refuse
-  pub output_refused : (task : Task) (left : Option (List ℕ)) (fault : Option Fault) (text : List ℕ) → IsOutput task left fault text → ReadsInput task → (r : Refusal) (input : List ℕ) → left ≡ Some input → Refuses r input → ⊥
-  output_refused (Run limits) left fault text h reads = reads_refused left h.2.specification h.2.input
-  output_refused Check left fault text h reads = reads_refused left h.1.specification h.1.input
-  output_refused Show left fault text h reads = reads_refused left h.1.specification h.1.input
-  output_refused (Make n) left fault text h reads = absurd reads
+  pub output_refused : (task : Task) (clock : Option ℕ) (left : Option (List ℕ)) (c : Close) (text : List ℕ) → IsOutput task clock left c text → ReadsInput task → (r : Refusal) (input : List ℕ) → left ≡ Some input → Refuses r input → ⊥
+  output_refused (Run limits seed) clock left c text h reads = reads_refused left h.2.specification h.2.input
+  output_refused Check clock left c text h reads = reads_refused left h.1.specification h.1.input
+  output_refused Show clock left c text h reads = reads_refused left h.1.specification h.1.input
+  output_refused (Make n) clock left c text h reads = absurd reads
 
   pub refused_read : (left : Option (List ℕ)) (r : Refusal) (input : List ℕ) (t : Spec) → IfSome left (Refuses r) → left ≡ Some input → Reads input t → ⊥
   refused_read left r input t h is reads = read_or_refused r input t reads (at_some (Refuses r) left input is h)

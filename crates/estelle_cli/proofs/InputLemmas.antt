@@ -7,15 +7,13 @@ use Rattle.estelle_tree.specs.declared.tree.specification.Spec.{Spec}
 use Rattle.spec_accept.specs.declared.checked.Checked.{Checked}
 use Rattle.estelle_cli.specs.declared.outcome.Stop.{Stop}
 use Rattle.estelle_cli.specs.declared.outcome.Stop.TheVariants as stop
-use Rattle.estelle_cli.specs.declared.outcome.Refusal.TheVariants.{TooLong, Bytes, TextAfterEnd, Syntax, NotBuilt, Rule}
-use Rattle.run_forms.specs.Forms.{is_built}
+use Rattle.estelle_cli.specs.declared.outcome.Refusal.TheVariants.{TooLong, Bytes, TextAfterEnd, Syntax, Rule}
 use Rattle.estelle_cli.specs.Input.{IsTextOf, Reads, Refuses, Misses, HasStopped}
 
 -- a text is read as the specification that is accepted, which is the one that it spells
-pub judged_reads : (bytes : List ℕ) (spec : Spec) (checked : Checked) → IsTextOf bytes spec → true ≡ is_built spec → checked.spec ≡ spec → Reads bytes checked.spec
-judged_reads bytes spec checked text form same = record {
+pub judged_reads : (bytes : List ℕ) (spec : Spec) (checked : Checked) → IsTextOf bytes spec → checked.spec ≡ spec → Reads bytes checked.spec
+judged_reads bytes spec checked text same = record {
   text = subst (IsTextOf bytes) (sym same) text;
-  form = subst (λ s. IsTrue (is_built s)) (sym same) (sym form);
   kept = checked.kept;
 }
 
@@ -35,7 +33,6 @@ module _ (bytes : List ℕ) where
   refused_one (Some input) (Some rest) before now (stop.Refused (Bytes p)) taken end miss = subst (Refuses (Bytes p)) (whole_input input rest taken (end miss.within)) miss
   refused_one (Some input) (Some rest) before now (stop.Refused (TextAfterEnd p)) taken end miss = subst (Refuses (TextAfterEnd p)) (whole_input input rest taken (end miss.within)) miss
   refused_one (Some input) (Some rest) before now (stop.Refused (Syntax p)) taken end miss = subst (Refuses (Syntax p)) (whole_input input rest taken (end miss.read.within)) miss
-  refused_one (Some input) (Some rest) before now (stop.Refused NotBuilt) taken end miss = subst (Refuses NotBuilt) (whole_input input rest taken (end miss.text.read.within)) miss
   refused_one (Some input) (Some rest) before now (stop.Refused (Rule number p)) taken end miss = subst (Refuses (Rule number p)) (whole_input input rest taken (end miss.text.read.within)) miss
   refused_one left new before now stop.ReadFault taken end miss = absurd miss
   refused_one left new before now stop.Memory taken end miss = tt
@@ -43,10 +40,6 @@ module _ (bytes : List ℕ) where
   pub load_found : (left new : Option (List ℕ)) (r : Result Checked Stop) → Consumes left new bytes → (length bytes ≤ 1048576 → IsAtEnd new) → IfOk r (λ t. Reads bytes t.spec) → IfOk r (λ t. IfSome left (λ input. Reads input t.spec))
   load_found left new (Ok t) taken end h = found_one left new t.spec taken end h
   load_found left new (Err e) taken end h = tt
-
-  pub load_form : (r : Result Checked Stop) → IfOk r (λ t. Reads bytes t.spec) → IfOk r (λ t. IsTrue (is_built t.spec))
-  load_form (Ok t) h = h.form
-  load_form (Err e) h = tt
 
   pub load_end : (new : Option (List ℕ)) (r : Result Checked Stop) → (length bytes ≤ 1048576 → IsAtEnd new) → IfOk r (λ t. Reads bytes t.spec) → OnOk r (IsAtEnd new)
   load_end new (Ok t) end h = end h.text.read.within

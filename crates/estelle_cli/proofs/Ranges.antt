@@ -78,9 +78,8 @@ meant (word ∷ rest) = go (command_of word) (pairs_of (map word_of rest))
 -- ---- tasks
 
 run_ranged : (seed : Option ℕ) (workers : ℕ) (limits : Limits) → (limits.turns ≤ 1000000) × (limits.budget ≤ 100000000) → IfSome (run_by seed workers limits) IsInRange
-run_ranged None zero limits h = h
-run_ranged None (suc n) limits h = tt
-run_ranged (Some seed) workers limits h = tt
+run_ranged seed zero limits h = h
+run_ranged seed (suc n) limits h = tt
 
 task_ranged : (c : Command) (set : Settings) → HasRange set → IfSome (task_by c set) IsInRange
 task_ranged command.Run set h = run_ranged set.seed set.workers (limits_of set) (h.turns, h.budget)

@@ -4,6 +4,9 @@ use Rattle.std.specs.Fmt.{decimal}
 use Rattle.std.specs.Io.KnownBytes.{Appends, IsAtEnd}
 use Rattle.outside.specs.Counts.{Rose}
 use Rattle.outside.specs.Bytes.{AppendsFront}
+use Rattle.outside.specs.Choices.{seeded, any_drawn}
+use Rattle.outside.specs.declared.choosers.AnyChooser.{AnyChooser}
+use Rattle.outside.specs.declared.choosers.AnyChooser.TheVariants.{First, Seeded}
 use Rattle.pascal_values.specs.declared.fault.Fault.{Fault}
 use Rattle.estelle_tree.specs.declared.tree.specification.Spec.{Spec}
 use Rattle.estelle_printer.specs.Canonical.{IsCanonicalText}
@@ -15,19 +18,20 @@ use Rattle.estelle_model.specs.declared.event.End.TheVariants as end
 use Rattle.estelle_model.specs.Subject.{Subject}
 use Rattle.estelle_model.specs.Runs.{IsRun}
 use Rattle.estelle_model.specs.Ends.{Stops}
-use Rattle.estelle_model.specs.Choosers.{always_first}
 use Rattle.estelle_model.specs.Schedule.{IsScheduled}
 use Rattle.estelle_model.specs.Trace.{text, kind_text, line_end}
 use Rattle.situation.specs.declared.limits.Limits.{Limits}
 use Rattle.estelle_cli.specs.declared.outcome.Place.{Place}
 use Rattle.estelle_cli.specs.declared.outcome.Refusal.{Refusal}
-use Rattle.estelle_cli.specs.declared.outcome.Refusal.TheVariants.{TooLong, Bytes, TextAfterEnd, Syntax, NotBuilt, Rule}
+use Rattle.estelle_cli.specs.declared.outcome.Refusal.TheVariants.{TooLong, Bytes, TextAfterEnd, Syntax, Rule}
 use Rattle.estelle_cli.specs.declared.task.Task.{Task}
 use Rattle.estelle_cli.specs.declared.task.Task.TheVariants.{Run, Check, Show, Make}
 use Rattle.estelle_cli.specs.declared.outcome.Outcome.{Outcome}
 use Rattle.estelle_cli.specs.declared.outcome.Outcome.TheVariants as outcome
 use Rattle.estelle_cli.specs.declared.outcome.Status.{Status}
 use Rattle.estelle_cli.specs.declared.outcome.Status.TheVariants as status
+use Rattle.estelle_cli.specs.declared.outcome.Close.{Close}
+use Rattle.estelle_cli.specs.declared.outcome.Close.TheVariants as close
 use Rattle.estelle_cli.specs.declared.outcome.Stop.{Stop}
 use Rattle.estelle_cli.specs.declared.outcome.Stop.TheVariants as stop
 use Rattle.estelle_cli.specs.Tasks.{ReadsInput}
@@ -43,16 +47,21 @@ accepted_line = codes "accepted" ++ line_end
 abbrev pub subject : Spec → Subject
 subject spec = record { specification = spec; names = names_of spec }
 
+-- the chooser of a seed, or the one that takes the first candidate each time
+abbrev pub chooser_by : Option ℕ → AnyChooser
+chooser_by None = First (record {})
+chooser_by (Some seed) = Seeded (seeded seed)
+
 -- A text is the trace of a run of the input's specification that stops with this end: the run's first event is its
--- start, each later one applies to the situation before it, and all are those that the schedule chooses where the first
--- candidate is taken each time, whatever a clock tells.
-pub record IsTrace (limits : Limits) (left : Option (List ℕ)) (e : End) (written : List ℕ) : Type 0 where
+-- start, each later one applies to the situation before it, and all are those that the schedule chooses by the seed, or by taking
+-- the first candidate each time, and by a clock that tells this moment, or none.
+pub record IsTrace (limits : Limits) (seed clock : Option ℕ) (left : Option (List ℕ)) (e : End) (written : List ℕ) : Type 0 where
   pub specification : Spec
   pub events : List Event
   pub input : IfSome left (λ bytes. Reads bytes specification)
   pub run : IsRun (subject specification) limits.budget events
   pub stops : Stops (subject specification) limits.budget limits.turns events e
-  pub scheduled : (clock : Option ℕ) → IsScheduled always_first (subject specification) limits.budget limits.turns clock tt events e
+  pub scheduled : IsScheduled any_drawn (subject specification) limits.budget limits.turns clock (chooser_by seed) events e
   pub lines : written ≡ text events e
 
 -- an end that no fault made
@@ -62,10 +71,11 @@ IsGood end.Turns = Unit {0}
 IsGood end.Clock = ⊥
 IsGood (end.Faulted kind) = ⊥
 
--- the run ended at this fault; or well, where there is none
-abbrev pub EndsWith : Option Fault → End → Type 0
-EndsWith None e = IsGood e
-EndsWith (Some kind) e = e ≡ end.Faulted kind
+-- the run ended well, at this fault, or by the clock
+abbrev pub EndsWith : Close → End → Type 0
+EndsWith close.Well e = IsGood e
+EndsWith (close.Faulted kind) e = e ≡ end.Faulted kind
+EndsWith close.ByClock e = e ≡ end.Clock
 
 -- the specification that the input spells keeps all rules
 pub record IsAccepted (left : Option (List ℕ)) : Type 0 where
@@ -84,24 +94,24 @@ pub record IsMade (n : ℕ) (written : List ℕ) : Type 0 where
   pub made : IsRing n specification
   pub text : written ≡ ring n
 
--- what a task writes, of an input where it reads one, and the fault with which its run ended, if it did
-abbrev pub IsOutput : Task → Option (List ℕ) → Option Fault → List ℕ → Type 0
-IsOutput (Run limits) left fault written = (e : End) × EndsWith fault e × IsTrace limits left e written
-IsOutput Check left fault written = (fault ≡ None) × IsAccepted left × (written ≡ accepted_line)
-IsOutput Show left fault written = (fault ≡ None) × IsShown left written
-IsOutput (Make n) left fault written = (fault ≡ None) × IsMade n written
+-- what a task writes, of an input where it reads one, by a clock that tells this moment, or none; and how it was done
+abbrev pub IsOutput : Task → Option ℕ → Option (List ℕ) → Close → List ℕ → Type 0
+IsOutput (Run limits seed) clock left c written = (e : End) × EndsWith c e × IsTrace limits seed clock left e written
+IsOutput Check clock left c written = (c ≡ close.Well) × IsAccepted left × (written ≡ accepted_line)
+IsOutput Show clock left c written = (c ≡ close.Well) × IsShown left written
+IsOutput (Make n) clock left c written = (c ≡ close.Well) × IsMade n written
 
 -- out has grown by just that
-pub record Writes (task : Task) (left : Option (List ℕ)) (fault : Option Fault) (held held' : Option (List ℕ)) : Type 0 where
+pub record Writes (task : Task) (clock : Option ℕ) (left : Option (List ℕ)) (c : Close) (held held' : Option (List ℕ)) : Type 0 where
   pub written : List ℕ
-  pub output : IsOutput task left fault written
+  pub output : IsOutput task clock left c written
   pub appends : Appends held held' written
 
 -- out has grown by a prefix of it
-pub record WritesPrefix (task : Task) (left : Option (List ℕ)) (held held' : Option (List ℕ)) : Type 0 where
-  pub fault : Option Fault
+pub record WritesPrefix (task : Task) (clock : Option ℕ) (left : Option (List ℕ)) (held held' : Option (List ℕ)) : Type 0 where
+  pub close : Close
   pub written : List ℕ
-  pub output : IsOutput task left fault written
+  pub output : IsOutput task clock left close written
   pub appends : AppendsFront held held' written
 
 -- nothing went to out
@@ -126,7 +136,6 @@ refusal_line TooLong = line (codes "too long")
 refusal_line (Bytes p) = line (codes "bytes " ++ place_text p)
 refusal_line (TextAfterEnd p) = line (codes "text after end " ++ place_text p)
 refusal_line (Syntax p) = line (codes "syntax " ++ place_text p)
-refusal_line NotBuilt = line (codes "form not built")
 refusal_line (Rule number p) = line (codes "rule " ++ (decimal number ++ (codes " " ++ place_text p)))
 
 abbrev pub read_fault_line : List ℕ
@@ -137,6 +146,9 @@ write_fault_line = line (codes "write fault")
 
 abbrev pub memory_line : List ℕ
 memory_line = line (codes "no memory")
+
+abbrev pub clock_fault_line : List ℕ
+clock_fault_line = line (codes "clock fault")
 
 abbrev pub fault_line : Fault → List ℕ
 fault_line kind = line (codes "fault " ++ kind_text kind)
@@ -156,7 +168,7 @@ IsFinished status.Refused = ⊥
 IsFinished status.Usage = ⊥
 IsFinished status.ReadFault = ⊥
 IsFinished status.WriteFault = ⊥
-IsFinished status.ClockFault = ⊥
+IsFinished status.ClockFault = Unit {0}
 IsFinished status.Memory = ⊥
 
 -- there was nothing to write
@@ -167,7 +179,7 @@ HasNoOutput status.WriteFault = ⊥
 HasNoOutput status.Refused = Unit {0}
 HasNoOutput status.Usage = Unit {0}
 HasNoOutput status.ReadFault = Unit {0}
-HasNoOutput status.ClockFault = Unit {0}
+HasNoOutput status.ClockFault = ⊥
 HasNoOutput status.Memory = Unit {0}
 
 -- what may be answered where the input is to be refused: the refusal, or what comes before it
@@ -222,13 +234,14 @@ HasFailed (Make n) left before now e = e ≡ stop.Memory
 HasFailed task left before now e = HasStopped left before now e
 
 -- how the writing of an output came out
-abbrev pub Emits : List ℕ → Option Fault → Option (List ℕ) → Option (List ℕ) → ℕ → ℕ → Outcome → Type 0
-Emits written fault held held' faults faults' outcome.Done = (fault ≡ None) × Appends held held' written
-Emits written fault held held' faults faults' (outcome.PascalFault kind) = (fault ≡ Some kind) × Appends held held' written
-Emits written fault held held' faults faults' outcome.WriteFault = Rose faults faults' × AppendsFront held held' written
-Emits written fault held held' faults faults' (outcome.Refused refusal words) = ⊥
-Emits written fault held held' faults faults' outcome.ReadFault = ⊥
-Emits written fault held held' faults faults' outcome.Memory = ⊥
+abbrev pub Emits : List ℕ → Close → Option (List ℕ) → Option (List ℕ) → ℕ → ℕ → Outcome → Type 0
+Emits written c held held' faults faults' outcome.Done = (c ≡ close.Well) × Appends held held' written
+Emits written c held held' faults faults' (outcome.PascalFault kind) = (c ≡ close.Faulted kind) × Appends held held' written
+Emits written c held held' faults faults' outcome.ClockFault = (c ≡ close.ByClock) × Appends held held' written
+Emits written c held held' faults faults' outcome.WriteFault = Rose faults faults' × AppendsFront held held' written
+Emits written c held held' faults faults' (outcome.Refused refusal words) = ⊥
+Emits written c held held' faults faults' outcome.ReadFault = ⊥
+Emits written c held held' faults faults' outcome.Memory = ⊥
 
 -- refused with its line, unless memory ran out
 abbrev pub IsRefusedOr : Refusal → Outcome → Type 0
@@ -236,19 +249,22 @@ IsRefusedOr refusal (outcome.Refused r words) = (r ≡ refusal) × (words ≡ re
 IsRefusedOr refusal outcome.Memory = Unit {0}
 IsRefusedOr refusal outcome.Done = ⊥
 IsRefusedOr refusal (outcome.PascalFault kind) = ⊥
+IsRefusedOr refusal outcome.ClockFault = ⊥
 IsRefusedOr refusal outcome.ReadFault = ⊥
 IsRefusedOr refusal outcome.WriteFault = ⊥
 
--- why a call ended so: by what the source had left and has, what out held and holds, and their counts
-abbrev pub Explains : Task → Option (List ℕ) → Option (List ℕ) → ℕ → ℕ → Option (List ℕ) → Option (List ℕ) → ℕ → ℕ → Outcome → Type 0
-Explains task left left' reads reads' held held' writes writes' outcome.Done =
-    Writes task left None held held' × (ReadsInput task → IsAtEnd left')
-Explains task left left' reads reads' held held' writes writes' (outcome.PascalFault kind) =
-    Writes task left (Some kind) held held' × (ReadsInput task → IsAtEnd left')
-Explains task left left' reads reads' held held' writes writes' (outcome.Refused refusal words) =
+-- why a call ended so: by what the source had left and has, what out held and holds, what the clock told, and their counts
+abbrev pub Explains : Task → Option (List ℕ) → Option (List ℕ) → ℕ → ℕ → Option (List ℕ) → Option (List ℕ) → ℕ → ℕ → Option ℕ → ℕ → ℕ → Outcome → Type 0
+Explains task left left' reads reads' held held' writes writes' clock asks asks' outcome.Done =
+    Writes task clock left close.Well held held' × (ReadsInput task → IsAtEnd left')
+Explains task left left' reads reads' held held' writes writes' clock asks asks' (outcome.PascalFault kind) =
+    Writes task clock left (close.Faulted kind) held held' × (ReadsInput task → IsAtEnd left')
+Explains task left left' reads reads' held held' writes writes' clock asks asks' outcome.ClockFault =
+    Writes task clock left close.ByClock held held' × (ReadsInput task → IsAtEnd left') × Rose asks asks'
+Explains task left left' reads reads' held held' writes writes' clock asks asks' (outcome.Refused refusal words) =
     IfSome left (Refuses refusal) × (words ≡ refusal_line refusal) × IsQuiet held held' writes writes' × ReadsInput task
-Explains task left left' reads reads' held held' writes writes' outcome.ReadFault =
+Explains task left left' reads reads' held held' writes writes' clock asks asks' outcome.ReadFault =
     Rose reads reads' × IsQuiet held held' writes writes' × ReadsInput task
-Explains task left left' reads reads' held held' writes writes' outcome.WriteFault =
-    Rose writes writes' × WritesPrefix task left held held'
-Explains task left left' reads reads' held held' writes writes' outcome.Memory = IsQuiet held held' writes writes'
+Explains task left left' reads reads' held held' writes writes' clock asks asks' outcome.WriteFault =
+    Rose writes writes' × WritesPrefix task clock left held held'
+Explains task left left' reads reads' held held' writes writes' clock asks asks' outcome.Memory = IsQuiet held held' writes writes'

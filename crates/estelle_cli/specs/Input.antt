@@ -1,5 +1,5 @@
 -- Which inputs are specifications, and which are refused.
-use Rattle.std.specs.Prelude.{◌≡◌, ℕ, ◌<◌, ◌≤◌, false, IsTrue, List, length, Option, IfSome}
+use Rattle.std.specs.Prelude.{◌≡◌, ℕ, ◌<◌, ◌≤◌, List, length, Option, IfSome}
 use Rattle.std.specs.Io.KnownBytes.{Consumes}
 use Rattle.outside.specs.Counts.{Rose}
 use Rattle.estelle_tree.specs.declared.token.Placed.{Placed}
@@ -10,10 +10,9 @@ use Rattle.estelle_lexer.specs.Place.{line_of, column_of}
 use Rattle.scope_rules.specs.declared.refusal.Breach.{Breach}
 use Rattle.scope_rules.specs.Least.{IsLeast}
 use Rattle.spec_accept.specs.Rules.{RuleBroken}
-use Rattle.run_forms.specs.Forms.{is_built}
 use Rattle.estelle_cli.specs.declared.outcome.Place.{Place}
 use Rattle.estelle_cli.specs.declared.outcome.Refusal.{Refusal}
-use Rattle.estelle_cli.specs.declared.outcome.Refusal.TheVariants.{TooLong, Bytes, TextAfterEnd, Syntax, NotBuilt, Rule}
+use Rattle.estelle_cli.specs.declared.outcome.Refusal.TheVariants.{TooLong, Bytes, TextAfterEnd, Syntax, Rule}
 use Rattle.estelle_cli.specs.declared.outcome.Stop.{Stop}
 use Rattle.estelle_cli.specs.declared.outcome.Stop.TheVariants as stop
 
@@ -34,10 +33,9 @@ pub record IsTextOf (input : List ℕ) (spec : Spec) : Type 0 where
   pub read : HasTokens input tokens
   pub spells : Spells spec tokens
 
--- and that has the forms that are run, and breaks no rule
+-- and that breaks no rule
 pub record Reads (input : List ℕ) (spec : Spec) : Type 0 where
   pub text : IsTextOf input spec
-  pub form : IsTrue (is_built spec)
   pub kept : (b : Breach) → RuleBroken spec b → ⊥
 
 -- ---- refusals
@@ -71,17 +69,10 @@ pub record HasNoTree (input : List ℕ) (p : Place) : Type 0 where
   pub inside : at ≤ length input
   pub place : p ≡ place_of input at
 
--- the specification has a form that is not run
-pub record HasOtherForm (input : List ℕ) : Type 0 where
-  pub spec : Spec
-  pub text : IsTextOf input spec
-  pub form : is_built spec ≡ false
-
--- the specification has the forms that are run, and this is the least rule that it breaks, at the place where the first node that breaks it begins
+-- this is the least rule that the specification breaks, at the place where the first node that breaks it begins
 pub record BreaksRule (input : List ℕ) (number : ℕ) (p : Place) : Type 0 where
   pub spec : Spec
   pub text : IsTextOf input spec
-  pub form : IsTrue (is_built spec)
   pub breach : Breach
   pub least : IsLeast (RuleBroken spec) breach
   pub rule : breach.number ≡ number
@@ -93,7 +84,6 @@ Refuses TooLong input = input_limit < length input
 Refuses (Bytes p) input = HasNoTokens input p
 Refuses (TextAfterEnd p) input = HasTextAfterEnd input p
 Refuses (Syntax p) input = HasNoTree input p
-Refuses NotBuilt input = HasOtherForm input
 Refuses (Rule number p) input = BreaksRule input number p
 
 -- one refusal, the place of an error of syntax aside

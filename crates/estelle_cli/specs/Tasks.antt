@@ -11,11 +11,10 @@ use Rattle.estelle_cli.specs.declared.task.Task.TheVariants.{Run, Check, Show, M
 abbrev pub limits_of : Settings → Limits
 limits_of set = record { turns = set.turns; budget = set.budget }
 
--- a run without a seed and without workers is built
+-- a run without workers is built
 abbrev pub run_by : Option ℕ → ℕ → Limits → Option Task
-run_by None zero limits = Some (Run limits)
-run_by None (suc n) limits = None
-run_by (Some seed) workers limits = None
+run_by seed zero limits = Some (Run limits seed)
+run_by seed (suc n) limits = None
 
 abbrev pub task_by : Command → Settings → Option Task
 task_by command.Run set = run_by set.seed set.workers (limits_of set)
@@ -35,14 +34,21 @@ asked words = option_and_then task_of (meaning words)
 
 -- it is done with the input
 abbrev pub ReadsInput : Task → Type 0
-ReadsInput (Run limits) = ⊤
+ReadsInput (Run limits seed) = ⊤
 ReadsInput Check = ⊤
 ReadsInput Show = ⊤
 ReadsInput (Make n) = ⊥
 
+-- something is run for it
+abbrev pub Runs : Task → Type 0
+Runs (Run limits seed) = ⊤
+Runs Check = ⊥
+Runs Show = ⊥
+Runs (Make n) = ⊥
+
 -- a run has up to 1,000,000 firings of up to 100,000,000 units each, and a ring has 2 to 200 stations
 abbrev pub IsInRange : Task → Type 0
-IsInRange (Run limits) = (limits.turns ≤ 1000000) × (limits.budget ≤ 100000000)
+IsInRange (Run limits seed) = (limits.turns ≤ 1000000) × (limits.budget ≤ 100000000)
 IsInRange Check = ⊤
 IsInRange Show = ⊤
 IsInRange (Make n) = (2 ≤ n) × (n ≤ 200)

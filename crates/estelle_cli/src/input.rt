@@ -1,20 +1,21 @@
 //! Reads the input as a specification.
 
-ghost use Rattle.std.specs.Prelude.{◌≡◌, ◌<◌, ◌≤◌, ◌+◌, ◌^◌, length, All, IsTrue, IfOk, OnOk, IfErr, IfSome};
+ghost use Rattle.std.specs.Prelude.{◌≡◌, ◌<◌, ◌≤◌, ◌+◌, ◌^◌, length, All, IfOk, OnOk, IfErr, IfSome};
 ghost use Rattle.std.specs.Io.KnownBytes.{Consumes, IsAtEnd};
 ghost use Rattle.outside.specs.Counts.{Rose};
 ghost use Rattle.estelle_tree.specs.Lexed.{FollowOneAnother};
 ghost use Rattle.estelle_lexer.specs.Tokens.{IsPlacedToken};
-ghost use Rattle.run_forms.specs.Forms.{is_built};
+ghost use Rattle.estelle_model_legality.specs.Instances.{LeadsToStates};
+ghost use Rattle.situation.specs.Runs.{subject};
 ghost use Rattle.estelle_cli.specs.Input.{Reads, HasTokens, IsTextOf, Misses, HasStopped, TakesAtMost, place_of, input_limit};
 
 use crate::outcome::{Place, Refusal, Stop};
+use accepted_states::accepted_lead_to_states;
 use estelle_lexer::place::line_and_column;
 use estelle_lexer::{LexError, Tokens, blank_to_end, tokens};
 use estelle_parser::{SyntaxError, parse};
 use estelle_tree::Spec;
 use outside::Source;
-use run_forms::is_built;
 use scope_rules::Refusal as RuleRefusal;
 use spec_accept::{Checked, accept};
 use std::alloc::Global;
@@ -94,15 +95,12 @@ fn tree(alloc: Global, bytes: &[u8]) -> Result<Spec, Stop>
     }
 }
 
-/// Judges the specification that a text spells: by its form, and by the rules.
+/// Judges the specification that a text spells by the rules.
 fn judged(alloc: Global, bytes: &[u8], spec: Spec) -> Result<Checked, Stop>
     requires { IsTextOf bytes.now spec }
     ensures found { IfOk result (λ checked. Reads bytes.now checked.spec) }
     ensures cause { IfErr result (Misses bytes.now) }
 {
-    if !is_built(&spec) {
-        return Err(Stop::Refused(Refusal::NotBuilt));
-    }
     match accept(alloc, spec) {
         Ok(checked) => Ok(checked),
         Err(RuleRefusal::Rule { number, span }) => {
@@ -116,8 +114,10 @@ fn judged(alloc: Global, bytes: &[u8], spec: Spec) -> Result<Checked, Stop>
 /// Reads a text as a specification.
 fn parsed(alloc: Global, bytes: &[u8]) -> Result<Checked, Stop>
     ensures found { IfOk result (λ checked. Reads bytes.now checked.spec) }
+    ensures leads { IfOk result (λ checked. LeadsToStates (subject checked.spec checked.names)) }
     ensures cause { IfErr result (Misses bytes.now) }
 {
+    accepted_lead_to_states();
     if bytes.len() > LIMIT {
         return Err(Stop::Refused(Refusal::TooLong));
     }
@@ -128,7 +128,7 @@ fn parsed(alloc: Global, bytes: &[u8]) -> Result<Checked, Stop>
 /// Reads the input as a specification.
 pub fn load<S: Source>(alloc: Global, source: &mut S) -> Result<Checked, Stop>
     ensures found { IfOk result (λ checked. IfSome (S.left source.old) (λ input. Reads input checked.spec)) }
-    ensures form { IfOk result (λ checked. IsTrue (is_built checked.spec)) }
+    ensures leads { IfOk result (λ checked. LeadsToStates (subject checked.spec checked.names)) }
     ensures end { OnOk result (IsAtEnd (S.left source.new)) }
     ensures stops { TakesAtMost (input_limit + 1) (S.left source.old) (S.left source.new) }
     ensures later { S.faults source.old ≤ S.faults source.new }

@@ -27,7 +27,6 @@ pub fn refusal_line(alloc: Global, refusal: Refusal) -> Result<Text, AllocError>
     let mut out = Vec::new(alloc);
     match refusal {
         Refusal::TooLong => put(&mut out, b"estelle: too long\n")?,
-        Refusal::NotBuilt => put(&mut out, b"estelle: form not built\n")?,
         Refusal::Bytes(place) => {
             put(&mut out, b"estelle: bytes ")?;
             put_place(alloc, &mut out, place)?;

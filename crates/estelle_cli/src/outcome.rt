@@ -25,8 +25,6 @@ pub enum Refusal {
     TextAfterEnd(Place),
     /// The grammar does not go on with what stands there.
     Syntax(Place),
-    /// It has a form that is not run yet.
-    NotBuilt,
     /// This is the least rule that is broken, and the first node that breaks it begins there.
     Rule { number: u8, place: Place },
 }
@@ -47,11 +45,22 @@ impl From<AllocError> for Stop {
     }
 }
 
+/// How a task was done whose output is to be written.
+#[derive(Clone, Copy, Debug, PartialEq, Eq)]
+pub enum Close {
+    Well,
+    /// This fault ended the run.
+    Faulted(Fault),
+    /// The clock failed, which ended the run.
+    ByClock,
+}
+
 /// How a call with meaningful words ended, with what its line says.
 #[derive(Debug, Drop)]
 pub enum Outcome {
     Done,
     PascalFault(Fault),
+    ClockFault,
     /// With the line for err.
     Refused(Refusal, Text),
     ReadFault,

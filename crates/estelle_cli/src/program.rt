@@ -1,31 +1,31 @@
 //! The program on one thread.
 
-ghost use Rattle.std.specs.Prelude.{◌≡◌, ◌≢◌, ◌≤◌, ◌+◌, List, ℕ, None, Some, IfSome, IsSomeAnd, IsNone, IfOk, OnOk, IfErr, IsTrue};
+ghost use Rattle.std.specs.Prelude.{◌≡◌, ◌≤◌, ◌+◌, List, Option, ℕ, Some, IfSome, IsSomeAnd, IsNone, IfOk, OnOk, IfErr};
 ghost use Rattle.std.specs.Io.KnownBytes.{IsAtEnd};
 ghost use Rattle.outside.specs.Counts.{Rose};
+ghost use Rattle.outside.specs.Choices.{any_drawn};
 ghost use Rattle.pascal_values.specs.declared.fault.Fault.{Fault};
 ghost use Rattle.estelle_tree.specs.declared.tree.specification.Spec.{Spec};
+ghost use Rattle.estelle_model.specs.declared.event.End.TheVariants.{Clock as ByClock};
+ghost use Rattle.estelle_model_legality.specs.Instances.{LeadsToStates};
 ghost use Rattle.estelle_words.specs.Words.{texts};
 ghost use Rattle.estelle_cli.specs.declared.outcome.Refusal.{Refusal};
+ghost use Rattle.estelle_cli.specs.declared.outcome.Close.TheVariants as close;
 ghost use Rattle.estelle_cli.specs.declared.task.Task.TheVariants as task;
 ghost use Rattle.estelle_cli.specs.declared.outcome.Stop.TheVariants as stop;
-ghost use Rattle.estelle_cli.specs.Tasks.{asked, ReadsInput, IsInRange};
+ghost use Rattle.estelle_cli.specs.Tasks.{asked, ReadsInput, Runs, IsInRange};
 ghost use Rattle.estelle_cli.specs.Input.{Reads, Refuses, TakesAtMost, HasStopped, input_limit};
-ghost use Rattle.estelle_cli.specs.Answers.{IsTrace, IsMade, IsOutput, Writes, WritesPrefix, IsQuiet, Reports, usage_line, refusal_line, read_fault_line, write_fault_line, memory_line, fault_line, IsFinished, HasNoOutput, MayRefuse, MayFinish, MayBeUsage, NeedsInput, HasFailed, Emits, IsRefusedOr, Explains};
-ghost use Rattle.run_forms.specs.Forms.{is_built};
-ghost use Rattle.run_forms.specs.Laws.{subject};
-ghost use Rattle.situation.specs.Runs.{IsStopped, IsClockless};
+ghost use Rattle.estelle_cli.specs.Answers.{chooser_by, accepted_line, IsTrace, EndsWith, IsAccepted, IsShown, IsMade, IsOutput, Writes, WritesPrefix, IsQuiet, Reports, usage_line, refusal_line, read_fault_line, write_fault_line, clock_fault_line, memory_line, fault_line, IsFinished, HasNoOutput, MayRefuse, MayFinish, MayBeUsage, NeedsInput, HasFailed, Emits, IsRefusedOr, Explains};
+ghost use Rattle.situation.specs.Runs.{subject, IsStopped};
 
 use crate::input::load;
 use crate::lines::{fault_line, refusal_line};
-use crate::outcome::{Outcome, Refusal, Status, Stop};
+use crate::outcome::{Close, Outcome, Refusal, Status, Stop};
 use crate::task::{Task, asked};
 use estelle_model::{End, Run};
 use estelle_printer::spell;
 use estelle_tree::Text;
-use outside::{Clock, Sink, Source, write_all};
-use pascal_values::Fault;
-use run_forms::is_one_system;
+use outside::{AnyChooser, Clock, FirstChooser, SeedChooser, Sink, Source, write_all};
 use situation::{Limits, execute};
 use spec_accept::Checked;
 use spec_maker::make;
@@ -39,56 +39,98 @@ fn report<E: Sink>(err: &mut E, line: &[u8])
     let _ = write_all(err, line);
 }
 
-/// Runs an accepted specification to its end. That it is one system is tested before.
-fn executed(alloc: Global, checked: &Checked, limits: Limits) -> Result<(Run, End), AllocError>
-    requires form { IsTrue (is_built checked.now.spec) }
-    requires range { IsInRange (task.Run limits) }
-    ensures { IfOk result (λ r. IsStopped (subject checked.now.spec checked.now.names) limits.budget limits.turns r.0.events r.1) }
+/// The chooser of a run.
+fn chooser_by(seed: Option<u64>) -> AnyChooser
+    ensures { result ≡ chooser_by seed }
 {
-    if !is_one_system(alloc, &checked.spec, &checked.names)? {
-        return Err(AllocError);
+    match seed {
+        None => AnyChooser::First(FirstChooser),
+        Some(seed) => AnyChooser::Seeded(SeedChooser::new(seed)),
     }
-    execute(alloc, &checked.spec, &checked.names, limits)
+}
+
+/// Runs an accepted specification to its end.
+fn executed<C: Clock>(
+    alloc: Global,
+    checked: &Checked,
+    limits: Limits,
+    seed: Option<u64>,
+    clock: &mut C,
+) -> Result<(Run, End), AllocError>
+    requires leads { LeadsToStates (subject checked.now.spec checked.now.names) }
+    requires range { IsInRange (task.Run limits seed) }
+    ensures stopped { IfOk result (λ r. IsStopped any_drawn (chooser_by seed) (C.moment clock.old) (subject checked.now.spec checked.now.names) limits.budget limits.turns r.0.events r.1) }
+    ensures cause { IfOk result (λ r. r.1 ≡ ByClock → Rose (C.faults clock.old) (C.faults clock.new)) }
+    ensures later { C.faults clock.old ≤ C.faults clock.new }
+{
+    execute(
+        alloc,
+        &checked.spec,
+        &checked.names,
+        limits,
+        clock,
+        chooser_by(seed),
+    )
 }
 
 /// Reads and runs the input, and gives the trace and its end.
-fn traced<S: Source>(alloc: Global, limits: Limits, source: &mut S) -> Result<(Text, End), Stop>
-    requires { IsInRange (task.Run limits) }
-    ensures trace { IfOk result (λ x. IsTrace limits (S.left source.old) x.1 x.0) }
-    ensures clockless { IfOk result (λ x. IsClockless x.1) }
+fn traced<S: Source, C: Clock>(
+    alloc: Global,
+    limits: Limits,
+    seed: Option<u64>,
+    source: &mut S,
+    clock: &mut C,
+) -> Result<(Text, End), Stop>
+    requires { IsInRange (task.Run limits seed) }
+    ensures trace { IfOk result (λ x. IsTrace limits seed (C.moment clock.old) (S.left source.old) x.1 x.0) }
+    ensures by_clock { IfOk result (λ x. x.1 ≡ ByClock → Rose (C.faults clock.old) (C.faults clock.new)) }
+    ensures later { C.faults clock.old ≤ C.faults clock.new }
     ensures end { OnOk result (IsAtEnd (S.left source.new)) }
     ensures stops { TakesAtMost (input_limit + 1) (S.left source.old) (S.left source.new) }
     ensures cause { IfErr result (HasStopped (S.left source.old) (S.faults source.old) (S.faults source.new)) }
 {
     let checked = load(alloc, source)?;
-    let (run, end) = executed(alloc, &checked, limits)?;
+    let (run, end) = executed(alloc, &checked, limits, seed, clock)?;
     let text = write(alloc, &run, end)?;
     Ok((text, end))
 }
 
-/// The same, with the fault with which the run ended, if it did.
-fn ran<S: Source>(
+/// How a run was done that ended so.
+fn close_by(end: End) -> Close
+    ensures { EndsWith result end }
+{
+    match end {
+        End::Dead | End::Turns => Close::Well,
+        End::Clock => Close::ByClock,
+        End::Faulted(kind) => Close::Faulted(kind),
+    }
+}
+
+/// The same, with how the run was done.
+fn ran<S: Source, C: Clock>(
     alloc: Global,
     limits: Limits,
+    seed: Option<u64>,
     source: &mut S,
-) -> Result<(Text, Option<Fault>), Stop>
-    requires { IsInRange (task.Run limits) }
-    ensures output { IfOk result (λ x. IsOutput (task.Run limits) (S.left source.old) x.1 x.0) }
+    clock: &mut C,
+) -> Result<(Text, Close), Stop>
+    requires { IsInRange (task.Run limits seed) }
+    ensures output { IfOk result (λ x. IsOutput (task.Run limits seed) (C.moment clock.old) (S.left source.old) x.1 x.0) }
+    ensures by_clock { IfOk result (λ x. x.1 ≡ close.ByClock → Rose (C.faults clock.old) (C.faults clock.new)) }
+    ensures later { C.faults clock.old ≤ C.faults clock.new }
     ensures end { OnOk result (IsAtEnd (S.left source.new)) }
     ensures stops { TakesAtMost (input_limit + 1) (S.left source.old) (S.left source.new) }
     ensures cause { IfErr result (HasStopped (S.left source.old) (S.faults source.old) (S.faults source.new)) }
 {
-    let (text, end) = traced(alloc, limits, source)?;
-    match end {
-        End::Faulted(kind) => Ok((text, Some(kind))),
-        End::Dead | End::Turns => Ok((text, None)),
-        End::Clock => unreachable!(),
-    }
+    let (text, end) = traced(alloc, limits, seed, source, clock)?;
+    Ok((text, close_by(end)))
 }
 
 /// Reads the input, and says that it is accepted.
-fn accepted<S: Source>(alloc: Global, source: &mut S) -> Result<(Text, Option<Fault>), Stop>
-    ensures output { IfOk result (λ x. IsOutput task.Check (S.left source.old) x.1 x.0) }
+fn accepted<S: Source>(alloc: Global, source: &mut S) -> Result<(Text, Close), Stop>
+    ensures close { IfOk result (λ x. x.1 ≡ close.Well) }
+    ensures accepted { IfOk result (λ x. IsAccepted (S.left source.old)) }
+    ensures text { IfOk result (λ x. x.0 ≡ accepted_line) }
     ensures end { OnOk result (IsAtEnd (S.left source.new)) }
     ensures stops { TakesAtMost (input_limit + 1) (S.left source.old) (S.left source.new) }
     ensures cause { IfErr result (HasStopped (S.left source.old) (S.faults source.old) (S.faults source.new)) }
@@ -96,48 +138,53 @@ fn accepted<S: Source>(alloc: Global, source: &mut S) -> Result<(Text, Option<Fa
     let _checked = load(alloc, source)?;
     let mut line = Vec::new(alloc);
     put(&mut line, b"accepted\n")?;
-    Ok((Text::of(line), None))
+    Ok((Text::of(line), Close::Well))
 }
 
 /// Reads the input, and gives its canonical text.
-fn shown<S: Source>(alloc: Global, source: &mut S) -> Result<(Text, Option<Fault>), Stop>
-    ensures output { IfOk result (λ x. IsOutput task.Show (S.left source.old) x.1 x.0) }
+fn shown<S: Source>(alloc: Global, source: &mut S) -> Result<(Text, Close), Stop>
+    ensures close { IfOk result (λ x. x.1 ≡ close.Well) }
+    ensures text { IfOk result (λ x. IsShown (S.left source.old) x.0) }
     ensures end { OnOk result (IsAtEnd (S.left source.new)) }
     ensures stops { TakesAtMost (input_limit + 1) (S.left source.old) (S.left source.new) }
     ensures cause { IfErr result (HasStopped (S.left source.old) (S.faults source.old) (S.faults source.new)) }
 {
     let checked = load(alloc, source)?;
     let text = spell(alloc, &checked.spec)?;
-    Ok((text, None))
+    Ok((text, Close::Well))
 }
 
 /// Gives the canonical text of the ring of n stations.
-fn made(alloc: Global, n: u32) -> Result<(Text, Option<Fault>), Stop>
+fn made(alloc: Global, n: u32) -> Result<(Text, Close), Stop>
     requires { IsInRange (task.Make n) }
-    ensures fault { IfOk result (λ x. x.1 ≡ None) }
+    ensures close { IfOk result (λ x. x.1 ≡ close.Well) }
     ensures text { IfOk result (λ x. IsMade n x.0) }
     ensures cause { IfErr result (λ e. e ≡ stop.Memory) }
 {
     let spec = make(alloc, n)?;
     let text = spell(alloc, &spec)?;
-    Ok((text, None))
+    Ok((text, Close::Well))
 }
 
-/// Does the task, and gives what is to be written, with the fault with which a run ended, if it did.
-fn output<S: Source>(
+/// Does the task, and gives what is to be written, with how it was done.
+fn output<S: Source, C: Clock>(
     alloc: Global,
     task: Task,
     source: &mut S,
-) -> Result<(Text, Option<Fault>), Stop>
+    clock: &mut C,
+) -> Result<(Text, Close), Stop>
     requires { IsInRange task }
-    ensures output { IfOk result (λ x. IsOutput task (S.left source.old) x.1 x.0) }
+    ensures output { IfOk result (λ x. IsOutput task (C.moment clock.old) (S.left source.old) x.1 x.0) }
+    ensures by_clock { IfOk result (λ x. x.1 ≡ close.ByClock → Rose (C.faults clock.old) (C.faults clock.new)) }
+    ensures later { C.faults clock.old ≤ C.faults clock.new }
+    ensures unasked { (Runs task → ⊥) → clock.new ≡ clock.old }
     ensures end { OnOk result (ReadsInput task → IsAtEnd (S.left source.new)) }
     ensures stops { TakesAtMost (input_limit + 1) (S.left source.old) (S.left source.new) }
     ensures idle { (ReadsInput task → ⊥) → source.new ≡ source.old }
     ensures cause { IfErr result (HasFailed task (S.left source.old) (S.faults source.old) (S.faults source.new)) }
 {
     match task {
-        Task::Run(limits) => ran(alloc, limits, source),
+        Task::Run { limits, seed } => ran(alloc, limits, seed, source, clock),
         Task::Check => accepted(alloc, source),
         Task::Show => shown(alloc, source),
         Task::Make(n) => made(alloc, n),
@@ -145,14 +192,15 @@ fn output<S: Source>(
 }
 
 /// Writes an output.
-fn emit<K: Sink>(out: &mut K, text: &Text, fault: Option<Fault>) -> Outcome
-    ensures { Emits text.now fault (K.held out.old) (K.held out.new) (K.faults out.old) (K.faults out.new) result }
+fn emit<K: Sink>(out: &mut K, text: &Text, close: Close) -> Outcome
+    ensures { Emits text.now close (K.held out.old) (K.held out.new) (K.faults out.old) (K.faults out.new) result }
 {
     match write_all(out, text.items()) {
         Err(_) => Outcome::WriteFault,
-        Ok(()) => match fault {
-            Some(kind) => Outcome::PascalFault(kind),
-            None => Outcome::Done,
+        Ok(()) => match close {
+            Close::Well => Outcome::Done,
+            Close::Faulted(kind) => Outcome::PascalFault(kind),
+            Close::ByClock => Outcome::ClockFault,
         },
     }
 }
@@ -167,15 +215,24 @@ fn refused(alloc: Global, refusal: Refusal) -> Outcome
 }
 
 /// Does the task and writes. The line for err is left to the caller.
-fn perform<S: Source, K: Sink>(alloc: Global, task: Task, source: &mut S, out: &mut K) -> Outcome
+fn perform<S: Source, K: Sink, C: Clock>(
+    alloc: Global,
+    task: Task,
+    source: &mut S,
+    out: &mut K,
+    clock: &mut C,
+) -> Outcome
     requires { IsInRange task }
     ensures explains { Explains task (S.left source.old) (S.left source.new) (S.faults source.old) (S.faults source.new)
-        (K.held out.old) (K.held out.new) (K.faults out.old) (K.faults out.new) result }
+        (K.held out.old) (K.held out.new) (K.faults out.old) (K.faults out.new)
+        (C.moment clock.old) (C.faults clock.old) (C.faults clock.new) result }
+    ensures later { C.faults clock.old ≤ C.faults clock.new }
+    ensures unasked { (Runs task → ⊥) → clock.new ≡ clock.old }
     ensures stops { TakesAtMost (input_limit + 1) (S.left source.old) (S.left source.new) }
     ensures idle { (ReadsInput task → ⊥) → source.new ≡ source.old }
 {
-    match output(alloc, task, source) {
-        Ok((text, fault)) => emit(out, &text, fault),
+    match output(alloc, task, source, clock) {
+        Ok((text, close)) => emit(out, &text, close),
         Err(Stop::Refused(refusal)) => refused(alloc, refusal),
         Err(Stop::ReadFault) => Outcome::ReadFault,
         Err(Stop::Memory) => Outcome::Memory,
@@ -194,17 +251,24 @@ pub fn estelle_plain<S: Source, K: Sink, E: Sink, C: Clock>(
     clock: C,
 ) -> (Status, C)
     // Status 0: what was written is what the words ask for. For `run` that is the trace of a run of the specification that the
-    // source had left, from its initial situation on, which ended deadlocked or at the limit of firings; for `check` it is the
-    // line `accepted`, and for `show` the canonical text, of a specification that keeps all rules; for `make` it is the canonical
-    // text of the ring.
+    // source had left, from its initial situation on, which ended deadlocked or at the limit of firings, and which is scheduled by
+    // the seed of the words and by what the clock told; for `check` it is the line `accepted`, and for `show` the canonical text,
+    // of a specification that keeps all rules; for `make` it is the canonical text of the ring.
     ensures done { result.0 ≡ Status.Done → IfSome (asked (texts words.now))
-        (λ task. Writes task (S.left source.old) None (K.held out.old) (K.held out.new)) }
+        (λ task. Writes task (C.moment clock) (S.left source.old) close.Well (K.held out.old) (K.held out.new)) }
     ensures done_line { result.0 ≡ Status.Done → err.new ≡ err.old }
 
     // Status 7: it is the trace of such a run, which ended at the fault that its last line names.
     ensures pascal_fault { result.0 ≡ Status.PascalFault → (kind : Fault)
-        × IfSome (asked (texts words.now)) (λ task. Writes task (S.left source.old) (Some kind) (K.held out.old) (K.held out.new))
+        × IfSome (asked (texts words.now)) (λ task. Writes task (C.moment clock) (S.left source.old) (close.Faulted kind) (K.held out.old) (K.held out.new))
         × Reports (E.held err.old) (E.held err.new) (E.faults err.old) (E.faults err.new) (fault_line kind) }
+
+    // Status 5: it is the trace of such a run, which ended since the clock failed.
+    ensures clock_fault { result.0 ≡ Status.ClockFault → IfSome (asked (texts words.now))
+        (λ task. Writes task (C.moment clock) (S.left source.old) close.ByClock (K.held out.old) (K.held out.new)) }
+    ensures clock_fault_cause { result.0 ≡ Status.ClockFault → Rose (C.faults clock) (C.faults result.1) }
+    ensures clock_fault_line { result.0 ≡ Status.ClockFault
+        → Reports (E.held err.old) (E.held err.new) (E.faults err.old) (E.faults err.new) clock_fault_line }
 
     // The input is read to its end, unless the words ask for something without an input: then nothing is read.
     ensures read_whole { IsFinished result.0
@@ -220,8 +284,7 @@ pub fn estelle_plain<S: Source, K: Sink, E: Sink, C: Clock>(
     ensures usage_reads_nothing { IsNone (asked (texts words.now)) → source.new ≡ source.old }
 
     // Status 1: the input is too long, or has a byte with which no token begins, or text behind `end.`, or no
-    // specification spells its tokens, or that has a form that is not run yet, or breaks a static rule; and such an
-    // input is refused.
+    // specification spells its tokens, or that breaks a static rule; and such an input is refused.
     ensures refused { result.0 ≡ Status.Refused → (refusal : Refusal) × IfSome (S.left source.old) (Refuses refusal)
         × Reports (E.held err.old) (E.held err.new) (E.faults err.old) (E.faults err.new) (refusal_line refusal) }
     ensures refuses { (refusal : Refusal) (input : List ℕ) → IsSomeAnd (asked (texts words.now)) ReadsInput
@@ -235,7 +298,7 @@ pub fn estelle_plain<S: Source, K: Sink, E: Sink, C: Clock>(
     // Status 4: out has failed, and has taken a prefix of what was to be written.
     ensures write_fault { result.0 ≡ Status.WriteFault → Rose (K.faults out.old) (K.faults out.new) }
     ensures write_fault_prefix { result.0 ≡ Status.WriteFault → IfSome (asked (texts words.now))
-        (λ task. WritesPrefix task (S.left source.old) (K.held out.old) (K.held out.new)) }
+        (λ task. WritesPrefix task (C.moment clock) (S.left source.old) (K.held out.old) (K.held out.new)) }
     ensures write_fault_line { result.0 ≡ Status.WriteFault
         → Reports (E.held err.old) (E.held err.new) (E.faults err.old) (E.faults err.new) write_fault_line }
 
@@ -246,21 +309,23 @@ pub fn estelle_plain<S: Source, K: Sink, E: Sink, C: Clock>(
     // Without an output nothing is written to out.
     ensures quiet { HasNoOutput result.0 → IsQuiet (K.held out.old) (K.held out.new) (K.faults out.old) (K.faults out.new) }
 
-    // Where neither the source nor out fails, the task is done with a specification of the forms that are run which keeps all
-    // rules, or without an input, unless memory runs out.
+    // Where neither the source nor out nor the clock fails, the task is done with a specification that keeps all rules, or without
+    // an input, unless memory runs out.
     ensures complete { (input : List ℕ) (t : Spec) → IsSomeAnd (asked (texts words.now)) ReadsInput
         → S.left source.old ≡ Some input → Reads input t → (Rose (S.faults source.old) (S.faults source.new) → ⊥)
-        → (Rose (K.faults out.old) (K.faults out.new) → ⊥) → MayFinish result.0 }
+        → (Rose (K.faults out.old) (K.faults out.new) → ⊥) → (Rose (C.faults clock) (C.faults result.1) → ⊥) → MayFinish result.0 }
     ensures complete_alone { IsSomeAnd (asked (texts words.now)) (λ task. ReadsInput task → ⊥)
         → (Rose (K.faults out.old) (K.faults out.new) → ⊥) → MayFinish result.0 }
 
     // No more than one byte beyond the limit is read.
     ensures stops { TakesAtMost (input_limit + 1) (S.left source.old) (S.left source.new) }
 
-    // The clock is not asked.
-    ensures clock { result.1 ≡ clock }
-    ensures no_clock_fault { result.0 ≢ Status.ClockFault }
+    // The clock's count of faults never falls, and the clock is asked for a run alone.
+    ensures clock_later { C.faults clock ≤ C.faults result.1 }
+    ensures unasked { IsNone (asked (texts words.now)) → result.1 ≡ clock }
+    ensures unasked_alone { IsSomeAnd (asked (texts words.now)) (λ task. Runs task → ⊥) → result.1 ≡ clock }
 {
+    let mut clock = clock;
     let task = match asked(alloc, words) {
         Ok(Some(task)) => task,
         Ok(None) => {
@@ -272,11 +337,15 @@ pub fn estelle_plain<S: Source, K: Sink, E: Sink, C: Clock>(
             return (Status::Memory, clock);
         }
     };
-    match perform(alloc, task, source, out) {
+    match perform(alloc, task, source, out, &mut clock) {
         Outcome::Done => (Status::Done, clock),
         Outcome::PascalFault(kind) => {
             report(err, fault_line(kind));
             (Status::PascalFault, clock)
+        }
+        Outcome::ClockFault => {
+            report(err, b"estelle: clock fault\n");
+            (Status::ClockFault, clock)
         }
         Outcome::Refused(_, line) => {
             report(err, line.items());

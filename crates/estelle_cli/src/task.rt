@@ -11,8 +11,8 @@ use std::alloc::{AllocError, Global};
 /// What is done.
 #[derive(Clone, Copy, Debug, PartialEq, Eq)]
 pub enum Task {
-    /// The input is run, and the trace of its run is written.
-    Run(Limits),
+    /// The input is run, and the trace of its run is written. Choices are those of the seed, or the first candidates.
+    Run { limits: Limits, seed: Option<u64> },
     /// The rules of the input are judged.
     Check,
     /// The rules of the input are judged, and its canonical text is written.
@@ -26,11 +26,14 @@ fn task_of(settings: Settings) -> Option<Task>
     ensures { result ≡ task_of settings }
 {
     match settings.command {
-        Command::Run => match (settings.seed, settings.workers) {
-            (None, 0) => Some(Task::Run(Limits {
-                turns: settings.turns,
-                budget: settings.budget,
-            })),
+        Command::Run => match settings.workers {
+            0 => Some(Task::Run {
+                limits: Limits {
+                    turns: settings.turns,
+                    budget: settings.budget,
+                },
+                seed: settings.seed,
+            }),
             _ => None,
         },
         Command::Check => Some(Task::Check),

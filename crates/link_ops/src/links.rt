@@ -6,6 +6,7 @@ ghost use Rattle.estelle_tree.specs.Links.{joins, is_upper_of, touches, connecti
 ghost use Rattle.link_ops.specs.Linked.{is_bound, AreProper, IsChild};
 ghost use Rattle.link_ops.specs.Pairs as spec;
 
+use crate::asked::LinkTest;
 use crate::pairs::Pairing;
 use crate::points::{Points, Role};
 use crate::{pairs, points};
@@ -195,11 +196,11 @@ impl Links {
         }
     }
 
-    /// Copies of the links, in order.
-    pub fn copies(&self, alloc: Global) -> Result<Vec<Link>, AllocError>
-        ensures { IfOk result (λ links. links.items ≡ self.now.links) }
+    /// Copies of the links that pass, in order. It takes the time of all links, and memory for the copies alone.
+    pub fn copies_of<T: LinkTest>(&self, alloc: Global, test: &T) -> Result<Vec<Link>, AllocError>
+        ensures { IfOk result (λ links. links.items ≡ filter (T.passes test.now) self.now.links) }
     {
-        pairs::copies(alloc, &self.points, &self.pairs)
+        pairs::copies_of(alloc, &self.points, &self.pairs, test)
     }
 
     /// Removes every link with an end at the instance or below it. It takes no memory.

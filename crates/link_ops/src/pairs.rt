@@ -8,6 +8,7 @@ ghost use Rattle.estelle_tree.specs.Paths.{is_inside};
 ghost use Rattle.link_ops.specs.Points as numbers;
 ghost use Rattle.link_ops.specs.Pairs as spec;
 
+use crate::asked::LinkTest;
 use crate::points;
 use crate::points::{Points, Role, find, insert, ip_of, link_of, set_link};
 use estelle_tree::{IpAddr, Link, LinkKind, Path};
@@ -143,36 +144,59 @@ fn copy_point(alloc: Global, points: &Points, number: usize) -> Result<IpAddr, A
     }
 }
 
-/// Adds a copy of a link, if there is one.
-fn push_copy(
+fn copy_link(alloc: Global, points: &Points, pair: Pairing) -> Result<Link, AllocError>
+    ensures { IfOk result (λ copy. copy ≡ spec.link_of points.now pair) }
+{
+    Ok(Link {
+        kind: pair.kind,
+        first: copy_point(alloc, points, pair.first)?,
+        second: copy_point(alloc, points, pair.second)?,
+    })
+}
+
+fn passes<T: LinkTest>(points: &Points, pair: Pairing, test: &T) -> bool
+    requires first { IsSome (numbers.point points.now pair.first) }
+    requires second { IsSome (numbers.point points.now pair.second) }
+    ensures { result ≡ T.passes test.now (spec.link_of points.now pair) }
+{
+    match (ip_of(points, pair.first), ip_of(points, pair.second)) {
+        (Some(first), Some(second)) => test.passes(pair.kind, first, second),
+        _ => false,
+    }
+}
+
+/// Adds a copy of a link, if there is one and it passes.
+fn push_copy<T: LinkTest>(
     alloc: Global,
     points: &Points,
     pair: &Option<Pairing>,
+    test: &T,
     links: &mut Vec<Link>,
 ) -> Result<(), AllocError>
-    ensures { OnOk result (links.new.items ≡ links.old.items ++ spec.seen points.now (pair.now ∷ [])) }
+    requires { (x : Pairing) → pair.now ≡ Some x → IsSome (numbers.point points.now x.first) × IsSome (numbers.point points.now x.second) }
+    ensures { OnOk result (links.new.items ≡ links.old.items ++ filter (T.passes test.now) (spec.seen points.now (pair.now ∷ []))) }
 {
     if let Some(pair) = pair {
-        links.push(Link {
-            kind: pair.kind,
-            first: copy_point(alloc, points, pair.first)?,
-            second: copy_point(alloc, points, pair.second)?,
-        })?;
+        if passes(points, *pair, test) {
+            links.push(copy_link(alloc, points, *pair)?)?;
+        }
     }
     Ok(())
 }
 
-/// Copies of the links, in order.
-pub fn copies(
+/// Copies of the links that pass, in order.
+pub fn copies_of<T: LinkTest>(
     alloc: Global,
     points: &Points,
     pairs: &[Option<Pairing>],
+    test: &T,
 ) -> Result<Vec<Link>, AllocError>
-    ensures { IfOk result (λ links. links.items ≡ spec.seen points.now pairs.now) }
+    requires { spec.Tied points.now pairs.now }
+    ensures { IfOk result (λ links. links.items ≡ filter (T.passes test.now) (spec.seen points.now pairs.now)) }
 {
     let mut links = Vec::new(alloc);
     for pair in pairs {
-        push_copy(alloc, points, pair, &mut links)?;
+        push_copy(alloc, points, pair, test, &mut links)?;
     }
     Ok(links)
 }

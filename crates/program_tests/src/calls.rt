@@ -1,7 +1,7 @@
 //! One call of the program, over devices in memory.
 
 use estelle_cli::{Status, estelle_plain};
-use outside::{MemorySink, MemorySource, VirtualClock};
+use outside::{Clock, MemorySink, MemorySource, VirtualClock};
 use std::alloc::{AllocError, Global};
 
 /// How a device moves bytes.
@@ -48,6 +48,7 @@ pub struct Answer {
     pub bytes_read: usize,
     pub source_calls: u64,
     pub out_calls: u64,
+    /// Where the clock stands.
     pub moment: u64,
 }
 
@@ -96,27 +97,51 @@ fn sink(alloc: Global, device: Device, room: usize) -> Result<MemorySink, AllocE
     })
 }
 
-/// Calls the program with these words on this input.
-pub(crate) fn call(
+/// Calls the program with these words on this input, and with this clock.
+pub(crate) fn call_by<C: Clock + Drop>(
     alloc: Global,
     words: &[&str],
     devices: Devices,
     input: &[u8],
-) -> Result<Answer, AllocError> {
+    clock: C,
+) -> Result<(Answer, C), AllocError> {
     let mut source = source(alloc, devices.source, input)?;
     let mut out = sink(alloc, devices.out, OUT_ROOM)?;
     let mut err = sink(alloc, devices.err, ERR_ROOM)?;
-    let clock = VirtualClock { moment: 7 };
     let (status, clock) = estelle_plain(alloc, words, &mut source, &mut out, &mut err, clock);
-    Ok(Answer {
+    let answer = Answer {
         status,
         out: out.held,
         err: err.held,
         bytes_read: source.at,
         source_calls: source.calls,
         out_calls: out.calls,
-        moment: clock.moment,
-    })
+        moment: 0,
+    };
+    Ok((answer, clock))
+}
+
+/// Calls it with a clock that stands at this moment.
+pub(crate) fn call_at(
+    alloc: Global,
+    words: &[&str],
+    devices: Devices,
+    input: &[u8],
+    moment: u64,
+) -> Result<Answer, AllocError> {
+    let (mut answer, clock) = call_by(alloc, words, devices, input, VirtualClock { moment })?;
+    answer.moment = clock.moment;
+    Ok(answer)
+}
+
+/// Calls it with a clock that stands at the moment 7.
+pub(crate) fn call(
+    alloc: Global,
+    words: &[&str],
+    devices: Devices,
+    input: &[u8],
+) -> Result<Answer, AllocError> {
+    call_at(alloc, words, devices, input, 7)
 }
 
 /// Calls it with the word `run`.

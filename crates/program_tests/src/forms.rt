@@ -1,13 +1,13 @@
 //! Texts that run, and texts that do not.
 
-use crate::calls::{ALL_STEADY, Answer, run};
+use crate::calls::{ALL_STEADY, Answer, call, run};
 use crate::traces::{
     DEADLOCK, FIRING_OVERFLOWS, GUARD_OVERFLOWS, GUARD_UNSET, SECOND_FIRES, TURNS, is_trace,
 };
 use estelle_cli::Status;
 use std::alloc::{AllocError, Global};
 use std::test::Fail;
-use test_texts::WORKED;
+use test_texts::{WORKED, Worked};
 
 /// Each of its words stands in so few places that a row can name the place by a few words.
 const TOTAL: &str = "specification adder systemprocess;
@@ -146,12 +146,12 @@ const RUN: [(&str, &str, u32, &str); 92] = [
 
 /// Texts that are refused: what is replaced, by what, and the line on err behind `estelle: `. The places of errors of
 /// syntax are those of a recognizer of the grammar that was written for this table alone.
-const REFUSED: [(&str, &str, &str); 98] = [
+const REFUSED: [(&str, &str, &str); 96] = [
     // the heading
     ("specification ", "", "syntax 1:1"),
     ("adder ", "", "syntax 1:15"),
     ("adder", "begin", "syntax 1:15"),
-    ("systemprocess", "", "form not built"),
+    ("systemprocess", "", "rule 10 5:1"),
     ("systemprocess;", "systemprocess", "syntax 2:1"),
     // the declarations
     ("var total: integer;\n", "", "rule 2 3:24"),
@@ -280,14 +280,8 @@ const REFUSED: [(&str, &str, &str); 98] = [
         "procedure p; begin release x end;\nstate",
         "rule 2 3:28",
     ),
-    // forms that are not run yet: a delay in any body, whatever its names mean
-    ("from go", "delay(1) from go", "form not built"),
-    ("from go", "delay(k, *) from go", "form not built"),
-    (
-        "var",
-        "module m process; end;\nbody b for m; trans provided true delay(1) begin end; end;\nvar",
-        "form not built",
-    ),
+    // a delay whose names mean nothing
+    ("from go", "delay(k, *) from go", "rule 2 6:7"),
 ];
 
 /// What the text answers with a part of it replaced.
@@ -375,31 +369,21 @@ fn one_transition_more(rt: HostRuntime) -> Result<(), Fail> {
     Ok(())
 }
 
-fn is_not_built(alloc: Global, text: &str) -> Result<bool, AllocError> {
-    let answer = run(alloc, ALL_STEADY, text.as_bytes())?;
-    Ok(answer.refuses("form not built"))
+/// Whether `check` accepts a worked text, or names the rule that the one of them that breaks a rule breaks.
+fn is_judged(alloc: Global, worked: &Worked) -> Result<bool, AllocError> {
+    let answer = call(alloc, &["check"], ALL_STEADY, worked.text.as_bytes())?;
+    Ok(if worked.name == "process_in_activity" {
+        answer.refuses("rule 14 3:8")
+    } else {
+        answer.is(Status::Done, "accepted\n", "")
+    })
 }
 
-/// The worked texts that have a delay, or whose own body is no system.
-const NOT_RUN: [&str; 7] = [
-    "ring",
-    "alternating_bit",
-    "attach_detach",
-    "release",
-    "shared_queue",
-    "delay",
-    "idle",
-];
-
-// Each worked text is read whole, and is refused for its forms where they are not run yet, and only there.
+// Each worked text but one keeps all rules.
 #[test]
-fn worked_texts_are_read(rt: HostRuntime) -> Result<(), Fail> {
+fn worked_texts_are_judged(rt: HostRuntime) -> Result<(), Fail> {
     for worked in &WORKED {
-        assert!(rt;
-            is_not_built(rt.alloc(), worked.text)? == NOT_RUN.contains(&worked.name),
-            "{}",
-            worked.name
-        );
+        assert!(rt; is_judged(rt.alloc(), worked)?, "{}", worked.name);
     }
     Ok(())
 }

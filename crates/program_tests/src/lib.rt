@@ -22,6 +22,8 @@ mod rows;
 #[cfg(test)]
 mod systems;
 #[cfg(test)]
+mod time;
+#[cfg(test)]
 mod trace_reading;
 #[cfg(test)]
 mod traces;

@@ -68,8 +68,6 @@ end fault Index
 
 const NO_SYNTAX: &str = "estelle: syntax 1:1\n";
 
-const NOT_BUILT: &str = "estelle: form not built\n";
-
 const TOO_LONG: &str = "estelle: too long\n";
 
 const UNSET_LINE: &str = "estelle: fault Unset\n";
@@ -88,7 +86,7 @@ type Row = (
     Status,
 );
 
-const ROWS: [Row; 14] = [
+const ROWS: [Row; 13] = [
     (
         "counter",
         &["run"],
@@ -122,14 +120,6 @@ const ROWS: [Row; 14] = [
         Status::PascalFault,
     ),
     ("idle", &["run"], IDLE, IDLE_TRACE, "", Status::Done),
-    (
-        "idle, without a system",
-        &["run"],
-        "specification idle; end.",
-        "",
-        NOT_BUILT,
-        Status::Refused,
-    ),
     ("empty", &["run"], "", "", NO_SYNTAX, Status::Refused),
     (
         "no turn",
@@ -183,7 +173,7 @@ const ROWS: [Row; 14] = [
 ];
 
 /// Words that have no meaning, and words whose meaning is not built.
-const MEANINGLESS: [&[&str]; 16] = [
+const MEANINGLESS: [&[&str]; 15] = [
     &[],
     &[""],
     &["Run"],
@@ -192,7 +182,6 @@ const MEANINGLESS: [&[&str]; 16] = [
     &["run", "run"],
     &["run", "--turns=1", "--turns", "2"],
     &["check", "--turns=1"],
-    &["run", "--seed=1"],
     &["run", "--workers=2"],
     &["replay"],
     &["trial", "--stations=2"],
@@ -204,20 +193,36 @@ const MEANINGLESS: [&[&str]; 16] = [
 ];
 
 /// Words that ask for something, and what.
-const ASKING: [(&[&str], Task); 6] = [
+const ASKING: [(&[&str], Task); 7] = [
     (
         &["run"],
-        Task::Run(Limits {
-            turns: 10_000,
-            budget: 1_000_000,
-        }),
+        Task::Run {
+            limits: Limits {
+                turns: 10_000,
+                budget: 1_000_000,
+            },
+            seed: None,
+        },
     ),
     (
         &["run", "--budget", "5", "--turns=0"],
-        Task::Run(Limits {
-            turns: 0,
-            budget: 5,
-        }),
+        Task::Run {
+            limits: Limits {
+                turns: 0,
+                budget: 5,
+            },
+            seed: None,
+        },
+    ),
+    (
+        &["run", "--seed=18446744073709551615"],
+        Task::Run {
+            limits: Limits {
+                turns: 10_000,
+                budget: 1_000_000,
+            },
+            seed: Some(18446744073709551615),
+        },
     ),
     (&["check"], Task::Check),
     (&["show"], Task::Show),

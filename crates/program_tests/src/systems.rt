@@ -169,7 +169,7 @@ const ROWS: [Row; 12] = [
 ];
 
 /// The worked text of this name, or else the text itself.
-fn text_of(name: &'static str) -> &'static str {
+pub(crate) fn text_of(name: &'static str) -> &'static str {
     for worked in &WORKED {
         if worked.name == name {
             return worked.text;

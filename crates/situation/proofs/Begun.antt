@@ -1,12 +1,11 @@
 -- A course begins: it is fresh, the start may be settled, and what that comes to.
-use Rattle.std.proofs.Common.{◌≡◌, ℕ, ◌+◌, ◌*◌, ◌^◌, ◌<◌, ◌≤◌, Bool, true, false, List, [], ◌∷◌, ◌++◌, Option, Some, None, refl, sym, ap, subst, ◌∙◌, arith}
+use Rattle.std.proofs.Common.{◌≡◌, ℕ, ◌+◌, ◌*◌, ◌^◌, ◌<◌, ◌≤◌, Bool, true, false, List, [], ◌∷◌, ◌++◌, Option, Some, None, refl, sym, ap, subst, ◌∙◌, arith, length}
+use Rattle.std.specs.Prelude.{map as each}
 use Rattle.std.specs.FinMap as map
 use Rattle.pascal_values.specs.declared.fault.Fault as fault
-use Rattle.estelle_tree.specs.declared.transition.Pair.{Pair}
-use Rattle.estelle_tree.specs.Timers.{pair}
 use Rattle.estelle_model.specs.declared.event.Event.TheVariants.{Start, Fault}
 use Rattle.estelle_model.specs.declared.event.End.{End}
-use Rattle.estelle_model.specs.declared.event.End.TheVariants.{Faulted}
+use Rattle.estelle_model.specs.declared.event.End.TheVariants.{Clock, Faulted}
 use Rattle.estelle_model.specs.declared.image.Interaction.{Interaction}
 use Rattle.estelle_model.specs.declared.job.Job.{Job}
 use Rattle.estelle_model.specs.declared.job.Done.{Done}
@@ -15,8 +14,11 @@ use Rattle.estelle_model.specs.declared.job.Outcome.TheVariants as outcome
 use Rattle.estelle_model.specs.Subject.{Subject}
 use Rattle.estelle_model.specs.Situation.{Situation, Acting}
 use Rattle.estelle_model.specs.Firing.{bare}
+use Rattle.estelle_model.specs.Delays.{has_delays}
 use Rattle.estelle_model.specs.Jobs.{Answers}
 use Rattle.estelle_model.specs.Runs.{situation}
+use Rattle.estelle_model_legality.specs.Instances.{LeadsToStates}
+use Rattle.estelle_model_legality.specs.Situations.{IsLegal}
 use Rattle.estelle_model.specs.Choosers.{Draw}
 use Rattle.queue_store.specs.Queues.{Queue}
 use Rattle.effect_log.specs.declared.shared.Shared.{Shared}
@@ -24,15 +26,18 @@ use Rattle.effect_log.specs.Standing.{Stands, AreQueuesOf}
 use Rattle.effect_log.specs.Putting.{IsRan, AnswersIn, log_of, after_put}
 use Rattle.effect_log.specs.Rooms.{outputs_in, HasRoomFor, SeesTheSame, NotesTheSame}
 use Rattle.run_history.specs.declared.entry.Entry.{Entry}
-use Rattle.run_history.specs.Histories.{project}
-use Rattle.situation_steps.specs.OneSystems.{IsOneSystem}
+use Rattle.run_history.specs.Histories.{project, fires}
+use Rattle.run_history.specs.Tickets.{tickets}
+use Rattle.situation_steps.specs.declared.systems.System.{System}
+use Rattle.situation_steps.specs.declared.systems.Time.{Time}
+use Rattle.situation_steps.specs.Systems.{systems_of, first_kept}
+use Rattle.situation_steps.specs.Laws.{first_time}
 use Rattle.situation.specs.declared.limits.Limits.{Limits}
 use Rattle.situation.specs.declared.course.Course.{Course}
-use Rattle.situation.specs.Runs.{noted, ending, IsClosed, AreReached}
-use Rattle.situation.specs.Worlds.{IsOpen, IsKept}
-use Rattle.situation.specs.Steps.{IsFresh, MaySettle, HasBeenPut, HasFailed, StartedSo, HasStarted, IsBegun}
-use Rattle.situation.proofs.Standing.{stands_still}
-use Rattle.situation.proofs.Starts.{start_answers_in, start_numbers, start_situation, start_going, start_reached, start_closes, start_failed_reached}
+use Rattle.situation.specs.Runs.{noted, ending, IsGoing, IsClosed, AreReached}
+use Rattle.situation.specs.Worlds.{Holds, IsOpenCourse, IsKept}
+use Rattle.situation.specs.Steps.{IsFresh, MaySettle, HasBeenPut, HasFailed, StartedSo, HasStarted, FindsSystems, HasAllSystems, IsBegun}
+use Rattle.situation.proofs.Starts.{start_answers_in, start_numbers, start_situation, start_legal, start_going, start_pending, start_timers, start_reached, start_closes, start_failed_reached}
 
 -- what sees the same stands for the same situation
 pub stands_same : (s : Subject) (old new : Shared) (g : Situation) → SeesTheSame old new → Stands s old g → Stands s new g
@@ -49,6 +54,22 @@ pub record IsStart (budget : ℕ) (job : Job) : Type 0 where
   pub path : job.path ≡ []
   pub units : job.budget ≡ budget
 
+-- ends that differ
+not_ended : (o : Option End) → o ≡ None → o ≡ Some Clock → ⊥
+not_ended o none some = let wrong : Some Clock ≡ None = sym some ∙ none in cc
+
+not_clocked : (o : Option End) (kind : fault.Fault) → o ≡ Some (Faulted kind) → o ≡ Some Clock → ⊥
+not_clocked o kind faulted clocked = let wrong : Some (Faulted kind) ≡ Some Clock = sym faulted ∙ clocked in cc
+
+-- the systems that were found are those of the situation for which the shared state stands
+all_found : {H : Type 0} (n x : Course H) (s : Subject) → n.program.now ≡ s → (g : Situation) → ((g : Situation) → Stands n.program.now n.shared g → IsLegal n.program.now g → x.systems.items ≡ each first_kept (systems_of n.program.now g))
+    → Stands s n.shared g → IsLegal s g → x.systems.items ≡ each first_kept (systems_of s g)
+all_found {H} n x s is g found stands legal = by n.program.now is found
+  where
+    by : (y : Subject) → y ≡ s → ((g : Situation) → Stands y n.shared g → IsLegal y g → x.systems.items ≡ each first_kept (systems_of y g)) → x.systems.items ≡ each first_kept (systems_of s g)
+    by y e f = subst (λ (z : Subject). x.systems.items ≡ each first_kept (systems_of z g)) e
+        (f g (subst (λ (z : Subject). Stands z n.shared g) (sym e) stands) (subst (λ (z : Subject). IsLegal z g) (sym e) legal))
+
 module _ {H : Type 0} (s : Subject) (limits : Limits) (chooser : H) where
   -- it is still fresh with more memory
   pub fresh_still : (f m c : Course H) → IsFresh s limits chooser f → m.history.entries ≡ f.history.entries → SeesTheSame f.shared c.shared → NotesTheSame f.notes c.notes
@@ -56,29 +77,50 @@ module _ {H : Type 0} (s : Subject) (limits : Limits) (chooser : H) where
   fresh_still f m c h entries shared notes is = record {
     program = ap (λ (x : Course H). x.program.now) is ∙ h.program;
     limits_are = ap (λ (x : Course H). x.limits) is ∙ h.limits_are;
+    delays = ap (λ (x : Course H). x.delays) is ∙ h.delays;
     stands = stands_same s f.shared c.shared (bare s) shared h.stands;
+    timers = ap (λ (x : Course H). x.timers) is ∙ h.timers;
     pending = ap (λ (x : Course H). x.pending.items) is ∙ h.pending;
+    systems = ap (λ (x : Course H). x.systems.items) is ∙ h.systems;
+    time = ap (λ (x : Course H). x.time) is ∙ h.time;
     entries = ap (λ (x : Course H). x.history.entries) is ∙ entries ∙ h.entries;
     tickets = ap (λ (x : Course H). x.tickets) is ∙ h.tickets;
     unended = ap (λ (x : Course H). x.end) is ∙ h.unended;
-    empty = record { outs = notes.outs ∙ h.empty.outs; drops = notes.drops ∙ h.empty.drops };
+    empty = record { outs = notes.outs ∙ h.empty.outs; drops = notes.drops ∙ h.empty.drops; arrivals = notes.arrivals ∙ h.empty.arrivals };
     chooser_is = ap (λ (x : Course H). x.chooser) is ∙ h.chooser_is;
   }
 
   pub spare_still : (f m c : Course H) → c ≡ record f { history = m.history; shared = c.shared; notes = c.notes } → 2 ≤ m.history.spare → 2 ≤ c.history.spare
   spare_still f m c is h = let same : c.history.spare ≡ m.history.spare = ap (λ (x : Course H). x.history.spare) is in omega (arith, same, h)
 
-  -- what is reached, where all is as said
-  reached_by : (draw : Draw H) (n : Course H) (its : List Entry) → n.program.now ≡ s → n.limits ≡ limits → n.history.entries ≡ its → n.chooser ≡ chooser → AreReached draw s limits.budget limits.turns chooser its chooser
-      → AreReached draw n.program.now n.limits.budget n.limits.turns chooser n.history.entries n.chooser
-  reached_by draw n its p l e c r = subst (λ (x : Subject). AreReached draw x n.limits.budget n.limits.turns chooser n.history.entries n.chooser) (sym p)
-      (subst (λ (y : Limits). AreReached draw s y.budget y.turns chooser n.history.entries n.chooser) (sym l)
-      (subst (λ (es : List Entry). AreReached draw s limits.budget limits.turns chooser es n.chooser) (sym e)
-      (subst (λ (d : H). AreReached draw s limits.budget limits.turns chooser its d) (sym c) r)))
+  -- what a course has that is not changed before the first selection
+  record IsAsBegun (x : Course H) (its : List Entry) : Type 0 where
+    program : x.program.now ≡ s
+    limits_are : x.limits ≡ limits
+    entries : x.history.entries ≡ its
+    time : x.time ≡ first_time
+    chooser_is : x.chooser ≡ chooser
 
-  module _ (one : IsOneSystem s) (room : limits.budget * (limits.turns + 1) < 2 ^ 63) (job : Job) (start : IsStart limits.budget job) (done : Done) (answers : Answers s job done) where
+  -- the parts of a course that its history is of
+  abbrev Whole : Type 0
+  Whole = Subject × Limits × List Entry × Time
+
+  abbrev whole : Course H → Whole
+  whole x = (x.program.now, x.limits, x.history.entries, x.time)
+
+  same_whole : (x : Course H) (its : List Entry) → IsAsBegun x its → (s, limits, its, first_time) ≡ whole x
+  same_whole x its a = sym (λ i. (a.program i, a.limits_are i, a.entries i, a.time i))
+
+  -- what is reached, where all is as said
+  reached_by : (draw : Draw H) (x : Course H) (its : List Entry) → IsAsBegun x its → (moment : Option ℕ) → AreReached draw s limits.budget limits.turns moment chooser its chooser first_time moment
+      → AreReached draw x.program.now x.limits.budget x.limits.turns moment chooser x.history.entries x.chooser x.time moment
+  reached_by draw x its a moment r =
+      subst (λ (c : H). AreReached draw x.program.now x.limits.budget x.limits.turns moment chooser x.history.entries c x.time moment) (sym a.chooser_is)
+      (subst (λ (q : Whole). AreReached draw q.0 q.1.budget q.1.turns moment chooser q.2 chooser q.3 moment) (same_whole x its a) r)
+
+  module _ (leads : LeadsToStates s) (room : limits.budget * (limits.turns + 1) < 2 ^ 63) (job : Job) (start : IsStart limits.budget job) (done : Done) (answers : Answers s job done) where
     few : (o : Outcome) → done.outcome ≡ o → IsRan o → outputs_in (log_of done.outcome) < 2 ^ 64
-    few (outcome.Ran image effects) e ran = start_numbers s one limits.budget limits.turns job start.trans start.path start.units done answers image effects e room
+    few (outcome.Ran image effects) e ran = start_numbers s leads limits.budget limits.turns job start.trans start.path start.units done answers image effects e room
     few (outcome.Faulted kind) e ran = absurd ran
 
     -- the start may be settled
@@ -86,7 +128,7 @@ module _ {H : Type 0} (s : Subject) (limits : Limits) (chooser : H) where
     may_start c f rooms spare = record {
       may = λ ran. record {
         stands = subst (λ (x : Subject). Stands x c.shared (bare x)) (sym f.program) f.stands;
-        answers = subst (λ (x : Subject). AnswersIn x (bare x) done) (sym f.program) (start_answers_in s one limits.budget limits.turns job start.trans start.path start.units done answers);
+        answers = subst (λ (x : Subject). AnswersIn x (bare x) done) (sym f.program) (start_answers_in s leads limits.budget limits.turns job start.trans start.path start.units done answers);
         room = rooms;
         numbers = let none : c.shared.outputs ≡ 0 = f.stands.outputs in let little = few done.outcome refl ran in omega (arith, none, little);
       };
@@ -95,67 +137,90 @@ module _ {H : Type 0} (s : Subject) (limits : Limits) (chooser : H) where
     }
 
     -- it ran
-    ran_begun : (draw : Draw H) (c n : Course H) → IsFresh s limits chooser c → (o : Outcome) → IsRan o → done.outcome ≡ o → HasBeenPut c n done → IsBegun draw s limits chooser n
-    ran_begun draw c n f (outcome.Faulted kind) ran is h = absurd ran
-    ran_begun draw c n f (outcome.Ran image effects) ran is h =
+    ran_begun : (draw : Draw H) (c n x : Course H) → IsFresh s limits chooser c → (o : Outcome) → IsRan o → done.outcome ≡ o → HasBeenPut c n done → FindsSystems None n x → IsBegun draw s limits chooser x
+    ran_begun draw c n x f (outcome.Faulted kind) ran is h found = absurd ran
+    ran_begun draw c n x f (outcome.Ran image effects) ran is h found =
         let b = limits.budget in
         let t = limits.turns in
         let a : Acting = after_put s (bare s) done in
         let its : List Entry = noted (Start a.outs a.drops) ∷ [] in
-        let situation_is = start_situation s one b t job start.trans start.path start.units done answers image effects is in
-        let program_is : n.program.now ≡ s = ap (λ (x : Course H). x.program.now) h.rest ∙ f.program in
-        let limits_are : n.limits ≡ limits = ap (λ (x : Course H). x.limits) h.rest ∙ f.limits_are in
-        let entries_are : n.history.entries ≡ its = h.noted ∙ (λ i. f.entries i ++ noted (Start (after_put (f.program i) (bare (f.program i)) done).outs (after_put (f.program i) (bare (f.program i)) done).drops) ∷ []) in
-        let pending_is : n.pending.items ≡ [] = ap (λ (x : Course H). x.pending.items) h.rest ∙ f.pending in
-        let awaits_is : n.awaits ≡ true = ap (λ (x : Course H). x.awaits) h.rest in
-        let tickets_are : n.tickets ≡ 0 = ap (λ (x : Course H). x.tickets) h.rest ∙ f.tickets in
-        let unended : n.end ≡ None = ap (λ (x : Course H). x.end) h.rest ∙ f.unended in
-        let chooser_is : n.chooser ≡ chooser = ap (λ (x : Course H). x.chooser) h.rest ∙ f.chooser_is in
-        let stands : Stands s n.shared a.situation = subst (λ (x : Subject). Stands x n.shared (after_put x (bare x) done).situation) f.program h.stands in
-        let there : IsOpen s limits its n.shared [] true 0 = record {
-          one = one;
-          room = room;
-          going = start_going s one b t job start.trans start.path start.units done answers image effects is;
-          stands = subst (Stands s n.shared) (sym situation_is) (stands_still s n.shared a.situation (map.remove a.situation.timers (pair [] 0)) [] stands);
-          waiting = sym (ap (λ (g : Situation). g.pending) situation_is);
-          taken = refl;
-          fired = refl;
+        let situation_is = start_situation s leads b t job start.trans start.path start.units done answers image effects is in
+        let same : x ≡ record c { shared = n.shared; history = n.history; notes = n.notes; systems = x.systems } = found.1 ∙ ap (λ (y : Course H). record y { systems = x.systems }) h.rest in
+        let program_is : x.program.now ≡ s = ap (λ (y : Course H). y.program.now) same ∙ f.program in
+        let program_then : n.program.now ≡ s = ap (λ (y : Course H). y.program.now) h.rest ∙ f.program in
+        let entries_are : x.history.entries ≡ its = ap (λ (y : Course H). y.history.entries) same ∙ h.noted ∙ (λ i. f.entries i ++ noted (Start (after_put (f.program i) (bare (f.program i)) done).outs (after_put (f.program i) (bare (f.program i)) done).drops) ∷ []) in
+        let as_begun : IsAsBegun x its = record {
+          program = program_is;
+          limits_are = ap (λ (y : Course H). y.limits) same ∙ f.limits_are;
+          entries = entries_are;
+          time = ap (λ (y : Course H). y.time) same ∙ f.time;
+          chooser_is = ap (λ (y : Course H). y.chooser) same ∙ f.chooser_is;
         } in
-        let by_tickets : IsOpen s limits its n.shared n.pending.items n.awaits n.tickets = subst (λ (k : ℕ). IsOpen s limits its n.shared n.pending.items n.awaits k) (sym tickets_are)
-        (subst (λ (w : Bool). IsOpen s limits its n.shared n.pending.items w 0) (sym awaits_is) (subst (λ (ps : List Pair). IsOpen s limits its n.shared ps true 0) (sym pending_is) there)) in
-        let opened : IsOpen n.program.now n.limits n.history.entries n.shared n.pending.items n.awaits n.tickets = subst (λ (x : Subject). IsOpen x n.limits n.history.entries n.shared n.pending.items n.awaits n.tickets) (sym program_is)
-        (subst (λ (l : Limits). IsOpen s l n.history.entries n.shared n.pending.items n.awaits n.tickets) (sym limits_are)
-        (subst (λ (es : List Entry). IsOpen s limits es n.shared n.pending.items n.awaits n.tickets) (sym entries_are) by_tickets)) in
+        let all = same_whole x its as_begun in
+        let unended : x.end ≡ None = ap (λ (y : Course H). y.end) same ∙ f.unended in
+        let tickets_are : x.tickets ≡ 0 = ap (λ (y : Course H). y.tickets) same ∙ f.tickets in
+        let stands_then : Stands s n.shared a.situation = subst (λ (y : Subject). Stands y n.shared (after_put y (bare y) done).situation) f.program h.stands in
+        let stands : Stands s x.shared a.situation = subst (λ (y : Shared). Stands s y a.situation) (sym (ap (λ (y : Course H). y.shared) same)) stands_then in
+        let legal = start_legal s leads b t job start.trans start.path start.units done answers image effects is in
+        let systems_are : x.systems.items ≡ each first_kept (systems_of s a.situation) = all_found n x s program_then a.situation found.0 stands_then legal in
+        let none_pending : x.pending.items ≡ a.situation.pending = ap (λ (y : Course H). y.pending.items) same ∙ f.pending ∙ sym (start_pending s leads b t job start.trans start.path start.units done answers image effects is) in
+        let none_timed : x.timers ≡ a.situation.timers = ap (λ (y : Course H). y.timers) same ∙ f.timers ∙ sym (start_timers s leads b t job start.trans start.path start.units done answers image effects is) in
+        let holds : Holds s b its x.shared x.timers x.pending.items = record {
+          stands = subst (Stands s x.shared) (sym situation_is) stands;
+          timers = none_timed ∙ sym (ap (λ (g : Situation). g.timers) situation_is);
+          pending = none_pending ∙ sym (ap (λ (g : Situation). g.pending) situation_is);
+        } in
+        let going : IsGoing s b t its first_time x.systems.items = start_going s leads b t job start.trans start.path start.units done answers image effects is x.systems.items systems_are in
+        let opened : IsOpenCourse x = record {
+          leads = subst LeadsToStates (sym program_is) leads;
+          room = subst (λ (l : Limits). l.budget * (l.turns + 1) < 2 ^ 63) (sym as_begun.limits_are) room;
+          delays = ap (λ (y : Course H). y.delays) same ∙ f.delays ∙ ap has_delays (sym program_is);
+          going = subst (λ (q : Whole). IsGoing q.0 q.1.budget q.1.turns q.2 q.3 x.systems.items) all going;
+          holds = subst (λ (q : Whole). Holds q.0 q.1.budget q.2 x.shared x.timers x.pending.items) all holds;
+          taken = ap (λ (es : List Entry). length (tickets es)) entries_are ∙ sym tickets_are;
+          fired = ap fires entries_are ∙ sym tickets_are;
+          empty = record { outs = ap (λ (y : Course H). y.notes.outs.items) same ∙ h.empty.outs; drops = ap (λ (y : Course H). y.notes.drops.items) same ∙ h.empty.drops; arrivals = ap (λ (y : Course H). y.notes.arrivals.items) same ∙ h.empty.arrivals };
+        } in
         record {
-          keeps = subst (IsKept n) (sym unended) (record { open_run = opened; empty = h.empty });
-          of = record { subject = program_is; same = limits_are };
-          begun = reached_by draw n its program_is limits_are entries_are chooser_is (start_reached s one b t job start.trans start.path start.units done answers image effects is draw chooser);
+          keeps = subst (IsKept x) (sym unended) opened;
+          of = record { subject = program_is; same = as_begun.limits_are };
+          begun = λ moment. reached_by draw x its as_begun moment (start_reached s leads b t job start.trans start.path start.units done answers image effects is draw chooser moment);
+          unclocked = λ ended. absurd (not_ended x.end unended ended);
         }
 
     -- it faulted
-    failed_begun : (draw : Draw H) (c n : Course H) → IsFresh s limits chooser c → (kind : fault.Fault) → done.outcome ≡ outcome.Faulted kind → HasFailed c n [] 0 kind → IsBegun draw s limits chooser n
-    failed_begun draw c n f kind is h =
+    failed_begun : (draw : Draw H) (c n x : Course H) → IsFresh s limits chooser c → (kind : fault.Fault) → done.outcome ≡ outcome.Faulted kind → HasFailed c n [] 0 kind → x ≡ n → IsBegun draw s limits chooser x
+    failed_begun draw c n x f kind is h found =
         let b = limits.budget in
         let t = limits.turns in
         let its : List Entry = (noted (Fault [] 0 kind) ∷ []) ++ ending (Faulted kind) ∷ [] in
-        let program_is : n.program.now ≡ s = ap (λ (x : Course H). x.program.now) h.rest ∙ f.program in
-        let limits_are : n.limits ≡ limits = ap (λ (x : Course H). x.limits) h.rest ∙ f.limits_are in
-        let entries_are : n.history.entries ≡ its = h.noted ∙ ap (λ (es : List Entry). (es ++ noted (Fault [] 0 kind) ∷ []) ++ ending (Faulted kind) ∷ []) f.entries in
-        let ended : n.end ≡ Some (Faulted kind) = ap (λ (x : Course H). x.end) h.rest in
-        let chooser_is : n.chooser ≡ chooser = ap (λ (x : Course H). x.chooser) h.rest ∙ f.chooser_is in
-        let closed : IsClosed s b t its (Faulted kind) = start_closes s one b t job start.trans start.path start.units done answers kind is in
-        let there : IsClosed n.program.now n.limits.budget n.limits.turns n.history.entries (Faulted kind) = subst (λ (x : Subject). IsClosed x n.limits.budget n.limits.turns n.history.entries (Faulted kind)) (sym program_is)
-        (subst (λ (l : Limits). IsClosed s l.budget l.turns n.history.entries (Faulted kind)) (sym limits_are)
-        (subst (λ (es : List Entry). IsClosed s b t es (Faulted kind)) (sym entries_are) closed)) in
+        let same : x ≡ record c { history = n.history; end = Some (Faulted kind) } = found ∙ h.rest in
+        let program_is : x.program.now ≡ s = ap (λ (y : Course H). y.program.now) same ∙ f.program in
+        let as_begun : IsAsBegun x its = record {
+          program = program_is;
+          limits_are = ap (λ (y : Course H). y.limits) same ∙ f.limits_are;
+          entries = ap (λ (y : Course H). y.history.entries) same ∙ h.noted ∙ ap (λ (es : List Entry). (es ++ noted (Fault [] 0 kind) ∷ []) ++ ending (Faulted kind) ∷ []) f.entries;
+          time = ap (λ (y : Course H). y.time) same ∙ f.time;
+          chooser_is = ap (λ (y : Course H). y.chooser) same ∙ f.chooser_is;
+        } in
+        let ended : x.end ≡ Some (Faulted kind) = ap (λ (y : Course H). y.end) same in
+        let closed : IsClosed s b t its 0 (Faulted kind) = start_closes s leads b t job start.trans start.path start.units done answers kind is in
+        let there : IsClosed x.program.now x.limits.budget x.limits.turns x.history.entries x.time.waited (Faulted kind) =
+        subst (λ (q : Whole). IsClosed q.0 q.1.budget q.1.turns q.2 q.3.waited (Faulted kind)) (same_whole x its as_begun) closed in
         record {
-          keeps = subst (IsKept n) (sym ended) there;
-          of = record { subject = program_is; same = limits_are };
-          begun = reached_by draw n its program_is limits_are entries_are chooser_is (start_failed_reached s one b t job start.trans start.path start.units done answers kind is draw chooser);
+          keeps = subst (IsKept x) (sym ended) there;
+          of = record { subject = program_is; same = as_begun.limits_are };
+          begun = λ moment. reached_by draw x its as_begun moment (start_failed_reached s leads b t job start.trans start.path start.units done answers kind is draw chooser moment);
+          unclocked = λ clocked. absurd (not_clocked x.end kind ended clocked);
         }
 
-    pub has_begun : (draw : Draw H) (c n : Course H) → IsFresh s limits chooser c → HasStarted c n done → IsBegun draw s limits chooser n
-    has_begun draw c n f h = by done.outcome refl h
+    pub has_begun : (draw : Draw H) (c n x : Course H) → IsFresh s limits chooser c → HasStarted c n done → HasAllSystems n x → IsBegun draw s limits chooser x
+    has_begun draw c n x f h found = by done.outcome refl h
       where
-        by : (o : Outcome) → done.outcome ≡ o → StartedSo c n done o → IsBegun draw s limits chooser n
-        by (outcome.Ran image effects) is h = ran_begun draw c n f (outcome.Ran image effects) tt is h
-        by (outcome.Faulted kind) is h = failed_begun draw c n f kind is h
+        by : (o : Outcome) → done.outcome ≡ o → StartedSo c n done o → IsBegun draw s limits chooser x
+        by (outcome.Ran image effects) is h =
+            let unended : n.end ≡ None = ap (λ (y : Course H). y.end) h.rest ∙ f.unended in
+            ran_begun draw c n x f (outcome.Ran image effects) tt is h (subst (λ (e : Option End). FindsSystems e n x) unended found)
+        by (outcome.Faulted kind) is h =
+            let ended : n.end ≡ Some (Faulted kind) = ap (λ (y : Course H). y.end) h.rest in
+            failed_begun draw c n x f kind is h (subst (λ (e : Option End). FindsSystems e n x) ended found)

@@ -1,49 +1,57 @@
 -- What a firing comes to.
-use Rattle.std.proofs.Common.{◌≡◌, ◌≢◌, ℕ, zero, suc, ◌+◌, ◌-◌, ◌*◌, ◌^◌, ◌<◌, ◌≤◌, Bool, true, false, List, [], ◌∷◌, ◌++◌, Option, Some, None, refl, sym, ap, subst, ◌∙◌, arith, length}
-use Rattle.std.specs.Prelude.{Contains, slice_get}
+use Rattle.std.proofs.Common.{◌≡◌, ℕ, ◌+◌, ◌-◌, ◌*◌, ◌^◌, ◌<◌, ◌≤◌, Bool, true, List, [], ◌∷◌, ◌++◌, Option, Some, None, refl, sym, ap, subst, ◌∙◌, arith, length}
+use Rattle.std.specs.Prelude.{Contains, map as each, count_by, if◌then◌else◌}
 use Rattle.std.specs.FinMap as map
-use Rattle.std.proofs.lemmas.List.{append-nil}
+use Rattle.std.proofs.lemmas.List.{append-nil, length-map}
 use Rattle.pascal_values.specs.declared.fault.Fault as fault
 use Rattle.estelle_tree.specs.declared.transition.Pair.{Pair}
-use Rattle.estelle_tree.specs.Paths.{Path}
-use Rattle.estelle_tree.specs.Timers.{pair}
-use Rattle.estelle_model.specs.declared.event.Event.{Event}
-use Rattle.estelle_model.specs.declared.event.Event.TheVariants.{Start, Select, Fire, Fault}
+use Rattle.estelle_tree.specs.Timers.{Timers}
+use Rattle.estelle_model.specs.declared.event.Event.TheVariants.{Fire, Fault}
 use Rattle.estelle_model.specs.declared.event.End.{End}
-use Rattle.estelle_model.specs.declared.event.End.TheVariants.{Dead, Turns, Faulted}
+use Rattle.estelle_model.specs.declared.event.End.TheVariants.{Clock, Faulted}
 use Rattle.estelle_model.specs.declared.effect.Effect.{Effect as LoggedEffect}
 use Rattle.estelle_model.specs.declared.image.Image.{Image}
-use Rattle.estelle_model.specs.declared.job.Job.{Job}
 use Rattle.estelle_model.specs.declared.job.Done.{Done}
 use Rattle.estelle_model.specs.declared.job.Outcome.{Outcome}
 use Rattle.estelle_model.specs.declared.job.Outcome.TheVariants as outcome
 use Rattle.estelle_model.specs.Subject.{Subject}
 use Rattle.estelle_model.specs.Situation.{Situation}
-use Rattle.estelle_model.specs.Firing.{bare}
-use Rattle.estelle_model.specs.Jobs.{Answers}
-use Rattle.estelle_model.specs.Runs.{NoGuardFaults, IsFirstFault, FiringFaults, situation, without}
+use Rattle.estelle_model.specs.Runs.{FiringFaults, situation, without}
 use Rattle.estelle_model.specs.Choosers.{Draw, Picks}
-use Rattle.estelle_model.specs.Schedule.{Chosen}
-use Rattle.effect_log.specs.declared.shared.Shared.{Shared}
 use Rattle.effect_log.specs.Standing.{Stands}
 use Rattle.effect_log.specs.Putting.{IsRan, log_of, after_put}
-use Rattle.effect_log.specs.Rooms.{outputs_in, HasRoomFor}
+use Rattle.effect_log.specs.Rooms.{outputs_in}
 use Rattle.run_history.specs.declared.entry.Entry.{Entry}
 use Rattle.run_history.specs.Histories.{project, fires}
 use Rattle.run_history.specs.Tickets.{tickets}
-use Rattle.run_history.proofs.Entries.{fires_more}
-use Rattle.situation.specs.declared.limits.Limits.{Limits}
+use Rattle.situation_steps.specs.declared.systems.System.{System}
+use Rattle.situation_steps.specs.declared.systems.Time.{Time}
+use Rattle.situation_steps.specs.Systems.{NoneIsDue, after_firing}
 use Rattle.situation.specs.declared.limits.Stepped.{Stepped}
 use Rattle.situation.specs.declared.limits.Stepped.TheVariants as did
 use Rattle.situation.specs.declared.course.Course.{Course}
-use Rattle.situation.specs.Runs.{noted, ending, take_of, IsGoing, IsClosed, AreReached, IsJobFor}
-use Rattle.situation.specs.Worlds.{IsOpen, AreEmpty, IsOpenCourse, IsKept, IsCourse, HasStepped, IsReached, now, work, left_to_do, entries_of, IsUnchanged}
-use Rattle.situation.specs.Steps.{GoesOn, IsDue, IsReady, MayPut, MaySettle, IsComputed, HasFired, HasFailed, SettledSo, HasSettled}
+use Rattle.situation.specs.Runs.{noted, ending, take_of, IsGoing, IsClosed, AreReached}
+use Rattle.situation.specs.Putting.{arrivals_of}
+use Rattle.situation.specs.Worlds.{IsOpenCourse, IsKept, HasStepped, now, work, left_to_do}
+use Rattle.situation.specs.Steps.{GoesOn, MayPut, MaySettle, IsComputed, HasFired, SettledSo, HasSettled}
 use Rattle.situation.proofs.Standing.{stands_still}
-use Rattle.situation.proofs.Tickets.{tickets_same}
-use Rattle.situation.proofs.Steps.{project_push, fires_same, reached_end, closed_on, turns_close, dead_closes, has_selected_now, guard_faults_now}
+use Rattle.situation.proofs.Steps.{project_push}
+use Rattle.situation.proofs.Less.{left_open, less_fired}
 use Rattle.situation.proofs.Firings.{answers_in, failing, failed_closes, failed_reached, fired_situation, fired_going, fired_next, fired_reached, fired_numbers, count_is}
-use Rattle.situation.proofs.Less.{less_selected, less_fired, less_ended, same_outputs, below_other, left_open}
+
+-- a fault, which ends the run, leaves less to do
+less_ended : (n y : ℕ) → y ≡ 1 + n → 0 < y
+less_ended n y y_is = omega (arith, y_is)
+
+same_outputs : (x y n : ℕ) → x ≡ y → y + n < 2 ^ 64 → x + n < 2 ^ 64
+same_outputs x y n e h = omega (arith, e, h)
+
+-- what has not ended has not ended by the clock
+not_by_clock : (o : Option End) → o ≡ None → o ≡ Some Clock → ⊥
+not_by_clock o none some = let wrong : Some Clock ≡ None = sym some ∙ none in cc
+
+no_clock : (kind : fault.Fault) → Some (Faulted kind) ≡ Some Clock → ⊥
+no_clock kind wrong = cc
 
 module _ {H : Type 0} where
   -- ---- firings
@@ -54,108 +62,128 @@ module _ {H : Type 0} where
 
   -- the course where it was put
   abbrev with_firing : Course H → Course H → Course H → Course H
-  with_firing c m n = record (with_take c m) { shared = n.shared; history = n.history; notes = n.notes; awaits = true }
+  with_firing c m n = record (with_take c m) { shared = n.shared; history = n.history; notes = n.notes; timers = n.timers; systems = n.systems; time = record c.time { may_wait = true } }
 
-  module _ (c m : Course H) (p : Pair) (done : Done) (opened : GoesOn 3 c) (below : fires c.history.entries < c.limits.turns) (computed : IsComputed c p done)
+  module _ (c m : Course H) (p : Pair) (done : Done) (opened : GoesOn 3 c) (below : fires c.history.entries < c.limits.turns) (none_due : NoneIsDue c.systems.items) (computed : IsComputed c p done)
       (left : m.pending.items ≡ without p c.pending.items) (taken_is : m.history.entries ≡ c.history.entries ++ take_of (c.tickets + 1) p ∷ []) where
     abbrev s : Subject
     s = c.program.now
 
-    abbrev o : IsOpen c.program.now c.limits c.history.entries c.shared c.pending.items c.awaits c.tickets
-    o = opened.is_open.open_run
+    abbrev o : IsOpenCourse c
+    o = opened.is_open
+
+    abbrev b : ℕ
+    b = c.limits.budget
+
+    abbrev t : ℕ
+    t = c.limits.turns
+
+    abbrev es : List Entry
+    es = c.history.entries
 
     is_pending : Contains (now c).pending p
-    is_pending = subst (λ (ps : List Pair). Contains ps p) o.waiting computed.pending
+    is_pending = subst (λ (ps : List Pair). Contains ps p) o.holds.pending computed.pending
 
     -- the situation is the same
     same_now : now (with_take c m) ≡ now c
-    same_now = ap (situation s c.limits.budget) (ap project taken_is ∙ project_push c.history.entries (take_of (c.tickets + 1) p) ∙ append-nil (project c.history.entries))
+    same_now = ap (situation s b) (ap project taken_is ∙ project_push es (take_of (c.tickets + 1) p) ∙ append-nil (project es))
 
-    next_is : c.tickets + 1 ≡ length (tickets c.history.entries) + 1
+    next_is : c.tickets + 1 ≡ length (tickets es) + 1
     next_is = ap (λ (k : ℕ). k + 1) (sym o.taken)
 
     pub may_settle : 2 ≤ m.history.spare → MaySettle (now (with_take c m)) (with_take c m) done
     may_settle spare = record {
       may = λ ran. subst (λ (g : Situation). MayPut g (with_take c m) done) (sym same_now) (record {
-        stands = o.stands;
-        answers = answers_in s c.limits.budget (now c) o.going.under_way.sound.legal p is_pending computed.job computed.is_for done computed.answers;
+        stands = o.holds.stands;
+        answers = answers_in s b (now c) o.going.under_way.legal p is_pending computed.job computed.is_for done computed.answers;
         room = computed.room;
         numbers = by done.outcome refl ran;
       });
-      empty = opened.is_open.empty;
+      empty = o.empty;
       spare = spare;
     }
       where
         by : (x : Outcome) → done.outcome ≡ x → IsRan x → c.shared.outputs + outputs_in (log_of done.outcome) < 2 ^ 64
         by (outcome.Ran image effects) is ran =
-            let few = fired_numbers {C = Unit {0}} (λ u n. (0, u)) s o.one c.limits.budget c.limits.turns c.history.entries c.awaits o.going below p is_pending (c.tickets + 1) next_is computed.job computed.is_for done computed.answers image effects is o.room in
-            same_outputs c.shared.outputs (now c).made (outputs_in (log_of done.outcome)) o.stands.outputs few
+            let few = fired_numbers s o.leads b t es c.time c.systems.items o.going none_due below p is_pending (c.tickets + 1) next_is computed.job computed.is_for done computed.answers image effects is o.room in
+            same_outputs c.shared.outputs (now c).made (outputs_in (log_of done.outcome)) o.holds.stands.outputs few
         by (outcome.Faulted kind) is ran = absurd ran
 
-    module _ (draw : Draw H) (first_chooser : H) (picks : Picks draw first_chooser c.pending.items p c.chooser) where
+    module _ (draw : Draw H) (first_chooser : H) (moment : Option ℕ) (picks : Picks draw first_chooser c.pending.items p c.chooser) where
       abbrev before : Course H
       before = record c { chooser = first_chooser }
 
       picked : Picks draw first_chooser (now c).pending p c.chooser
-      picked = subst (λ (ps : List Pair). Picks draw first_chooser ps p c.chooser) o.waiting picks
+      picked = subst (λ (ps : List Pair). Picks draw first_chooser ps p c.chooser) o.holds.pending picks
+
+      start : left_to_do before ≡ work t (fires es) c.systems.items c.time.may_wait None
+      start = left_open before opened.unended
 
       failed_step : (n : Course H) (kind : fault.Fault) → done.outcome ≡ outcome.Faulted kind → n.history.entries ≡ (m.history.entries ++ noted (Fault p.path p.trans kind) ∷ []) ++ ending (Faulted kind) ∷ []
-          → HasStepped draw before (record (with_take c m) { history = n.history; end = Some (Faulted kind) }) did.Faulted
+          → HasStepped draw moment moment before (record (with_take c m) { history = n.history; end = Some (Faulted kind) }) did.Faulted
       failed_step n kind is entries_are =
-          let es = c.history.entries in
-          let b = c.limits.budget in
-          let t = c.limits.turns in
           let e : n.history.entries ≡ ((es ++ take_of (c.tickets + 1) p ∷ []) ++ noted (Fault p.path p.trans kind) ∷ []) ++ ending (Faulted kind) ∷ [] = entries_are ∙ ap (λ (xs : List Entry). (xs ++ noted (Fault p.path p.trans kind) ∷ []) ++ ending (Faulted kind) ∷ []) taken_is in
-          let f : FiringFaults s b (now c) p.path p.trans kind = failing s b (now c) o.going.under_way.sound.legal p is_pending computed.job computed.is_for done computed.answers kind is in
-          let start : left_to_do before ≡ work t (fires es) c.awaits None = left_open before opened.unended in
+          let f : FiringFaults s b (now c) p.path p.trans kind = failing s b (now c) o.going.under_way.legal p is_pending computed.job computed.is_for done computed.answers kind is in
           record {
-            keeps = subst (λ (xs : List Entry). IsClosed s b t xs (Faulted kind)) (sym e) (failed_closes draw s o.one b t es c.awaits o.going below p is_pending (c.tickets + 1) next_is kind f);
+            keeps = subst (λ (xs : List Entry). IsClosed s b t xs c.time.waited (Faulted kind)) (sym e) (failed_closes s o.leads b t es c.time c.systems.items o.going none_due below p is_pending (c.tickets + 1) next_is kind f);
             goes_on = record {
               program = refl;
               limits = refl;
-              reached = λ first r. subst (λ (xs : List Entry). AreReached draw s b t first xs c.chooser) (sym e) (failed_reached draw s o.one b t es c.awaits o.going below p is_pending (c.tickets + 1) next_is kind first_chooser c.chooser picked first r);
+              reached = λ clock first r. subst (λ (xs : List Entry). AreReached draw s b t clock first xs c.chooser c.time moment) (sym e)
+                  (failed_reached s o.leads b t es c.time c.systems.items o.going none_due below p is_pending (c.tickets + 1) next_is kind draw first_chooser c.chooser picked moment clock first r);
             };
-            leaves = less_ended (fires es) t c.awaits (left_to_do before) start;
+            leaves = less_ended ((t - fires es) * (2 * length c.systems.items + 3) + ((if c.time.may_wait then length c.systems.items + 1 else 0) + count_by (λ (x : System). x.awaits) c.systems.items)) (left_to_do before) start;
+            ends = λ clocked. absurd (no_clock kind clocked);
           }
 
-      fired_step : (n : Course H) (image : Image) (effects : List LoggedEffect) → done.outcome ≡ outcome.Ran image effects → Stands s n.shared (after_put s (now c) done).situation
-          → n.history.entries ≡ m.history.entries ++ noted (Fire p.path p.trans (after_put s (now c) done).outs (after_put s (now c) done).drops) ∷ [] → AreEmpty n.notes → HasStepped draw before (with_firing c m n) did.Fired
-      fired_step n image effects is stands entries_are empty =
-          let es = c.history.entries in
-          let b = c.limits.budget in
-          let t = c.limits.turns in
+      fired_step : (n : Course H) (image : Image) (effects : List LoggedEffect) → done.outcome ≡ outcome.Ran image effects → HasFired (now c) (with_take c m) n p.path p.trans done → HasStepped draw moment moment before (with_firing c m n) did.Fired
+      fired_step n image effects is f =
           let a = after_put s (now c) done in
           let fire_entry = noted (Fire p.path p.trans a.outs a.drops) in
-          let e : n.history.entries ≡ (es ++ take_of (c.tickets + 1) p ∷ []) ++ fire_entry ∷ [] = entries_are ∙ ap (λ (xs : List Entry). xs ++ fire_entry ∷ []) taken_is in
-          let is_now = fired_situation draw s o.one b t es c.awaits o.going below p is_pending (c.tickets + 1) next_is computed.job computed.is_for done computed.answers image effects is in
-          let there : IsOpen s c.limits ((es ++ take_of (c.tickets + 1) p ∷ []) ++ fire_entry ∷ []) n.shared m.pending.items true (c.tickets + 1) = record {
-            one = o.one;
+          let its : List Entry = (es ++ take_of (c.tickets + 1) p ∷ []) ++ fire_entry ∷ [] in
+          let time : Time = record c.time { may_wait = true } in
+          let e : n.history.entries ≡ its = f.noted ∙ ap (λ (xs : List Entry). xs ++ fire_entry ∷ []) taken_is in
+          let is_now : situation s b (project n.history.entries) ≡ record a.situation { timers = map.remove (now c).timers p; pending = without p (now c).pending } = ap (λ (xs : List Entry). situation s b (project xs)) e
+          ∙ fired_situation s o.leads b t es c.time c.systems.items o.going none_due below p is_pending (c.tickets + 1) next_is computed.job computed.is_for done computed.answers image effects is in
+          let going : IsGoing s b t its time (each (after_firing p.path (arrivals_of s (now c) done)) c.systems.items) =
+          fired_going s o.leads b t es c.time c.systems.items o.going none_due below p is_pending (c.tickets + 1) next_is computed.job computed.is_for done computed.answers image effects is in
+          let next : length (tickets its) ≡ c.tickets + 1 = fired_next s o.leads b t es c.time c.systems.items o.going none_due below p is_pending (c.tickets + 1) next_is computed.job computed.is_for done computed.answers image effects is in
+          let counted : fires its ≡ fires es + 1 = count_is s o.leads b t es c.time c.systems.items o.going none_due below p is_pending (c.tickets + 1) next_is computed.job computed.is_for done computed.answers image effects is in
+          let opened_then : IsOpenCourse (with_firing c m n) = record {
+            leads = o.leads;
             room = o.room;
-            going = fired_going draw s o.one b t es c.awaits o.going below p is_pending (c.tickets + 1) next_is computed.job computed.is_for done computed.answers image effects is;
-            stands = subst (Stands s n.shared) (sym is_now) (stands_still s n.shared a.situation map.empty (without p (now c).pending) stands);
-            waiting = left ∙ ap (without p) o.waiting ∙ sym (ap (λ (g : Situation). g.pending) is_now);
-            taken = fired_next draw s o.one b t es c.awaits o.going below p is_pending (c.tickets + 1) next_is computed.job computed.is_for done computed.answers image effects is;
-            fired = count_is draw s o.one b t es c.awaits o.going below p is_pending (c.tickets + 1) next_is computed.job computed.is_for done computed.answers image effects is ∙ ap (λ (k : ℕ). k + 1) o.fired;
+            delays = o.delays;
+            going = subst (λ (xs : List Entry). IsGoing s b t xs time n.systems.items) (sym e) (subst (λ (xs : List System). IsGoing s b t its time xs) (sym f.systems) going);
+            holds = record {
+              stands = subst (Stands s n.shared) (sym is_now) (stands_still s n.shared a.situation (map.remove (now c).timers p) (without p (now c).pending) f.stands);
+              timers = f.timers ∙ ap (λ (ts : Timers). map.remove ts p) o.holds.timers ∙ sym (ap (λ (g : Situation). g.timers) is_now);
+              pending = left ∙ ap (without p) o.holds.pending ∙ sym (ap (λ (g : Situation). g.pending) is_now);
+            };
+            taken = ap (λ (xs : List Entry). length (tickets xs)) e ∙ next;
+            fired = ap fires e ∙ counted ∙ ap (λ (k : ℕ). k + 1) o.fired;
+            empty = f.empty;
           } in
-          let start : left_to_do before ≡ work t (fires es) c.awaits None = left_open before opened.unended in
-          let after : left_to_do (with_firing c m n) ≡ work t (fires n.history.entries) true None = left_open (with_firing c m n) opened.unended in
-          let count : fires n.history.entries ≡ fires es + 1 = ap fires e ∙ count_is draw s o.one b t es c.awaits o.going below p is_pending (c.tickets + 1) next_is computed.job computed.is_for done computed.answers image effects is in
+          let after : left_to_do (with_firing c m n) ≡ work t (fires n.history.entries) n.systems.items true None = left_open (with_firing c m n) opened.unended in
+          let count : fires n.history.entries ≡ fires es + 1 = ap fires e ∙ counted in
+          let many : length n.systems.items ≡ length c.systems.items = ap length f.systems ∙ length-map c.systems.items (after_firing p.path (arrivals_of s (now c) done)) in
           record {
-            keeps = subst (IsKept (with_firing c m n)) (sym opened.unended) (record { open_run = subst (λ (xs : List Entry). IsOpen s c.limits xs n.shared m.pending.items true (c.tickets + 1)) (sym e) there; empty = empty });
+            keeps = subst (IsKept (with_firing c m n)) (sym opened.unended) opened_then;
             goes_on = record {
               program = refl;
               limits = refl;
-              reached = λ first r. subst (λ (xs : List Entry). AreReached draw s b t first xs c.chooser) (sym e) (fired_reached draw s o.one b t es c.awaits o.going below p is_pending (c.tickets + 1) next_is computed.job computed.is_for done computed.answers image effects is first_chooser c.chooser picked first r);
+              reached = λ clock first r. subst (λ (xs : List Entry). AreReached draw s b t clock first xs c.chooser time moment) (sym e)
+                  (fired_reached s o.leads b t es c.time c.systems.items o.going none_due below p is_pending (c.tickets + 1) next_is computed.job computed.is_for done computed.answers image effects is draw first_chooser c.chooser picked moment clock first r);
             };
-            leaves = less_fired (fires n.history.entries) (fires es) t c.awaits (left_to_do (with_firing c m n)) (left_to_do before) count below after start;
+            leaves = less_fired (fires n.history.entries) (fires es) t c.time.may_wait c.systems.items n.systems.items (left_to_do (with_firing c m n)) (left_to_do before) count below many after start;
+            ends = λ clocked. absurd (not_by_clock c.end opened.unended clocked);
           }
 
-      pub committed_step : (n : Course H) (d : Stepped) → HasSettled (now (with_take c m)) (with_take c m) n p.path p.trans done d → HasStepped draw before n d
+      pub committed_step : (n : Course H) (d : Stepped) → HasSettled (now (with_take c m)) (with_take c m) n p.path p.trans done d → HasStepped draw moment moment before n d
       committed_step n d settled = by done.outcome refl settled
         where
-          by : (x : Outcome) → done.outcome ≡ x → SettledSo (now (with_take c m)) (with_take c m) n p.path p.trans done x d → HasStepped draw before n d
+          by : (x : Outcome) → done.outcome ≡ x → SettledSo (now (with_take c m)) (with_take c m) n p.path p.trans done x d → HasStepped draw moment moment before n d
           by (outcome.Ran image effects) is h =
               let f = subst (λ (g : Situation). HasFired g (with_take c m) n p.path p.trans done) same_now h.0 in
-              subst (HasStepped draw before n) (sym h.1) (subst (λ (x : Course H). HasStepped draw before x did.Fired) (sym f.rest) (fired_step n image effects is f.stands f.noted f.empty))
+              subst (HasStepped draw moment moment before n) (sym h.1) (subst (λ (x : Course H). HasStepped draw moment moment before x did.Fired) (sym f.rest) (fired_step n image effects is f))
           by (outcome.Faulted kind) is h =
-              subst (HasStepped draw before n) (sym h.1) (subst (λ (x : Course H). HasStepped draw before x did.Faulted) (sym h.0.rest) (failed_step n kind is h.0.noted))
+              subst (HasStepped draw moment moment before n) (sym h.1) (subst (λ (x : Course H). HasStepped draw moment moment before x did.Faulted) (sym h.0.rest) (failed_step n kind is h.0.noted))

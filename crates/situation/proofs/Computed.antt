@@ -1,5 +1,5 @@
 -- What is computed of a pending firing, and the room that is made for it.
-use Rattle.std.proofs.Common.{◌≡◌, ℕ, ◌+◌, ◌<◌, List, get_or, Some, refl, sym, ap, subst, ◌∙◌, length}
+use Rattle.std.proofs.Common.{◌≡◌, ℕ, ◌+◌, ◌<◌, List, get_or, Option, Some, refl, sym, ap, subst, ◌∙◌, length}
 use Rattle.std.specs.Prelude.{Contains, slice_get}
 use Rattle.std.specs.FinMap as map
 use Rattle.estelle_tree.specs.declared.transition.Pair.{Pair}
@@ -21,7 +21,7 @@ use Rattle.effect_log.specs.Rooms.{HasRoomFor, SeesTheSame, NotesTheSame}
 use Rattle.situation.specs.declared.course.Course.{Course}
 use Rattle.situation.specs.Runs.{IsJobFor}
 use Rattle.situation.specs.declared.limits.Stepped.{Stepped}
-use Rattle.situation.specs.Worlds.{IsOpen, AreEmpty, IsOpenCourse, IsKept, HasStepped, IsUnchanged, now}
+use Rattle.situation.specs.Worlds.{IsOpenCourse, IsKept, HasStepped, IsUnchanged, now}
 use Rattle.situation.specs.Steps.{GoesOn, IsComputed, IsComputedAt}
 
 -- what the model sees stays
@@ -43,20 +43,17 @@ module _ {H : Type 0} where
   -- with more room the run goes on
   pub still_open : (c : Course H) (shared : Shared) (notes : Notes) (k : ℕ) → GoesOn k c → SeesTheSame c.shared shared → NotesTheSame c.notes notes → GoesOn k (with_room c shared notes)
   still_open c shared notes k opened same noted =
-      let o = opened.is_open.open_run in
-      let e = opened.is_open.empty in
+      let o = opened.is_open in
       record {
         is_open = record {
-          open_run = record {
-            one = o.one;
-            room = o.room;
-            going = o.going;
-            stands = stands_same c.program.now c.shared shared (now c) same o.stands;
-            waiting = o.waiting;
-            taken = o.taken;
-            fired = o.fired;
-          };
-          empty = record { outs = noted.outs ∙ e.outs; drops = noted.drops ∙ e.drops };
+          leads = o.leads;
+          room = o.room;
+          delays = o.delays;
+          going = o.going;
+          holds = record { stands = stands_same c.program.now c.shared shared (now c) same o.holds.stands; timers = o.holds.timers; pending = o.holds.pending };
+          taken = o.taken;
+          fired = o.fired;
+          empty = record { outs = noted.outs ∙ o.empty.outs; drops = noted.drops ∙ o.empty.drops; arrivals = noted.arrivals ∙ o.empty.arrivals };
         };
         unended = opened.unended;
         spare = opened.spare;
@@ -64,7 +61,7 @@ module _ {H : Type 0} where
 
   -- a pending firing is pending in the situation
   pub pending_now : (c : Course H) (k : ℕ) → GoesOn k c → (p : Pair) → Contains c.pending.items p → Contains (now c).pending p
-  pending_now c k opened p there = subst (λ (ps : List Pair). Contains ps p) opened.is_open.open_run.waiting there
+  pending_now c k opened p there = subst (λ (ps : List Pair). Contains ps p) opened.is_open.holds.pending there
 
   -- what was computed of its job is computed of it
   pub computed_so : (c : Course H) (k : ℕ) → GoesOn k c → (at : ℕ) (p : Pair) → slice_get c.pending.items at ≡ Some p → Contains c.pending.items p → (job : Job) → job ≡ legal.job_of c.program.now (now c) c.tickets c.limits.budget p
@@ -73,7 +70,7 @@ module _ {H : Type 0} where
       let s = c.program.now in
       let g = now c in
       let b = c.limits.budget in
-      let in_it : IsJobIn s g job = subst (IsJobIn s g) (sym job_is) (taken s g opened.is_open.open_run.going.under_way.sound.legal c.tickets b p (pending_now c k opened p there)) in (
+      let in_it : IsJobIn s g job = subst (IsJobIn s g) (sym job_is) (taken s g opened.is_open.going.under_way.legal c.tickets b p (pending_now c k opened p there)) in (
         p,
         is,
         record {
@@ -88,7 +85,13 @@ module _ {H : Type 0} where
   -- ---- what is picked
 
   pub still_drawn : (c : Course H) (chooser : H) (k : ℕ) → GoesOn k c → GoesOn k (record c { chooser = chooser })
-  still_drawn c chooser k opened = record { is_open = record { open_run = opened.is_open.open_run; empty = opened.is_open.empty }; unended = opened.unended; spare = opened.spare }
+  still_drawn c chooser k opened =
+      let o = opened.is_open in
+      record {
+        is_open = record { leads = o.leads; room = o.room; delays = o.delays; going = o.going; holds = o.holds; taken = o.taken; fired = o.fired; empty = o.empty };
+        unended = opened.unended;
+        spare = opened.spare;
+      }
 
   -- where memory was wanting, the run is as before
   pub unchanged_room : (c : Course H) (chooser : H) (shared : Shared) (notes : Notes) (k : ℕ) → GoesOn k (record c { shared = shared; notes = notes; chooser = chooser }) → IsUnchanged c (record c { shared = shared; notes = notes; chooser = chooser })
@@ -97,13 +100,15 @@ module _ {H : Type 0} where
     program = refl;
     limits = refl;
     entries = refl;
+    time = refl;
   }
 
-  pub from_room : (draw : Draw H) (c : Course H) (shared : Shared) (notes : Notes) (n : Course H) (d : Stepped) → HasStepped draw (with_room c shared notes) n d → HasStepped draw c n d
-  from_room draw c shared notes n d h = record {
+  pub from_room : (draw : Draw H) (moment : Option ℕ) (c : Course H) (shared : Shared) (notes : Notes) (n : Course H) (d : Stepped) → HasStepped draw moment moment (with_room c shared notes) n d → HasStepped draw moment moment c n d
+  from_room draw moment c shared notes n d h = record {
     keeps = h.keeps;
     goes_on = record { program = h.goes_on.program; limits = h.goes_on.limits; reached = h.goes_on.reached };
     leaves = h.leaves;
+    ends = h.ends;
   }
 
   pub picked_so : (draw : Draw H) (first after : H) (ps : List Pair) (at : ℕ) (p q : Pair) → (at, after) ≡ pick draw first (length ps) → slice_get ps at ≡ Some p → p ≡ q → Picks draw first ps q after

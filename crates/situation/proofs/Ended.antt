@@ -1,109 +1,134 @@
--- What the end of a run comes to.
-use Rattle.std.proofs.Common.{◌≡◌, ◌≢◌, ℕ, zero, suc, ◌+◌, ◌-◌, ◌*◌, ◌^◌, ◌<◌, ◌≤◌, Bool, true, false, List, [], ◌∷◌, ◌++◌, Option, Some, None, refl, sym, ap, subst, ◌∙◌, arith, length}
-use Rattle.std.specs.Prelude.{Contains, slice_get, Result, Ok, Err, OnErr}
-use Rattle.std.specs.FinMap as map
-use Rattle.std.proofs.lemmas.List.{append-nil}
+-- What the end of a run comes to, and a refusal.
+use Rattle.std.proofs.Common.{◌≡◌, ◌≢◌, ℕ, ◌+◌, ◌<◌, ◌≤◌, Bool, true, false, List, [], ◌∷◌, ◌++◌, Option, Some, None, refl, sym, ap, subst, ◌∙◌, inr}
+use Rattle.std.specs.Prelude.{unwrap_or, Result, Ok, Err, OnErr, slice_get}
 use Rattle.pascal_values.specs.declared.fault.Fault as fault
-use Rattle.estelle_tree.specs.declared.transition.Pair.{Pair}
 use Rattle.estelle_tree.specs.Paths.{Path}
-use Rattle.estelle_tree.specs.Timers.{pair}
-use Rattle.estelle_model.specs.declared.event.Event.{Event}
-use Rattle.estelle_model.specs.declared.event.Event.TheVariants.{Start, Select, Fire, Fault}
+use Rattle.estelle_tree.specs.Timers.{Timers, next_due}
+use Rattle.estelle_model.specs.declared.event.Event.TheVariants.{Fault}
 use Rattle.estelle_model.specs.declared.event.End.{End}
-use Rattle.estelle_model.specs.declared.event.End.TheVariants.{Dead, Turns, Faulted}
-use Rattle.estelle_model.specs.declared.effect.Effect.{Effect as LoggedEffect}
-use Rattle.estelle_model.specs.declared.image.Image.{Image}
-use Rattle.estelle_model.specs.declared.job.Job.{Job}
-use Rattle.estelle_model.specs.declared.job.Done.{Done}
-use Rattle.estelle_model.specs.declared.job.Outcome.{Outcome}
-use Rattle.estelle_model.specs.declared.job.Outcome.TheVariants as outcome
+use Rattle.estelle_model.specs.declared.event.End.TheVariants.{Dead, Turns, Clock, Faulted}
 use Rattle.estelle_model.specs.Subject.{Subject}
 use Rattle.estelle_model.specs.Situation.{Situation}
-use Rattle.estelle_model.specs.Firing.{bare}
-use Rattle.estelle_model.specs.Jobs.{Answers}
-use Rattle.estelle_model.specs.Runs.{NoGuardFaults, IsFirstFault, FiringFaults, situation, without}
-use Rattle.estelle_model.specs.Choosers.{Draw, Picks}
-use Rattle.estelle_model.specs.Schedule.{Chosen}
-use Rattle.effect_log.specs.declared.shared.Shared.{Shared}
-use Rattle.effect_log.specs.Standing.{Stands}
-use Rattle.effect_log.specs.Putting.{IsRan, log_of, after_put}
-use Rattle.effect_log.specs.Rooms.{outputs_in, HasRoomFor}
+use Rattle.estelle_model.specs.Delays.{has_delays}
+use Rattle.estelle_model.specs.Choosers.{Draw}
 use Rattle.run_history.specs.declared.entry.Entry.{Entry}
 use Rattle.run_history.specs.Histories.{project, fires}
-use Rattle.run_history.specs.Tickets.{tickets}
-use Rattle.run_history.proofs.Entries.{fires_more}
-use Rattle.situation.specs.declared.limits.Limits.{Limits}
+use Rattle.situation_steps.specs.declared.systems.System.{System}
+use Rattle.situation_steps.specs.Systems.{NoneIsDue}
+use Rattle.situation_steps.specs.Ends.{HasEnded}
+use Rattle.situation_steps.proofs.Ends.{turns_end, clocks_end_selections, clocks_end_waits}
+use Rattle.situation_steps.proofs.Dead.{dead_ends}
+use Rattle.situation_steps.proofs.Waiting.{timers_are_waited_for}
 use Rattle.situation.specs.declared.limits.Stepped.{Stepped}
 use Rattle.situation.specs.declared.limits.Stepped.TheVariants as did
 use Rattle.situation.specs.declared.course.Course.{Course}
-use Rattle.situation.specs.Runs.{noted, ending, take_of, IsGoing, IsClosed, AreReached, IsJobFor}
-use Rattle.situation.specs.Worlds.{IsOpen, AreEmpty, IsOpenCourse, IsKept, IsCourse, HasStepped, IsReached, now, work, left_to_do, entries_of, IsUnchanged}
-use Rattle.situation.specs.Steps.{GoesOn, IsDue, IsReady, MayPut, MaySettle, IsComputed, HasFired, HasFailed, SettledSo, HasSettled}
-use Rattle.situation.proofs.Standing.{stands_still}
-use Rattle.situation.proofs.Tickets.{tickets_same}
-use Rattle.situation.proofs.Steps.{project_push, fires_same, reached_end, closed_on, turns_close, dead_closes, has_selected_now, guard_faults_now}
-use Rattle.situation.proofs.Firings.{answers_in, failing, failed_closes, failed_reached, fired_situation, fired_going, fired_next, fired_reached, fired_numbers, count_is}
-use Rattle.situation.proofs.Less.{less_selected, less_fired, less_ended, same_outputs, below_other, left_open}
+use Rattle.situation.specs.Runs.{noted, ending, IsClosed, AreReached}
+use Rattle.situation.specs.Worlds.{IsOpenCourse, IsKept, HasStepped, IsUnchanged, now}
+use Rattle.situation.specs.Steps.{GoesOn, IsDueAt, IsIdle, MayWaitFor, IsFaultAt}
+use Rattle.situation.proofs.Steps.{reached_end, ended_closes, guard_faults_now}
 
 -- what holds anyway holds at an error
 pub on_err : {A E : Type 0} (r : Result A E) (P : Type 0) → P → OnErr r P
 on_err (Ok a) P h = tt
 on_err (Err e) P h = h
 
+-- the step that says an end
+abbrev pub says : End → Option End → Stepped
+says e x = did.Ended (unwrap_or x e)
+
 module _ {H : Type 0} where
   -- ---- ends
 
-  abbrev with_end : Course H → Course H → End → Course H
+  abbrev pub with_end : Course H → Course H → End → Course H
   with_end c n e = record c { history = n.history; end = Some e }
 
-  pub faulted_step : (draw : Draw H) (c n : Course H) → GoesOn 2 c → IsDue c → (m : Path) (k : ℕ) (kind : fault.Fault) → IsFirstFault c.program.now c.limits.budget (now c) [] m k kind
-      → n.history.entries ≡ (c.history.entries ++ noted (Fault m k kind) ∷ []) ++ ending (Faulted kind) ∷ [] → HasStepped draw c (with_end c n (Faulted kind)) (did.Ended (Faulted kind))
-  faulted_step draw c n opened due m k kind first entries_are =
-      let o = opened.is_open.open_run in
-      let s = c.program.now in
-      let b = c.limits.budget in
-      let t = c.limits.turns in
-      let es = c.history.entries in
-      let going : IsGoing s b t es true = subst (λ (w : Bool). IsGoing s b t es w) due.awaits o.going in
-      let h = guard_faults_now draw s o.one b t es going (sym o.waiting ∙ due.none) due.below m k kind first in
-      record {
-        keeps = subst (λ (xs : List Entry). IsClosed s b t xs (Faulted kind)) (sym entries_are) h.closed;
-        goes_on = record { program = refl; limits = refl; reached = λ first r. subst (λ (xs : List Entry). AreReached draw s b t first xs c.chooser) (sym entries_are) (h.reached first c.chooser r) };
-        leaves = refl;
-      }
-
-  ended_step : (draw : Draw H) (c n : Course H) (e : End) → IsClosed c.program.now c.limits.budget c.limits.turns (c.history.entries ++ ending e ∷ []) e → n.history.entries ≡ c.history.entries ++ ending e ∷ [] → HasStepped draw c (with_end c n e) (did.Ended e)
-  ended_step draw c n e closed entries_are = record {
-    keeps = subst (λ (xs : List Entry). IsClosed c.program.now c.limits.budget c.limits.turns xs e) (sym entries_are) closed;
+  -- an end that a step says is the end
+  pub ended_step : (draw : Draw H) (moment : Option ℕ) (c n : Course H) (e : End) → IsClosed c.program.now c.limits.budget c.limits.turns (c.history.entries ++ ending e ∷ []) c.time.waited e
+      → n.history.entries ≡ c.history.entries ++ ending e ∷ [] → HasStepped draw moment moment c (with_end c n e) (did.Ended e)
+  ended_step draw moment c n e closed entries_are = record {
+    keeps = subst (λ (xs : List Entry). IsClosed c.program.now c.limits.budget c.limits.turns xs c.time.waited e) (sym entries_are) closed;
     goes_on = record {
       program = refl;
       limits = refl;
-      reached = λ first r. subst (λ (xs : List Entry). AreReached draw c.program.now c.limits.budget c.limits.turns first xs c.chooser) (sym entries_are) (reached_end draw c.program.now c.limits.budget c.limits.turns c.history.entries e first c.chooser r);
+      reached = λ clock first r. subst (λ (xs : List Entry). AreReached draw c.program.now c.limits.budget c.limits.turns clock first xs c.chooser c.time moment) (sym entries_are)
+          (reached_end draw c.program.now c.limits.budget c.limits.turns clock first c.history.entries c.chooser c.time moment e r);
     };
     leaves = refl;
+    ends = λ is. ap (says e) is;
   }
 
-  pub turns_step : (draw : Draw H) (c n : Course H) → GoesOn 3 c → fires c.history.entries ≡ c.limits.turns → n.history.entries ≡ c.history.entries ++ ending Turns ∷ [] → HasStepped draw c (with_end c n Turns) (did.Ended Turns)
-  turns_step draw c n opened full entries_are = let o = opened.is_open.open_run in ended_step draw c n Turns (turns_close c.program.now c.limits.budget c.limits.turns c.history.entries c.awaits o.going full) entries_are
+  -- so is one of the events
+  ended_so : (draw : Draw H) (moment : Option ℕ) (c n : Course H) (e : End) → IsOpenCourse c → HasEnded c.program.now c.limits.budget c.limits.turns (project c.history.entries) c.time.waited e
+      → n.history.entries ≡ c.history.entries ++ ending e ∷ [] → HasStepped draw moment moment c (with_end c n e) (did.Ended e)
+  ended_so draw moment c n e o h entries_are =
+      ended_step draw moment c n e (ended_closes c.program.now c.limits.budget c.limits.turns c.history.entries c.time c.systems.items o.going e h) entries_are
 
-  -- there are fewer firings than the limit, where they are not just so many
-  pub still_below : (c : Course H) → GoesOn 3 c → fires c.history.entries ≢ c.limits.turns → fires c.history.entries < c.limits.turns
-  still_below c opened other = below_other (fires c.history.entries) c.limits.turns opened.is_open.open_run.going.below other
-
-  pub dead_step : (draw : Draw H) (c n : Course H) → GoesOn 3 c → fires c.history.entries ≢ c.limits.turns → c.pending.items ≡ [] → c.awaits ≡ false → n.history.entries ≡ c.history.entries ++ ending Dead ∷ [] → HasStepped draw c (with_end c n Dead) (did.Ended Dead)
-  dead_step draw c n opened other none settled entries_are =
-      let o = opened.is_open.open_run in
+  -- the first guard that faults ends the run
+  pub faulted_step : (draw : Draw H) (moment : Option ℕ) (c n : Course H) (at : ℕ) → GoesOn 2 c → IsDueAt at c → (m : Path) (k : ℕ) (kind : fault.Fault) → IsFaultAt at c m k kind
+      → n.history.entries ≡ (c.history.entries ++ noted (Fault m k kind) ∷ []) ++ ending (Faulted kind) ∷ [] → HasStepped draw moment moment c (with_end c n (Faulted kind)) (did.Ended (Faulted kind))
+  faulted_step draw moment c n at opened due m k kind first entries_are =
       let s = c.program.now in
-      let going : IsGoing s c.limits.budget c.limits.turns c.history.entries false = subst (λ (w : Bool). IsGoing s c.limits.budget c.limits.turns c.history.entries w) settled o.going in
-      ended_step draw c n Dead (dead_closes s o.one c.limits.budget c.limits.turns c.history.entries going (sym o.waiting ∙ none) (still_below c opened other)) entries_are
+      let b = c.limits.budget in
+      let t = c.limits.turns in
+      let h = guard_faults_now draw s b t c.history.entries c.time c.systems.items opened.is_open.going due.below at due.first.0 due.first.1 m k kind (first due.first.0 due.first.1.there) in
+      record {
+        keeps = subst (λ (xs : List Entry). IsClosed s b t xs c.time.waited (Faulted kind)) (sym entries_are) h.closed;
+        goes_on = record {
+          program = refl;
+          limits = refl;
+          reached = λ clock begun r. subst (λ (xs : List Entry). AreReached draw s b t clock begun xs c.chooser c.time moment) (sym entries_are) (h.reached clock begun c.chooser moment r);
+        };
+        leaves = refl;
+        ends = λ is. ap (says (Faulted kind)) is;
+      }
+
+  -- so does the limit of firings
+  pub turns_step : (draw : Draw H) (moment : Option ℕ) (c n : Course H) → IsOpenCourse c → fires c.history.entries ≡ c.limits.turns → n.history.entries ≡ c.history.entries ++ ending Turns ∷ []
+      → HasStepped draw moment moment c (with_end c n Turns) (did.Ended Turns)
+  turns_step draw moment c n o full = ended_so draw moment c n Turns o (turns_end c.program.now c.limits.budget c.limits.turns (project c.history.entries) c.time c.systems.items o.going.under_way full)
+
+  -- a deadlock
+  pub dead_step : (draw : Draw H) (moment : Option ℕ) (c n : Course H) → IsOpenCourse c → IsIdle c → next_due c.timers ≡ None → n.history.entries ≡ c.history.entries ++ ending Dead ∷ []
+      → HasStepped draw moment moment c (with_end c n Dead) (did.Ended Dead)
+  dead_step draw moment c n o idle none = ended_so draw moment c n Dead o
+      (dead_ends c.program.now c.limits.budget c.limits.turns (project c.history.entries) c.time c.systems.items o.going.under_way idle.none_due (sym o.holds.pending ∙ idle.none) (ap next_due (sym o.holds.timers) ∙ none) idle.below)
+
+  -- and a clock that fails, where it is asked for a selection
+  pub clock_step : (draw : Draw H) (moment : Option ℕ) (c n : Course H) (at : ℕ) → IsOpenCourse c → IsDueAt at c → c.delays ≡ true → n.history.entries ≡ c.history.entries ++ ending Clock ∷ []
+      → HasStepped draw moment moment c (with_end c n Clock) (did.Ended Clock)
+  clock_step draw moment c n at o due delays = ended_so draw moment c n Clock o
+      (clocks_end_selections c.program.now c.limits.budget c.limits.turns (project c.history.entries) c.time c.systems.items o.going.under_way (sym o.delays ∙ delays) at due.first.0 due.first.1 due.below)
+
+  -- or is waited for
+  pub wait_fails : (draw : Draw H) (moment : Option ℕ) (c n : Course H) (due : ℕ) → IsOpenCourse c → MayWaitFor due c → n.history.entries ≡ c.history.entries ++ ending Clock ∷ []
+      → HasStepped draw moment moment c (with_end c n Clock) (did.Ended Clock)
+  wait_fails draw moment c n due o may =
+      let none : (now c).pending ≡ [] = sym o.holds.pending ∙ may.idle.none in
+      let runs : next_due (now c).timers ≡ Some due = ap next_due (sym o.holds.timers) ∙ may.due in
+      let w = timers_are_waited_for c.program.now o.leads c.limits.budget (project c.history.entries) c.time c.systems.items o.going.under_way may.idle.none_due none due runs in
+      ended_so draw moment c n Clock o
+      (clocks_end_waits c.program.now c.limits.budget c.limits.turns (project c.history.entries) c.time c.systems.items o.going.under_way w.delays w.waiting may.idle.below)
 
   -- ---- refusals
 
-  -- where only the chooser was drawn from, the run is as before
-  pub unchanged : (c n : Course H) (k : ℕ) → GoesOn k c → IsUnchanged c (record c { chooser = n.chooser })
-  unchanged c n k opened = record {
-    keeps = subst (IsKept (record c { chooser = n.chooser })) (sym opened.unended) (record { open_run = opened.is_open.open_run; empty = opened.is_open.empty });
-    program = refl;
-    limits = refl;
-    entries = refl;
-  }
+  -- where only the chooser was drawn from, and memory was made, the run is as before
+  pub unchanged : (c n : Course H) (k : ℕ) → GoesOn k c → n.pending.items ≡ c.pending.items → n.timers ≡ c.timers → IsUnchanged c (record c { chooser = n.chooser; pending = n.pending; timers = n.timers })
+  unchanged c n k opened pending timers =
+      let o = opened.is_open in
+      let after = record c { chooser = n.chooser; pending = n.pending; timers = n.timers } in
+      record {
+        keeps = subst (IsKept after) (sym opened.unended) (record {
+          leads = o.leads;
+          room = o.room;
+          delays = o.delays;
+          going = o.going;
+          holds = record { stands = o.holds.stands; timers = timers ∙ o.holds.timers; pending = pending ∙ o.holds.pending };
+          taken = o.taken;
+          fired = o.fired;
+          empty = o.empty;
+        });
+        program = refl;
+        limits = refl;
+        entries = refl;
+        time = refl;
+      }

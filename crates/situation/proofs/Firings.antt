@@ -1,6 +1,6 @@
 -- A firing of a run that goes on: it is put, or it faults.
 use Rattle.std.proofs.Common.{◌≡◌, ◌≢◌, ℕ, zero, suc, ◌+◌, ◌*◌, ◌^◌, ◌<◌, ◌≤◌, Bool, true, false, List, [], ◌∷◌, ◌++◌, Option, Some, None, refl, sym, ap, subst, ◌∙◌, inl, inr, arith, length}
-use Rattle.std.specs.Prelude.{Contains, ◌&&◌, nat_eq}
+use Rattle.std.specs.Prelude.{Contains, ◌&&◌, nat_eq, map as each}
 use Rattle.std.specs.Str.{bytes_eq}
 use Rattle.std.specs.FinMap as map
 use Rattle.std.proofs.Math.Nat.{mul-suc, mul-le-mul_left}
@@ -29,9 +29,10 @@ use Rattle.estelle_model.specs.Firing.{Firing, Ran, Failed, begun, fire, transit
 use Rattle.estelle_model.specs.Jobs.{IsJobIn, IsAnswer, IsPut, Answers, AnswersAt, put, after_all, taken_by, all_logged, logged_as}
 use Rattle.estelle_model.specs.Runs.{FiringFaults, HasFailed, situation, without}
 use Rattle.estelle_model.specs.Choosers.{Draw, Picks}
-use Rattle.estelle_model.specs.Schedule.{Kept, kept_first, FiringIsPlanned}
+use Rattle.estelle_model.specs.Schedule.{Kept, kept_after, known_after, Reaches, goes_on, IsPlanned, FiringIsPlanned}
+use Rattle.estelle_model_legality.specs.Instances.{LeadsToStates}
 use Rattle.estelle_model_legality.specs.Situations.{IsLegal}
-use Rattle.effect_log.specs.Putting.{log_of, parts_of, effects_of, IsJobAt, AnswersIn, begun_by, after_put}
+use Rattle.effect_log.specs.Putting.{log_of, parts_of, effects_of, IsJobAt, AnswersIn, begun_by, after_put, arrivals}
 use Rattle.effect_log.specs.Rooms.{outputs_of, outputs_in}
 use Rattle.effect_log.proofs.Answered.{log-is}
 use Rattle.effect_log.proofs.Lawful.{no-initial}
@@ -39,18 +40,22 @@ use Rattle.run_history.specs.declared.entry.Entry.{Entry}
 use Rattle.run_history.specs.Histories.{project, fires}
 use Rattle.run_history.specs.Tickets.{MayTake, tickets, AreTickets}
 use Rattle.run_history.proofs.Entries.{fires_more}
-use Rattle.situation_steps.specs.OneSystems.{IsOneSystem}
+use Rattle.situation_steps.specs.declared.systems.System.{System}
+use Rattle.situation_steps.specs.declared.systems.Time.{Time}
+use Rattle.situation_steps.specs.Systems.{NoneIsDue, after_firing}
 use Rattle.situation_steps.specs.UnderWay.{IsUnderWay}
 use Rattle.situation_steps.specs.Laws.{HasFired}
 use Rattle.situation_steps.specs.Ends.{HasEnded}
-use Rattle.situation_steps.proofs.Events.{firings_go_on, others_are_not_due}
+use Rattle.situation_steps.proofs.Fired.{firings_go_on}
+use Rattle.situation_steps.proofs.Due.{none_are_due}
 use Rattle.situation_steps.proofs.Ends.{faults_end}
 use Rattle.situation_units.specs.Counting.{births_at, IsWithinUnits}
 use Rattle.situation_units.proofs.Weighing.{firings_are_within}
-use Rattle.estelle_model_legality.proofs.Lists.{in_none, path_is, number_is, both_and}
+use Rattle.estelle_model_legality.proofs.Lists.{path_is, number_is, both_and}
 use Rattle.situation.specs.Runs.{noted, ending, take_of, AllSettled, IsWithin, IsGoing, IsClosed, AreReached, IsJobFor}
+use Rattle.situation.specs.Putting.{arrivals_of}
 use Rattle.situation.proofs.Tickets.{still_settled, still_tickets, fired_tickets, fired_settled, fired_count}
-use Rattle.situation.proofs.Steps.{project_push, reached_on, reached_end, closed_on}
+use Rattle.situation.proofs.Steps.{project_push, reached_end, closed_on, counted_event, counted_take}
 
 -- ---- numbers
 
@@ -140,6 +145,10 @@ module _ (s : Subject) (budget : ℕ) (g : Situation) (legal : IsLegal s g) (p :
     after_is : after_put s g done ≡ put p.path is_put.log image.parts (begun (taken_by s g p.path at_it))
     after_is = (λ i. put (path_is_its i) (log_is_its i) (parts_are_its i) (begun (taken_by s g (path_is_its i) (transition_at s (trans_is_its i) (map.get g.core.instances (path_is_its i))))))
 
+    -- its outputs arrive where those of its log do
+    arrivals_are : arrivals_of s g done ≡ arrivals is_put.log (begun (taken_by s g p.path at_it))
+    arrivals_are = (λ i. arrivals (log_is_its i) (begun (taken_by s g (path_is_its i) (transition_at s (trans_is_its i) (map.get g.core.instances (path_is_its i))))))
+
     within_units : IsWithinUnits budget g (after_put s g done).situation
     within_units =
         let h = firings_are_within s budget g p.path p.trans _ _ _ _ is_put.result in
@@ -151,18 +160,34 @@ module _ (s : Subject) (budget : ℕ) (g : Situation) (legal : IsLegal s g) (p :
         let log : outputs_in (log_of done.outcome) ≡ outputs_in (all_logged s is_put.log) = ap (λ (o : Outcome). outputs_in (log_of o)) is ∙ ap outputs_in is_put.logged in
         omega (arith, all, log, taken_made s g p.path at_it, within_units.made)
 
+-- what is kept beside the events, with a clock that tells this
+abbrev kept_at : {C : Type 0} → C → Time → Option ℕ → Kept C
+kept_at c time clock = record { chooser = c; known = time.known; waited = time.waited; clock = clock }
+
+-- where the next event is planned, it is reached
+reached_fired : {C : Type 0} (draw : Draw C) (s : Subject) (budget turns : ℕ) (es after : List Entry) (e : Event) (c rest : C) (time new : Time) (moment : Option ℕ)
+    → project after ≡ project es ++ e ∷ [] → fires es < turns → known_after e time.known ≡ new.known → time.waited ≡ new.waited
+    → ((told : Option ℕ) → IsPlanned draw s budget (project es) (kept_at c time told) e rest)
+    → (clock : Option ℕ) (first : C) → AreReached draw s budget turns clock first es c time moment → AreReached draw s budget turns clock first after rest new moment
+reached_fired {C} draw s budget turns es after e c rest time new moment is below known waited planned clock first r =
+    let there : Reaches draw s budget turns clock first (project es ++ e ∷ []) (kept_after e rest (kept_at c time r.known)) = goes_on (project es) (kept_at c time r.known) e rest r.reached below (planned r.known) in
+    let same : kept_after e rest (kept_at c time r.known) ≡ kept_at rest new r.known = (λ i. record { chooser = rest; known = known i; waited = waited i; clock = r.known }) in
+    record {
+      known = r.known;
+      told = r.told;
+      reached = subst (λ (events : List Event). Reaches draw s budget turns clock first events (kept_at rest new r.known)) (sym is)
+          (subst (λ (k : Kept C). Reaches draw s budget turns clock first (project es ++ e ∷ []) k) same there);
+    }
+
 -- ---- a pending firing goes on
 
-module _ {C : Type 0} (draw : Draw C) (s : Subject) (one : IsOneSystem s) (budget turns : ℕ) (es : List Entry) (waits : Bool) (w : IsGoing s budget turns es waits) (below : fires es < turns)
+module _ (s : Subject) (leads : LeadsToStates s) (budget turns : ℕ) (es : List Entry) (time : Time) (systems : List System) (w : IsGoing s budget turns es time systems) (none_due : NoneIsDue systems) (below : fires es < turns)
     (p : Pair) (pending : Contains (situation s budget (project es)).pending p) (k : ℕ) (next_is : k ≡ length (tickets es) + 1) where
   abbrev g : Situation
   g = situation s budget (project es)
 
-  some_pending : (ps : List Pair) → Contains ps p → ps ≢ []
-  some_pending ps c none = in_none Pair p (subst (λ (qs : List Pair). Contains qs p) none c)
-
-  planned : (c rest : C) → Picks draw c g.pending p rest → (clock : Option ℕ) → FiringIsPlanned draw s budget (project es) (kept_first clock c) p.path p.trans rest
-  planned c rest picks clock = record { none_due = others_are_not_due s one budget (project es) waits w.under_way (inr (some_pending g.pending pending)); picked = picks }
+  planned : {C : Type 0} (draw : Draw C) (c rest : C) → Picks draw c g.pending p rest → (told : Option ℕ) → FiringIsPlanned draw s budget (project es) (kept_at c time told) p.path p.trans rest
+  planned draw c rest picks told = record { none_due = none_are_due s budget (project es) time systems w.under_way none_due; picked = picks }
 
   may_take : MayTake s budget es p.path p.trans
   may_take = record { pending = pending; free = λ k. w.settled k p.trans p.path }
@@ -177,21 +202,22 @@ module _ {C : Type 0} (draw : Draw C) (s : Subject) (one : IsOneSystem s) (budge
   settles_own = both_and (bytes_eq p.path p.path) (nat_eq p.trans p.trans) (path_is p.path) (number_is p.trans)
 
   -- it faults
-  pub failed_closes : (kind : fault.Fault) → FiringFaults s budget g p.path p.trans kind → IsClosed s budget turns ((with_take ++ noted (Fault p.path p.trans kind) ∷ []) ++ ending (Faulted kind) ∷ []) (Faulted kind)
+  pub failed_closes : (kind : fault.Fault) → FiringFaults s budget g p.path p.trans kind → IsClosed s budget turns ((with_take ++ noted (Fault p.path p.trans kind) ∷ []) ++ ending (Faulted kind) ∷ []) time.waited (Faulted kind)
   failed_closes kind f =
       let e = noted (Fault p.path p.trans kind) in
       let count : fires (with_take ++ e ∷ []) ≡ fires es = omega (arith, fires_more with_take e, fires_more es (take_of k p)) in
       let t = fired_tickets s budget es k p.trans p.path e w.tickets w.settled next_is may_take refl refl settles_own in
       let settled = fired_settled s budget es k p.trans p.path e w.tickets w.settled next_is may_take refl refl settles_own in
-      closed_on s budget turns (with_take ++ e ∷ []) (Faulted kind)
-      (subst (λ (events : List Event). HasEnded s budget turns events (Faulted kind)) (sym (project_after (Fault p.path p.trans kind))) (faults_end s budget turns (project es) waits w.under_way p.path p.trans kind (inl f)))
+      closed_on s budget turns (with_take ++ e ∷ []) time.waited (Faulted kind)
+      (subst (λ (events : List Event). HasEnded s budget turns events time.waited (Faulted kind)) (sym (project_after (Fault p.path p.trans kind))) (faults_end s budget turns (project es) time systems w.under_way p.path p.trans kind (inl f)))
       (omega (arith, count, w.below)) (still_tickets s budget (with_take ++ e ∷ []) (ending (Faulted kind)) refl settled t)
 
-  pub failed_reached : (kind : fault.Fault) (c rest : C) → Picks draw c g.pending p rest → (first : C) → AreReached draw s budget turns first es c → AreReached draw s budget turns first ((with_take ++ noted (Fault p.path p.trans kind) ∷ []) ++ ending (Faulted kind) ∷ []) rest
-  failed_reached kind c rest picks first reached =
+  pub failed_reached : (kind : fault.Fault) {C : Type 0} (draw : Draw C) (c rest : C) → Picks draw c g.pending p rest → (moment clock : Option ℕ) (first : C)
+      → AreReached draw s budget turns clock first es c time moment → AreReached draw s budget turns clock first ((with_take ++ noted (Fault p.path p.trans kind) ∷ []) ++ ending (Faulted kind) ∷ []) rest time moment
+  failed_reached kind draw c rest picks moment clock first reached =
       let e = noted (Fault p.path p.trans kind) in
-      reached_end draw s budget turns (with_take ++ e ∷ []) (Faulted kind) first rest
-      (reached_on draw s budget turns es (project (with_take ++ e ∷ [])) (Fault p.path p.trans kind) c rest (project_after (Fault p.path p.trans kind)) below refl (λ clock. inr (planned c rest picks clock)) first reached)
+      reached_end draw s budget turns clock first (with_take ++ e ∷ []) rest time moment (Faulted kind)
+      (reached_fired draw s budget turns es (with_take ++ e ∷ []) (Fault p.path p.trans kind) c rest time time moment (project_after (Fault p.path p.trans kind)) below refl refl (λ told. inr (planned draw c rest picks told)) clock first reached)
 
   -- it runs
   module _ (job : Job) (of : IsJobFor s g budget p job) (done : Done) (answers : Answers s job done) (image : Image) (effects : List LoggedEffect) (is : done.outcome ≡ outcome.Ran image effects) where
@@ -204,21 +230,42 @@ module _ {C : Type 0} (draw : Draw C) (s : Subject) (one : IsOneSystem s) (budge
     abbrev after : List Entry
     after = with_take ++ noted fire_event ∷ []
 
+    -- what is kept then of the clock and of the systems
+    abbrev new_time : Time
+    new_time = record time { may_wait = true }
+
+    abbrev new_systems : List System
+    new_systems = each (after_firing p.path (arrivals_of s g done)) systems
+
+    abbrev new_situation : Situation
+    new_situation = record a.situation { timers = map.remove g.timers p; pending = without p g.pending }
+
     legal : IsLegal s g
-    legal = w.under_way.sound.legal
+    legal = w.under_way.legal
 
-    fired : HasFired s budget (project es) p.path p.trans a
-    fired = subst (λ (x : Acting). HasFired s budget (project es) p.path p.trans x) (sym (after_is s budget g legal p pending job of done answers image effects is))
-        (firings_go_on s one budget (project es) waits w.under_way p.path p.trans pending (taken_by s g p.path (transition_at s p.trans (map.get g.core.instances p.path))) refl image effects done.left
-        (is_put s budget g legal p pending job of done answers image effects is))
+    -- the instance's situation in which the head is taken, and what is put into it
+    abbrev h : Situation
+    h = taken_by s g p.path (transition_at s p.trans (map.get g.core.instances p.path))
 
-    pub fired_situation : situation s budget (project after) ≡ record a.situation { timers = map.empty; pending = without p g.pending }
+    abbrev its : IsPut s p.path p.trans h image effects done.left (fire s budget g p.path p.trans)
+    its = is_put s budget g legal p pending job of done answers image effects is
+
+    fired : HasFired s budget (project es) time systems p.path p.trans a (arrivals_of s g done)
+    fired = by its (after_is s budget g legal p pending job of done answers image effects is) (arrivals_are s budget g legal p pending job of done answers image effects is)
+      where
+        by : (q : IsPut s p.path p.trans h image effects done.left (fire s budget g p.path p.trans)) → a ≡ put p.path q.log image.parts (begun h) → arrivals_of s g done ≡ arrivals q.log (begun h)
+            → HasFired s budget (project es) time systems p.path p.trans a (arrivals_of s g done)
+        by q put_so arrived = subst (λ (at : List Path). HasFired s budget (project es) time systems p.path p.trans a at) (sym arrived)
+            (subst (λ (x : Acting). HasFired s budget (project es) time systems p.path p.trans x (arrivals q.log (begun h))) (sym put_so)
+            (firings_go_on s leads budget (project es) time systems w.under_way p.path p.trans pending h refl image effects done.left q))
+
+    pub fired_situation : situation s budget (project after) ≡ new_situation
     fired_situation = ap (situation s budget) (project_after fire_event) ∙ fired.situation_is
 
     pub count_is : fires after ≡ fires es + 1
     count_is = omega (arith, fires_more with_take (noted fire_event), fires_more es (take_of k p))
 
-    still_within : IsWithin budget (fires es + 1) (record a.situation { timers = map.empty; pending = without p g.pending })
+    still_within : IsWithin budget (fires es + 1) new_situation
     still_within =
         let u = within_units s budget g legal p pending job of done answers image effects is in
         record {
@@ -226,20 +273,23 @@ module _ {C : Type 0} (draw : Draw C) (s : Subject) (one : IsOneSystem s) (budge
           births = λ q. omega (arith, u.births q, w.within.births q, once_more budget (fires es + 1));
         }
 
-    pub fired_going : IsGoing s budget turns after true
+    pub fired_going : IsGoing s budget turns after new_time new_systems
     fired_going = record {
-      under_way = subst (λ (events : List Event). IsUnderWay s budget events true) (sym (project_after fire_event)) fired.under_way;
+      under_way = subst (λ (events : List Event). IsUnderWay s budget events new_time new_systems) (sym (project_after fire_event)) fired.under_way;
       below = omega (arith, count_is, below);
-      within = subst (λ (h : Situation). IsWithin budget (fires after) h) (sym fired_situation) (subst (λ (n : ℕ). IsWithin budget n (record a.situation { timers = map.empty; pending = without p g.pending })) (sym count_is) still_within);
+      within = subst (λ (h : Situation). IsWithin budget (fires after) h) (sym fired_situation) (subst (λ (n : ℕ). IsWithin budget n new_situation) (sym count_is) still_within);
       tickets = fired_tickets s budget es k p.trans p.path (noted fire_event) w.tickets w.settled next_is may_take refl refl settles_own;
       settled = fired_settled s budget es k p.trans p.path (noted fire_event) w.tickets w.settled next_is may_take refl refl settles_own;
+      counted = counted_event with_take fire_event (counted_take es k p w.counted);
     }
 
     pub fired_next : length (tickets after) ≡ k
     fired_next = fired_count s budget es k p.trans p.path (noted fire_event) w.tickets w.settled next_is may_take refl refl settles_own
 
-    pub fired_reached : (c rest : C) → Picks draw c g.pending p rest → (first : C) → AreReached draw s budget turns first es c → AreReached draw s budget turns first after rest
-    fired_reached c rest picks first reached = reached_on draw s budget turns es (project after) fire_event c rest (project_after fire_event) below refl (λ clock. planned c rest picks clock) first reached
+    pub fired_reached : {C : Type 0} (draw : Draw C) (c rest : C) → Picks draw c g.pending p rest → (moment clock : Option ℕ) (first : C)
+        → AreReached draw s budget turns clock first es c time moment → AreReached draw s budget turns clock first after rest new_time moment
+    fired_reached draw c rest picks moment clock first reached =
+        reached_fired draw s budget turns es after fire_event c rest time new_time moment (project_after fire_event) below refl refl (λ told. planned draw c rest picks told) clock first reached
 
     -- the count of outputs keeps below the greatest
     pub fired_numbers : budget * (turns + 1) < 2 ^ 63 → g.made + outputs_in (log_of done.outcome) < 2 ^ 64

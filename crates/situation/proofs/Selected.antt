@@ -1,83 +1,121 @@
 -- What a selection comes to.
-use Rattle.std.proofs.Common.{◌≡◌, ◌≢◌, ℕ, zero, suc, ◌+◌, ◌-◌, ◌*◌, ◌^◌, ◌<◌, ◌≤◌, Bool, true, false, List, [], ◌∷◌, ◌++◌, Option, Some, None, refl, sym, ap, subst, ◌∙◌, arith, length}
-use Rattle.std.specs.Prelude.{Contains, slice_get}
-use Rattle.std.specs.FinMap as map
-use Rattle.std.proofs.lemmas.List.{append-nil}
-use Rattle.pascal_values.specs.declared.fault.Fault as fault
+use Rattle.std.proofs.Common.{◌≡◌, ℕ, ◌+◌, ◌<◌, ◌≤◌, ◌^◌, Bool, true, false, cond, List, [], ◌∷◌, ◌++◌, length, Option, Some, None, refl, sym, ap, subst, ◌∙◌, arith}
+use Rattle.std.specs.Prelude.{◌&&◌, nat_eq, IsTrue}
 use Rattle.estelle_tree.specs.declared.transition.Pair.{Pair}
+use Rattle.estelle_tree.specs.declared.transition.Wanted.{Wanted}
 use Rattle.estelle_tree.specs.Paths.{Path}
-use Rattle.estelle_tree.specs.Timers.{pair}
+use Rattle.estelle_tree.specs.Timers.{Timers, renewed}
 use Rattle.estelle_model.specs.declared.event.Event.{Event}
-use Rattle.estelle_model.specs.declared.event.Event.TheVariants.{Start, Select, Fire, Fault}
+use Rattle.estelle_model.specs.declared.event.Event.TheVariants.{Select}
 use Rattle.estelle_model.specs.declared.event.End.{End}
-use Rattle.estelle_model.specs.declared.event.End.TheVariants.{Dead, Turns, Faulted}
-use Rattle.estelle_model.specs.declared.effect.Effect.{Effect as LoggedEffect}
-use Rattle.estelle_model.specs.declared.image.Image.{Image}
-use Rattle.estelle_model.specs.declared.job.Job.{Job}
-use Rattle.estelle_model.specs.declared.job.Done.{Done}
-use Rattle.estelle_model.specs.declared.job.Outcome.{Outcome}
-use Rattle.estelle_model.specs.declared.job.Outcome.TheVariants as outcome
+use Rattle.estelle_model.specs.declared.event.End.TheVariants.{Clock}
 use Rattle.estelle_model.specs.Subject.{Subject}
 use Rattle.estelle_model.specs.Situation.{Situation}
-use Rattle.estelle_model.specs.Firing.{bare}
-use Rattle.estelle_model.specs.Jobs.{Answers}
-use Rattle.estelle_model.specs.Runs.{NoGuardFaults, IsFirstFault, FiringFaults, situation, without}
-use Rattle.estelle_model.specs.Choosers.{Draw, Picks}
+use Rattle.estelle_model.specs.Delays.{has_delays, wanted, renew}
+use Rattle.estelle_model.specs.Runs.{selected, situation}
+use Rattle.estelle_model.specs.Choosers.{Draw}
 use Rattle.estelle_model.specs.Schedule.{Chosen}
 use Rattle.effect_log.specs.declared.shared.Shared.{Shared}
 use Rattle.effect_log.specs.Standing.{Stands}
-use Rattle.effect_log.specs.Putting.{IsRan, log_of, after_put}
-use Rattle.effect_log.specs.Rooms.{outputs_in, HasRoomFor}
+use Rattle.transition_select.specs.declared.offers.Offer.{Offer}
 use Rattle.run_history.specs.declared.entry.Entry.{Entry}
 use Rattle.run_history.specs.Histories.{project, fires}
 use Rattle.run_history.specs.Tickets.{tickets}
-use Rattle.run_history.proofs.Entries.{fires_more}
-use Rattle.situation.specs.declared.limits.Limits.{Limits}
-use Rattle.situation.specs.declared.limits.Stepped.{Stepped}
+use Rattle.situation_steps.specs.declared.systems.System.{System}
+use Rattle.situation_steps.specs.declared.systems.Time.{Time}
+use Rattle.situation_steps.specs.Systems.{after_selection}
+use Rattle.situation_steps.specs.UnderWay.{IsUnderWay}
+use Rattle.situation_steps.proofs.Selections.{selections_go_on}
 use Rattle.situation.specs.declared.limits.Stepped.TheVariants as did
 use Rattle.situation.specs.declared.course.Course.{Course}
-use Rattle.situation.specs.Runs.{noted, ending, take_of, IsGoing, IsClosed, AreReached, IsJobFor}
-use Rattle.situation.specs.Worlds.{IsOpen, AreEmpty, IsOpenCourse, IsKept, IsCourse, HasStepped, IsReached, now, work, left_to_do, entries_of, IsUnchanged}
-use Rattle.situation.specs.Steps.{GoesOn, IsDue, IsReady, MayPut, MaySettle, IsComputed, HasFired, HasFailed, SettledSo, HasSettled}
-use Rattle.situation.proofs.Standing.{stands_still}
-use Rattle.situation.proofs.Tickets.{tickets_same}
-use Rattle.situation.proofs.Steps.{project_push, fires_same, reached_end, closed_on, turns_close, dead_closes, has_selected_now, guard_faults_now}
-use Rattle.situation.proofs.Firings.{answers_in, failing, failed_closes, failed_reached, fired_situation, fired_going, fired_next, fired_reached, fired_numbers, count_is}
-use Rattle.situation.proofs.Less.{less_selected, less_fired, less_ended, same_outputs, below_other, left_open}
+use Rattle.situation.specs.Runs.{noted, IsWithin, IsGoing, AreReached}
+use Rattle.situation.specs.Worlds.{Holds, IsOpenCourse, IsKept, HasStepped, now, work, left_to_do}
+use Rattle.situation.specs.Steps.{GoesOn, IsDueAt, IsOfferedAt, MayBeNow}
+use Rattle.situation.proofs.Tickets.{still_settled, still_tickets, tickets_same}
+use Rattle.situation.proofs.Steps.{project_push, fires_same, counted_event, reached_on, moment_by}
+use Rattle.situation.proofs.Less.{less_selected, left_open}
+
+-- the shared state stands for a situation whatever is pending in it, whatever timers run, and at any moment
+stands_later : (s : Subject) (shared : Shared) (g : Situation) (moment : ℕ) (timers : Timers) (pending : List Pair) → Stands s shared g → Stands s shared (record g { now = moment; timers = timers; pending = pending })
+stands_later s shared g moment timers pending h = record {
+  instances = h.instances;
+  links = h.links;
+  queues = record { declared = h.queues.declared; together = h.queues.together; apart = h.queues.apart; waiting = h.queues.waiting };
+  outputs = h.outputs;
+}
+
+-- what is due awaits a selection
+and_left : (a b : Bool) → IsTrue (a && b) → a ≡ true
+and_left true b h = refl
+and_left false b h = h
 
 module _ {H : Type 0} where
-  -- ---- selections
-
   -- the course with what was selected
-  abbrev with_selection : Course H → Course H → Course H
-  with_selection c n = record c { pending = n.pending; awaits = false; history = n.history; chooser = n.chooser }
+  abbrev pub with_selection : Course H → Course H → ℕ → Course H
+  with_selection c n moment = record c { pending = n.pending; timers = n.timers; systems = n.systems; time = record c.time { known = moment }; history = n.history; chooser = n.chooser }
 
-  pub selected_step : (draw : Draw H) (c n : Course H) → GoesOn 2 c → IsDue c → NoGuardFaults c.program.now c.limits.budget (now c) [] → Chosen draw c.program.now c.limits.budget (now c) [] c.chooser n.pending.items n.chooser
-      → n.history.entries ≡ c.history.entries ++ noted (Select [] 0 n.pending.items) ∷ [] → HasStepped draw c (with_selection c n) did.Selected
-  selected_step draw c n opened due sound chosen entries_are =
-      let o = opened.is_open.open_run in
+  -- a system selects
+  pub selected_step : (draw : Draw H) (told : Option ℕ) (c n : Course H) (at moment : ℕ) (takes : List Pair) (offers : List Offer) (wants : List Wanted)
+      → GoesOn 2 c → (due : IsDueAt at c) → MayBeNow told moment c → IsOfferedAt at moment c offers wants
+      → Chosen draw c.program.now c.limits.budget (renew c.program.now c.limits.budget (now c) due.first.0.path moment) due.first.0.path c.chooser takes n.chooser
+      → n.pending.items ≡ c.pending.items ++ takes
+      → n.timers ≡ renewed due.first.0.path moment wants c.timers
+      → n.systems.items ≡ after_selection at due.first.0 (length takes) c.systems.items
+      → n.history.entries ≡ c.history.entries ++ noted (Select due.first.0.path moment takes) ∷ []
+      → HasStepped draw told told c (with_selection c n moment) did.Selected
+  selected_step draw told c n at moment takes offers wants opened due may offered chosen pending_is timers_are systems_are entries_are =
+      let o = opened.is_open in
       let s = c.program.now in
       let b = c.limits.budget in
       let t = c.limits.turns in
       let es = c.history.entries in
-      let takes = n.pending.items in
-      let going : IsGoing s b t es true = subst (λ (w : Bool). IsGoing s b t es w) due.awaits o.going in
-      let h = has_selected_now draw s o.one b t es going (sym o.waiting ∙ due.none) due.below sound c.chooser takes n.chooser chosen in
-      let e = noted (Select [] 0 takes) in
-      let there : IsOpen s c.limits (es ++ e ∷ []) c.shared takes false c.tickets = record {
-        one = o.one;
-        room = o.room;
-        going = h.going;
-        stands = subst (Stands s c.shared) (sym h.situation_is) (stands_still s c.shared (now c) (now c).timers takes o.stands);
-        waiting = sym (ap (λ (g : Situation). g.pending) h.situation_is);
-        taken = ap length (tickets_same es e refl) ∙ o.taken;
-        fired = fires_same es e refl ∙ o.fired;
+      let x : System = due.first.0 in
+      let it = offered x due.first.1.there in
+      let undelayed : has_delays s ≡ false → moment ≡ 0 = λ none. may.undelayed (o.delays ∙ none) in
+      let h = selections_go_on draw s o.leads b (project es) c.time c.systems.items o.going.under_way at x due.first.1 moment may.no_earlier may.last undelayed it.sound c.chooser takes n.chooser chosen in
+      let e = noted (Select x.path moment takes) in
+      let after : Time = record c.time { known = moment } in
+      let is : project (es ++ e ∷ []) ≡ project es ++ Select x.path moment takes ∷ [] = project_push es e in
+      let count : fires (es ++ e ∷ []) ≡ fires es = fires_same es e refl in
+      let now_is : situation s b (project (es ++ e ∷ [])) ≡ selected s b (now c) x.path moment takes = ap (situation s b) is ∙ h.situation_is in
+      let running : n.timers ≡ renewed x.path moment (wanted s b (now c) x.path) (now c).timers =
+      timers_are ∙ ap (λ (ws : List Wanted). renewed x.path moment ws c.timers) it.wanted ∙ ap (renewed x.path moment (wanted s b (now c) x.path)) o.holds.timers in
+      let going : IsGoing s b t (es ++ e ∷ []) after (after_selection at x (length takes) c.systems.items) = record {
+        under_way = subst (λ (events : List Event). IsUnderWay s b events after (after_selection at x (length takes) c.systems.items)) (sym is) h.under_way;
+        below = omega (arith, count, o.going.below);
+        within = subst (λ (g : Situation). IsWithin b (fires (es ++ e ∷ [])) g) (sym now_is)
+            (subst (λ (k : ℕ). IsWithin b k (selected s b (now c) x.path moment takes)) (sym count) (record { made = o.going.within.made; births = o.going.within.births }));
+        tickets = still_tickets s b es e refl o.going.settled o.going.tickets;
+        settled = still_settled es e refl o.going.settled;
+        counted = counted_event es (Select x.path moment takes) o.going.counted;
       } in
-      let count : fires n.history.entries ≡ fires es = ap fires entries_are ∙ fires_same es e refl in
-      let before : left_to_do c ≡ work t (fires es) true None = left_open c opened.unended ∙ ap (λ (w : Bool). work t (fires es) w None) due.awaits in
-      let after : left_to_do (with_selection c n) ≡ work t (fires n.history.entries) false None = left_open (with_selection c n) opened.unended in
+      let holds : Holds s b (es ++ e ∷ []) c.shared n.timers n.pending.items = record {
+        stands = subst (Stands s c.shared) (sym now_is) (stands_later s c.shared (now c) moment (renewed x.path moment (wanted s b (now c) x.path) (now c).timers) ((now c).pending ++ takes) o.holds.stands);
+        timers = running ∙ sym (ap (λ (g : Situation). g.timers) now_is);
+        pending = pending_is ∙ ap (λ (ps : List Pair). ps ++ takes) o.holds.pending ∙ sym (ap (λ (g : Situation). g.pending) now_is);
+      } in
+      let new = with_selection c n moment in
+      let fired : fires n.history.entries ≡ fires es = ap fires entries_are ∙ count in
       record {
-        keeps = subst (IsKept (with_selection c n)) (sym opened.unended) (record { open_run = subst (λ (xs : List Entry). IsOpen s c.limits xs c.shared takes false c.tickets) (sym entries_are) there; empty = opened.is_open.empty });
-        goes_on = record { program = refl; limits = refl; reached = λ first r. subst (λ (xs : List Entry). AreReached draw s b t first xs n.chooser) (sym entries_are) (h.reached first r) };
-        leaves = less_selected (fires n.history.entries) (fires es) t (left_to_do (with_selection c n)) (left_to_do c) count after before;
+        keeps = subst (IsKept new) (sym opened.unended) (record {
+          leads = o.leads;
+          room = o.room;
+          delays = o.delays;
+          going = subst (λ (xs : List Entry). IsGoing s b t xs after n.systems.items) (sym entries_are) (subst (λ (ys : List System). IsGoing s b t (es ++ e ∷ []) after ys) (sym systems_are) going);
+          holds = subst (λ (xs : List Entry). Holds s b xs c.shared n.timers n.pending.items) (sym entries_are) holds;
+          taken = ap (λ (xs : List Entry). length (tickets xs)) entries_are ∙ ap length (tickets_same es e refl) ∙ o.taken;
+          fired = fired ∙ o.fired;
+          empty = o.empty;
+        });
+        goes_on = record {
+          program = refl;
+          limits = refl;
+          reached = λ clock first r. subst (λ (xs : List Entry). AreReached draw s b t clock first xs n.chooser after told) (sym entries_are)
+              (reached_on draw s b t clock first es c.chooser c.time told (Select x.path moment takes) n.chooser r due.below
+              (λ known is_told. h.planned (record { chooser = c.chooser; known = c.time.known; waited = c.time.waited; clock = known }) refl refl
+              (moment_by (has_delays s) known told c.time.known moment is_told may.no_earlier undelayed (λ some. may.told (o.delays ∙ some)))));
+        };
+        leaves = less_selected (fires n.history.entries) (fires es) t c.time.may_wait c.systems.items n.systems.items at x (length takes) (left_to_do new) (left_to_do c) fired due.first.1.there
+            (and_left x.awaits (nat_eq x.pending 0) due.first.1.due) systems_are (left_open new opened.unended) (left_open c opened.unended);
+        ends = λ clocked. let wrong : None ≡ Some Clock = sym opened.unended ∙ clocked in absurd (cc);
       }

@@ -1,10 +1,13 @@
 -- What a done that is settled comes to.
 use Rattle.std.proofs.Common.{◌≡◌, ℕ, true, List, [], ◌∷◌, ◌++◌, Option, Some, None, refl, sym, ap, subst, ◌∙◌}
 use Rattle.pascal_values.specs.declared.fault.Fault as fault
-use Rattle.std.specs.Prelude.{IfSome, IfNone}
+use Rattle.std.specs.Prelude.{IfSome, IfNone, map as each}
+use Rattle.std.specs.FinMap as map
 use Rattle.estelle_tree.specs.Paths.{Path}
 use Rattle.estelle_tree.specs.declared.transition.Pair.{Pair}
+use Rattle.estelle_tree.specs.Timers.{pair, Timers}
 use Rattle.estelle_model.specs.declared.event.Event.TheVariants.{Fire}
+use Rattle.estelle_model.specs.declared.event.End.TheVariants.{Clock}
 use Rattle.estelle_model.specs.declared.effect.Out.{Out}
 use Rattle.estelle_model.specs.declared.job.Done.{Done}
 use Rattle.estelle_model.specs.declared.job.Outcome.{Outcome}
@@ -14,9 +17,13 @@ use Rattle.estelle_model.specs.Situation.{Situation}
 use Rattle.effect_log.specs.Standing.{Stands}
 use Rattle.effect_log.specs.Putting.{IsRan, after_put}
 use Rattle.run_history.specs.declared.entry.Entry.{Entry}
+use Rattle.situation.specs.declared.limits.Stepped.{Stepped}
 use Rattle.situation.specs.declared.limits.Stepped.TheVariants as did
 use Rattle.situation.specs.declared.course.Course.{Course}
+use Rattle.situation_steps.specs.declared.systems.System.{System}
+use Rattle.situation_steps.specs.Systems.{after_firing}
 use Rattle.situation.specs.Runs.{noted}
+use Rattle.situation.specs.Putting.{arrivals_of}
 use Rattle.situation.specs.Worlds.{AreEmpty}
 use Rattle.situation.specs.Steps.{failure_of, HasPut, HasFired, HasFailed, SettledSo, HasSettled}
 
@@ -43,22 +50,32 @@ module _ {H : Type 0} (g : Situation) (old : Course H) (path : Path) (trans : �
       by (outcome.Ran image effects) e = absurd (cc)
       by (outcome.Faulted k) e = (subst (HasFailed old new path trans) (sym (same_kind k kind e)) h, refl)
 
-  -- it was put, and then noted
-  pub put_and_noted : (m n : Course H) → AreEmpty old.notes → HasPut g old.notes m done → m ≡ record old { shared = m.shared; notes = m.notes; awaits = true }
-      → n.history.entries ≡ m.history.entries ++ noted (Fire path trans m.notes.outs.items m.notes.drops.items) ∷ [] → AreEmpty n.notes → n ≡ record m { history = n.history; notes = n.notes } → HasFired g old n path trans done
-  put_and_noted m n before put rest noted_is empty rest_is =
+  -- it was put, its timer went and the systems await selections, and then it was noted
+  pub put_and_noted : (m o n : Course H) → AreEmpty old.notes → HasPut g old.notes m done → m ≡ record old { shared = m.shared; notes = m.notes }
+      → o.systems.items ≡ each (after_firing path m.notes.arrivals.items) m.systems.items → o.timers ≡ map.remove m.timers (pair path trans)
+      → o ≡ record m { timers = o.timers; systems = o.systems; time = record m.time { may_wait = true } }
+      → n.history.entries ≡ o.history.entries ++ noted (Fire path trans o.notes.outs.items o.notes.drops.items) ∷ [] → AreEmpty n.notes → n ≡ record o { history = n.history; notes = n.notes } → HasFired g old n path trans done
+  put_and_noted m o n before put rest systems timers others noted_is empty rest_is =
       let program : m.program.now ≡ old.program.now = ap (λ (c : Course H). c.program.now) rest in
-      let shared : n.shared ≡ m.shared = ap (λ (c : Course H). c.shared) rest_is in
-      let entries : m.history.entries ≡ old.history.entries = ap (λ (c : Course H). c.history.entries) rest in
-      let outs : m.notes.outs.items ≡ (after_put old.program.now g done).outs = put.outs ∙ ap (λ (xs : List Out). xs ++ (after_put m.program.now g done).outs) before.outs ∙ ap (λ (s : Subject). (after_put s g done).outs) program in
-      let drops : m.notes.drops.items ≡ (after_put old.program.now g done).drops = put.drops ∙ ap (λ (xs : List ℕ). xs ++ (after_put m.program.now g done).drops) before.drops ∙ ap (λ (s : Subject). (after_put s g done).drops) program in
+      let both : o ≡ record old { shared = m.shared; notes = m.notes; timers = o.timers; systems = o.systems; time = record old.time { may_wait = true } } = others
+      ∙ ap (λ (c : Course H). record c { timers = o.timers; systems = o.systems; time = record c.time { may_wait = true } }) rest in
+      let all : n ≡ record old { shared = m.shared; notes = n.notes; timers = o.timers; systems = o.systems; time = record old.time { may_wait = true }; history = n.history } = rest_is
+      ∙ ap (λ (c : Course H). record c { history = n.history; notes = n.notes }) both in
+      let shared : m.shared ≡ n.shared = sym (ap (λ (c : Course H). c.shared) all) in
+      let timers_then : o.timers ≡ n.timers = sym (ap (λ (c : Course H). c.timers) all) in
+      let systems_then : o.systems ≡ n.systems = sym (ap (λ (c : Course H). c.systems) all) in
+      let entries : o.history.entries ≡ old.history.entries = ap (λ (c : Course H). c.history.entries) both in
+      let outs : o.notes.outs.items ≡ (after_put old.program.now g done).outs = ap (λ (c : Course H). c.notes.outs.items) both ∙ put.outs ∙ (λ i. before.outs i ++ (after_put (program i) g done).outs) in
+      let drops : o.notes.drops.items ≡ (after_put old.program.now g done).drops = ap (λ (c : Course H). c.notes.drops.items) both ∙ put.drops ∙ (λ i. before.drops i ++ (after_put (program i) g done).drops) in
+      let arrived : m.notes.arrivals.items ≡ arrivals_of old.program.now g done = put.arrivals ∙ (λ i. before.arrivals i ++ arrivals_of (program i) g done) in
+      let systems_before : m.systems.items ≡ old.systems.items = ap (λ (c : Course H). c.systems.items) rest in
       record {
-        stands = subst (λ x. Stands old.program.now x (after_put old.program.now g done).situation) (sym shared) (subst (λ (s : Subject). Stands s m.shared (after_put s g done).situation) program put.stands);
+        stands = subst (λ x. Stands old.program.now x (after_put old.program.now g done).situation) shared (subst (λ (s : Subject). Stands s m.shared (after_put s g done).situation) program put.stands);
         noted = noted_is ∙ (λ i. entries i ++ noted (Fire path trans (outs i) (drops i)) ∷ []);
         empty = empty;
-        rest = rest_is
-            ∙ ap (λ (c : Course H). record c { history = n.history; notes = n.notes }) rest
-            ∙ ap (λ x. record old { shared = x; history = n.history; notes = n.notes; awaits = true }) (sym shared);
+        systems = sym (ap (λ x. x.items) systems_then) ∙ systems ∙ (λ i. each (after_firing path (arrived i)) (systems_before i));
+        timers = sym timers_then ∙ timers ∙ ap (λ (c : Course H). map.remove c.timers (pair path trans)) rest;
+        rest = all ∙ (λ i. record old { shared = shared i; notes = n.notes; timers = timers_then i; systems = systems_then i; time = record old.time { may_wait = true }; history = n.history });
       }
 
 -- what is there is found
@@ -70,3 +87,11 @@ found_if (Some x) P e h there = absurd (cc)
 pub found_is : (r : Option Pair) (p q : Pair) → r ≡ Some q → IfSome r (λ x. x ≡ p) → q ≡ p
 found_is None p q e h = absurd (cc)
 found_is (Some x) p q e h = let same : x ≡ q = cc in sym same ∙ h
+
+-- what was settled has not ended by the clock
+pub settled_unclocked : {H : Type 0} (g : Situation) (old new : Course H) (path : Path) (trans : ℕ) (done : Done) (d : Stepped) → HasSettled g old new path trans done d → d ≡ did.Ended Clock → ⊥
+settled_unclocked g old new path trans done d h clocked = by done.outcome h
+  where
+    by : (o : Outcome) → SettledSo g old new path trans done o d → ⊥
+    by (outcome.Ran image effects) x = let wrong : did.Fired ≡ did.Ended Clock = sym x.1 ∙ clocked in cc
+    by (outcome.Faulted kind) x = let wrong : did.Faulted ≡ did.Ended Clock = sym x.1 ∙ clocked in cc

@@ -26,7 +26,7 @@ module _ {H : Type 0} (old : Course H) (done : Done) where
   abbrev s : Subject
   s = old.program.now
 
-  pub been_put : (m n : Course H) → AreEmpty old.notes → HasPut (bare s) old.notes m done → m ≡ record old { shared = m.shared; notes = m.notes; awaits = true }
+  pub been_put : (m n : Course H) → AreEmpty old.notes → HasPut (bare s) old.notes m done → m ≡ record old { shared = m.shared; notes = m.notes }
       → n.history.entries ≡ m.history.entries ++ noted (Start m.notes.outs.items m.notes.drops.items) ∷ [] → AreEmpty n.notes → n ≡ record m { history = n.history; notes = n.notes } → HasBeenPut old n done
   been_put m n empty h is entries_are cleared rest =
       let program_is : m.program.now ≡ s = ap (λ (x : Course H). x.program.now) is in
@@ -40,7 +40,7 @@ module _ {H : Type 0} (old : Course H) (done : Done) where
         empty = cleared;
         rest = rest
             ∙ ap (λ (x : Course H). record x { history = n.history; notes = n.notes }) is
-            ∙ ap (λ (x : Shared). record old { shared = x; history = n.history; notes = n.notes; awaits = true }) (sym shared_is);
+            ∙ ap (λ (x : Shared). record old { shared = x; history = n.history; notes = n.notes }) (sym shared_is);
       }
 
   -- the start ran

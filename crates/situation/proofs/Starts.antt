@@ -1,10 +1,9 @@
 -- The start of a run: it is put, or it faults.
 use Rattle.std.proofs.Common.{◌≡◌, ℕ, zero, suc, ◌+◌, ◌*◌, ◌^◌, ◌<◌, ◌≤◌, cond, Bool, true, false, List, [], ◌∷◌, ◌++◌, Option, Some, None, refl, sym, ap, subst, ◌∙◌, arith}
-use Rattle.std.specs.Prelude.{option_map}
+use Rattle.std.specs.Prelude.{option_map, map as each}
 use Rattle.std.specs.FinMap as map
 use Rattle.std.proofs.Math.Nat.{mul-le-mul_left}
 use Rattle.pascal_values.specs.declared.fault.Fault as fault
-use Rattle.estelle_tree.specs.declared.transition.Pair.{Pair}
 use Rattle.std.specs.Ordering.{eq_by_cmp}
 use Rattle.estelle_tree.specs.Paths.{Path, path_cmp}
 use Rattle.estelle_tree.specs.Timers.{pair}
@@ -28,6 +27,8 @@ use Rattle.estelle_model.specs.Jobs.{IsAnswer, IsPut, Answers, AnswersAt, put, a
 use Rattle.estelle_model.specs.Runs.{Begins, situation, started}
 use Rattle.estelle_model.specs.Choosers.{Draw}
 use Rattle.estelle_model.specs.Schedule.{begins}
+use Rattle.estelle_model_legality.specs.Instances.{LeadsToStates}
+use Rattle.estelle_model_legality.specs.Situations.{IsLegal}
 use Rattle.estelle_model.proofs.Maps.{total}
 use Rattle.effect_log.specs.Putting.{log_of, parts_of, effects_of, IsJobAt, AnswersIn, begun_by, after_put}
 use Rattle.effect_log.specs.Rooms.{outputs_in}
@@ -37,14 +38,21 @@ use Rattle.run_history.specs.declared.entry.Entry.{Entry}
 use Rattle.run_history.specs.declared.entry.What.TheVariants as what
 use Rattle.run_history.specs.Histories.{project}
 use Rattle.run_history.specs.Tickets.{AreTickets, tickets}
-use Rattle.situation_steps.specs.OneSystems.{IsOneSystem}
-use Rattle.situation_steps.specs.UnderWay.{IsUnderWay}
-use Rattle.situation_steps.proofs.Events.{starts_go_on}
+use Rattle.situation_steps.specs.declared.systems.System.{System}
+use Rattle.situation_steps.specs.Systems.{systems_of, first_kept}
+use Rattle.situation_steps.specs.Laws.{first_time, HasBegun}
+use Rattle.situation_steps.proofs.Starting.{starts_go_on}
 use Rattle.situation_units.specs.Counting.{births_of, births_at, IsWithinUnits}
 use Rattle.situation_units.proofs.Weighing.{starts_are_within}
-use Rattle.situation.specs.Runs.{noted, ending, AllSettled, IsWithin, IsGoing, IsClosed, AreReached}
+use Rattle.situation.specs.Runs.{noted, ending, AllSettled, IsWithin, IsGoing, IsClosed, IsTold, AreReached}
 use Rattle.situation.proofs.Tickets.{too_short, still_settled, still_tickets}
+use Rattle.situation.proofs.Steps.{counted_event}
 use Rattle.situation.proofs.Firings.{once_more, made_all}
+
+-- a clock tells what it tells
+told_itself : (moment : Option ℕ) → IsTold moment moment
+told_itself None = tt
+told_itself (Some moment) = refl
 
 -- ---- before the first entry
 
@@ -80,12 +88,16 @@ no_births s q = by (body s 0)
     by None = births_of_none q
     by (Some b) = births_alone q (new_instance s 0 b []) refl
 
--- what is pending stays
+-- timers and what is pending stay
+timers_stay : (es : List Effect) (a : Acting) → (after_all es a).situation.timers ≡ a.situation.timers
+timers_stay [] a = refl
+timers_stay (e ∷ es) a = timers_stay es (acting_after e a)
+
 pending_stays : (es : List Effect) (a : Acting) → (after_all es a).situation.pending ≡ a.situation.pending
 pending_stays [] a = refl
 pending_stays (e ∷ es) a = pending_stays es (acting_after e a)
 
-module _ (s : Subject) (one : IsOneSystem s) (budget turns : ℕ) (job : Job) (first : job.trans ≡ 0) (root : job.path ≡ []) (units : job.budget ≡ budget) (done : Done) (answers : Answers s job done) where
+module _ (s : Subject) (leads : LeadsToStates s) (budget turns : ℕ) (job : Job) (first : job.trans ≡ 0) (root : job.path ≡ []) (units : job.budget ≡ budget) (done : Done) (answers : Answers s job done) where
   pub start_answers_in : AnswersIn s (bare s) done
   start_answers_in = record { job = job; at = subst (λ (n : ℕ). IsJobAt s (bare s) job n) (sym first) (refl, root); answers = answers }
 
@@ -101,7 +113,7 @@ module _ (s : Subject) (one : IsOneSystem s) (budget turns : ℕ) (job : Job) (f
     failed : start s budget ≡ Failed kind done.left
     failed = subst (λ (o : Outcome). IsAnswer s [] 0 (bare s) o done.left (start s budget)) is answer
 
-    pub start_closes : IsClosed s budget turns failed_entries (Faulted kind)
+    pub start_closes : IsClosed s budget turns failed_entries 0 (Faulted kind)
     start_closes =
         let e = noted (Fault [] 0 kind) in
         record {
@@ -114,8 +126,8 @@ module _ (s : Subject) (one : IsOneSystem s) (budget turns : ℕ) (job : Job) (f
           tickets = still_tickets s budget (e ∷ []) (ending (Faulted kind)) refl (still_settled [] e refl none_settled) (still_tickets s budget [] e refl none_settled (no_tickets s budget));
         }
 
-    pub start_failed_reached : {C : Type 0} (draw : Draw C) (c : C) → AreReached draw s budget turns c failed_entries c
-    start_failed_reached draw c clock = begins (Fault [] 0 kind)
+    pub start_failed_reached : {C : Type 0} (draw : Draw C) (c : C) (moment : Option ℕ) → AreReached draw s budget turns moment c failed_entries c first_time moment
+    start_failed_reached draw c moment = record { known = moment; told = told_itself moment; reached = begins (Fault [] 0 kind) }
 
   -- ---- it runs
 
@@ -151,17 +163,33 @@ module _ (s : Subject) (one : IsOneSystem s) (budget turns : ℕ) (job : Job) (f
     start_left : situation s budget (project begun_entries) ≡ record (put [] is_put.log image.parts (begun (bare s))).situation { timers = map.remove (put [] is_put.log image.parts (begun (bare s))).situation.timers (pair [] 0) }
     start_left = ap (started s) is_put.result
 
-    pub start_situation : situation s budget (project begun_entries) ≡ record a.situation { timers = map.remove a.situation.timers (pair [] 0); pending = [] }
-    start_situation = start_left
-        ∙ ap (λ (ps : List Pair). record (put [] is_put.log image.parts (begun (bare s))).situation { timers = map.remove (put [] is_put.log image.parts (begun (bare s))).situation.timers (pair [] 0); pending = ps }) (pending_stays is_put.log (begun (bare s)))
-        ∙ ap (λ (x : Acting). record x.situation { timers = map.remove x.situation.timers (pair [] 0); pending = [] }) (sym after_is)
+    -- nothing is pending then, and no timer runs
+    pub start_pending : a.situation.pending ≡ []
+    start_pending = ap (λ (x : Acting). x.situation.pending) after_is ∙ pending_stays is_put.log (begun (bare s))
+
+    pub start_timers : a.situation.timers ≡ map.empty
+    start_timers = ap (λ (x : Acting). x.situation.timers) after_is ∙ timers_stay is_put.log (begun (bare s))
+
+    -- with all systems, before their first selection
+    has_begun : (systems : List System) → systems ≡ each first_kept (systems_of s a.situation) → HasBegun s budget a systems
+    has_begun systems are = subst (λ (x : Acting). HasBegun s budget x systems) (sym after_is)
+        (starts_go_on s leads budget image effects done.left is_put systems (are ∙ ap (λ (x : Acting). each first_kept (systems_of s x.situation)) after_is))
+
+    abbrev all_systems : List System
+    all_systems = each first_kept (systems_of s a.situation)
+
+    pub start_situation : situation s budget (project begun_entries) ≡ a.situation
+    start_situation = (has_begun all_systems refl).situation_is
+
+    pub start_legal : IsLegal s a.situation
+    start_legal = subst (IsLegal s) start_situation (has_begun all_systems refl).under_way.legal
 
     within_units : IsWithinUnits budget (bare s) (situation s budget (project begun_entries))
     within_units = let h = starts_are_within s budget _ _ _ _ is_put.result in subst (IsWithinUnits budget (bare s)) (sym start_left) h
 
-    pub start_going : IsGoing s budget turns begun_entries true
-    start_going = record {
-      under_way = subst (λ (x : Acting). IsUnderWay s budget (Start x.outs x.drops ∷ []) true) (sym after_is) (starts_go_on s one budget image effects done.left is_put);
+    pub start_going : (systems : List System) → systems ≡ each first_kept (systems_of s a.situation) → IsGoing s budget turns begun_entries first_time systems
+    start_going systems are = record {
+      under_way = (has_begun systems are).under_way;
       below = omega arith;
       within = record {
         made = omega (arith, within_units.made, once_more budget 0);
@@ -169,10 +197,11 @@ module _ (s : Subject) (one : IsOneSystem s) (budget turns : ℕ) (job : Job) (f
       };
       tickets = still_tickets s budget [] (noted start_event) refl none_settled (no_tickets s budget);
       settled = still_settled [] (noted start_event) refl none_settled;
+      counted = counted_event [] start_event refl;
     }
 
-    pub start_reached : {C : Type 0} (draw : Draw C) (c : C) → AreReached draw s budget turns c begun_entries c
-    start_reached draw c clock = begins start_event
+    pub start_reached : {C : Type 0} (draw : Draw C) (c : C) (moment : Option ℕ) → AreReached draw s budget turns moment c begun_entries c first_time moment
+    start_reached draw c moment = record { known = moment; told = told_itself moment; reached = begins start_event }
 
     pub start_numbers : budget * (turns + 1) < 2 ^ 63 → outputs_in (log_of done.outcome) < 2 ^ 64
     start_numbers room =

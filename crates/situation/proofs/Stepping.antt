@@ -1,31 +1,48 @@
 -- A step from a course whose history has more memory.
-use Rattle.std.proofs.Common.{◌≡◌, ℕ, ◌+◌, ◌<◌, ◌≤◌, List, Option, Some, None, refl, sym, ap, subst, ◌∙◌, arith, length}
+use Rattle.std.proofs.Common.{◌≡◌, ℕ, ◌+◌, ◌-◌, ◌<◌, ◌≤◌, true, false, List, length, Option, Some, None, refl, sym, ap, subst, ◌∙◌, arith}
 use Rattle.estelle_model.specs.declared.event.End.{End}
+use Rattle.estelle_model.specs.declared.event.End.TheVariants.{Clock}
 use Rattle.estelle_model.specs.Choosers.{Draw}
 use Rattle.run_history.specs.declared.entry.Entry.{Entry}
 use Rattle.run_history.specs.Histories.{History, project, fires}
+use Rattle.run_history.specs.Tickets.{tickets}
 use Rattle.situation.specs.declared.limits.Stepped.{Stepped}
 use Rattle.situation.specs.declared.limits.Stepped.TheVariants as did
 use Rattle.situation.specs.declared.course.Course.{Course}
-use Rattle.situation.specs.Runs.{IsClosed, AreReached}
-use Rattle.situation.specs.Worlds.{IsOpen, IsOpenCourse, IsKept, IsCourse, HasStepped, IsUnchanged, Leaves, work, left_to_do}
+use Rattle.situation.specs.Runs.{IsGoing, IsClosed, AreReached}
+use Rattle.situation.specs.Worlds.{Holds, IsOpenCourse, IsKept, IsCourse, HasStepped, IsUnchanged, Leaves, work, left_to_do}
 use Rattle.situation.specs.Steps.{GoesOn}
+use Rattle.situation.proofs.Ended.{says}
 
 module _ {H : Type 0} where
   -- an ended course answers its end
-  pub same_end : (draw : Draw H) (c : Course H) (e : End) → IsCourse c → c.end ≡ Some e → HasStepped draw c c (did.Ended e)
-  same_end draw c e h is = record { keeps = h; goes_on = record { program = refl; limits = refl; reached = λ first r. r }; leaves = is }
+  pub same_end : (draw : Draw H) (moment : Option ℕ) (c : Course H) (e : End) → IsCourse c → c.end ≡ Some e → HasStepped draw moment moment c c (did.Ended e)
+  same_end draw moment c e h is = record {
+    keeps = h;
+    goes_on = record { program = refl; limits = refl; reached = λ clock first r. r };
+    leaves = is;
+    ends = λ clocked. ap (says e) (sym is ∙ clocked);
+  }
 
-  abbrev with_history : Course H → History → Course H
+  abbrev pub with_history : Course H → History → Course H
   with_history c h = record c { history = h }
 
   kept_so : (c : Course H) (h : History) → h.entries ≡ c.history.entries → (e : Option End) → IsKept c e → IsKept (with_history c h) e
-  kept_so c h same None k = record { open_run = subst (λ (es : List Entry). IsOpen c.program.now c.limits es c.shared c.pending.items c.awaits c.tickets) (sym same) k.open_run; empty = k.empty }
-  kept_so c h same (Some e) k = subst (λ (es : List Entry). IsClosed c.program.now c.limits.budget c.limits.turns es e) (sym same) k
+  kept_so c h same None k = record {
+    leads = k.leads;
+    room = k.room;
+    delays = k.delays;
+    going = subst (λ (es : List Entry). IsGoing c.program.now c.limits.budget c.limits.turns es c.time c.systems.items) (sym same) k.going;
+    holds = subst (λ (es : List Entry). Holds c.program.now c.limits.budget es c.shared c.timers c.pending.items) (sym same) k.holds;
+    taken = ap (λ (es : List Entry). length (tickets es)) same ∙ k.taken;
+    fired = ap fires same ∙ k.fired;
+    empty = k.empty;
+  }
+  kept_so c h same (Some e) k = subst (λ (es : List Entry). IsClosed c.program.now c.limits.budget c.limits.turns es c.time.waited e) (sym same) k
 
   -- it is the same run
   pub refused_so : (c : Course H) (h : History) → h.entries ≡ c.history.entries → IsCourse c → IsUnchanged c (with_history c h)
-  refused_so c h same k = record { keeps = kept_so c h same c.end k; program = refl; limits = refl; entries = same }
+  refused_so c h same k = record { keeps = kept_so c h same c.end k; program = refl; limits = refl; entries = same; time = refl }
 
   -- which goes on where it has not ended
   pub goes_on_so : (c : Course H) (h : History) (n : ℕ) → h.entries ≡ c.history.entries → n ≤ h.spare → c.end ≡ None → IsCourse c → GoesOn n (with_history c h)
@@ -38,16 +55,24 @@ module _ {H : Type 0} where
   leaves_so b c n did.Faulted same h = subst (λ (x : ℕ). left_to_do n < x) same h
   leaves_so b c n (did.Ended e) same h = h
 
-  pub stepped_so : (draw : Draw H) (c n : Course H) (h : History) (d : Stepped) → h.entries ≡ c.history.entries → HasStepped draw (with_history c h) n d → HasStepped draw c n d
-  stepped_so draw c n h d same s = record {
+  pub stepped_so : (draw : Draw H) (moment after : Option ℕ) (c n : Course H) (h : History) (d : Stepped) → h.entries ≡ c.history.entries → HasStepped draw moment after (with_history c h) n d → HasStepped draw moment after c n d
+  stepped_so draw moment after c n h d same s = record {
     keeps = s.keeps;
     goes_on = record {
       program = s.goes_on.program;
       limits = s.goes_on.limits;
-      reached = λ first r. s.goes_on.reached first (subst (λ (es : List Entry). AreReached draw c.program.now c.limits.budget c.limits.turns first es c.chooser) (sym same) r);
+      reached = λ clock first r. s.goes_on.reached clock first (subst (λ (es : List Entry). AreReached draw c.program.now c.limits.budget c.limits.turns clock first es c.chooser c.time moment) (sym same) r);
     };
-    leaves = leaves_so (with_history c h) c n d (ap (λ (es : List Entry). work c.limits.turns (fires es) c.awaits c.end) same) s.leaves;
+    leaves = leaves_so (with_history c h) c n d (ap (λ (es : List Entry). work c.limits.turns (fires es) c.systems.items c.time.may_wait c.end) same) s.leaves;
+    ends = s.ends;
   }
 
   pub unchanged_so : (c n : Course H) (h : History) → h.entries ≡ c.history.entries → IsUnchanged (with_history c h) n → IsUnchanged c n
-  unchanged_so c n h same u = record { keeps = u.keeps; program = u.program; limits = u.limits; entries = u.entries ∙ same }
+  unchanged_so c n h same u = record { keeps = u.keeps; program = u.program; limits = u.limits; entries = u.entries ∙ same; time = u.time }
+
+  -- how many events there were
+  pub events_are : (c : Course H) → IsOpenCourse c → length c.history.entries - c.tickets ≡ length (project c.history.entries)
+  events_are c o = omega (arith, o.going.counted, o.taken)
+
+  pub tickets_within : (c : Course H) → IsOpenCourse c → c.tickets ≤ length c.history.entries
+  tickets_within c o = omega (arith, o.going.counted, o.taken)

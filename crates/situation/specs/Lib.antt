@@ -3,6 +3,7 @@ pub mod Runs
 -- ---- what a world keeps, and what its steps do
 pub mod Worlds
 -- ---- what the functions of this crate tell each other
+pub mod Systems
 pub mod Putting
 pub mod Steps
 pub mod Taking

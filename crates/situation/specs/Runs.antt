@@ -1,5 +1,5 @@
--- What is kept of the history of a run: of a specification that is one system, in which no transition has a delay.
-use Rattle.std.specs.Prelude.{◌≡◌, ◌≤◌, ◌<◌, ℕ, ◌+◌, ◌*◌, Bool, List, [], ◌∷◌, ◌++◌, Option}
+-- What is kept of the history of a run.
+use Rattle.std.specs.Prelude.{◌≡◌, ◌≤◌, ℕ, ◌+◌, ◌*◌, List, [], ◌∷◌, ◌++◌, length, Option, Some, None}
 use Rattle.pascal_values.specs.declared.fault.Fault.{Fault}
 use Rattle.estelle_tree.specs.Paths.{Path}
 use Rattle.estelle_tree.specs.declared.names.Names.{Names}
@@ -9,20 +9,21 @@ use Rattle.estelle_model.specs.declared.effect.Out.{Out}
 use Rattle.estelle_model.specs.declared.event.Event.{Event}
 use Rattle.estelle_model.specs.declared.event.Event.TheVariants as event
 use Rattle.estelle_model.specs.declared.event.End.{End}
-use Rattle.estelle_model.specs.declared.event.End.TheVariants.{Clock}
 use Rattle.estelle_model.specs.declared.job.Job.{Job}
 use Rattle.estelle_model.specs.Jobs.{IsJobIn}
 use Rattle.estelle_model.specs.Subject.{Subject}
 use Rattle.estelle_model.specs.Situation.{Situation}
 use Rattle.estelle_model.specs.Runs.{IsRun, situation}
 use Rattle.estelle_model.specs.Ends.{Stops}
-use Rattle.estelle_model.specs.Choosers.{Draw, always_first}
-use Rattle.estelle_model.specs.Schedule.{Reaches, kept_first, IsPlannedEnd, IsScheduled}
+use Rattle.estelle_model.specs.Choosers.{Draw}
+use Rattle.estelle_model.specs.Schedule.{Reaches, IsPlannedEnd, IsScheduled}
 use Rattle.run_history.specs.declared.entry.Entry.{Entry}
 use Rattle.run_history.specs.declared.entry.What.TheVariants as what
 use Rattle.run_history.specs.Histories.{project, fires}
-use Rattle.run_history.specs.Tickets.{AreTickets, IsOpen as IsOpenTicket}
+use Rattle.run_history.specs.Tickets.{tickets, AreTickets, IsOpen as IsOpenTicket}
 use Rattle.situation_units.specs.Counting.{births_at}
+use Rattle.situation_steps.specs.declared.systems.System.{System}
+use Rattle.situation_steps.specs.declared.systems.Time.{Time}
 use Rattle.situation_steps.specs.UnderWay.{IsUnderWay}
 
 -- ---- entries
@@ -44,49 +45,58 @@ take_of ticket p = record { by = 0; what = what.Take ticket p.path p.trans }
 abbrev pub AllSettled : List Entry → Type 0
 AllSettled es = (k n : ℕ) (m : Path) → IsOpenTicket es k m n → ⊥
 
+-- each entry is an event or a ticket
+abbrev pub AreCounted : List Entry → Type 0
+AreCounted es = length es ≡ length (project es) + length (tickets es)
+
 -- more outputs there cannot have been, and no instance can have had more children
 pub record IsWithin (budget count : ℕ) (g : Situation) : Type 0 where
   pub made : g.made ≤ budget * (count + 1)
   pub births : (p : Path) → births_at p g ≤ budget * (count + 1)
 
 -- what is kept of the history of a run that goes on
-pub record IsGoing (s : Subject) (budget turns : ℕ) (entries : List Entry) (waits : Bool) : Type 0 where
+pub record IsGoing (s : Subject) (budget turns : ℕ) (entries : List Entry) (time : Time) (systems : List System) : Type 0 where
   -- the events are a run that no fault ended, and lead to a legal situation
-  pub under_way : IsUnderWay s budget (project entries) waits
+  pub under_way : IsUnderWay s budget (project entries) time systems
   -- there have been no more firings than the limit, and so many outputs and births at most
   pub below : fires entries ≤ turns
   pub within : IsWithin budget (fires entries) (situation s budget (project entries))
   -- tickets are in order, and no firing is under way
   pub tickets : AreTickets s budget entries
   pub settled : AllSettled entries
+  -- and the run has no end yet
+  pub counted : AreCounted entries
 
--- what is kept of that of a run that has ended
-pub record IsClosed (s : Subject) (budget turns : ℕ) (entries : List Entry) (e : End) : Type 0 where
+-- what is kept of that of a run that has ended, of which the last wait for the clock came after so many events
+pub record IsClosed (s : Subject) (budget turns : ℕ) (entries : List Entry) (waited : ℕ) (e : End) : Type 0 where
   pub before : List Entry
   pub last : entries ≡ before ++ ending e ∷ []
   pub run : IsRun s budget (project entries)
   pub stops : Stops s budget turns (project entries) e
-  pub planned : IsPlannedEnd s budget turns (project entries) 0 e
+  pub planned : IsPlannedEnd s budget turns (project entries) waited e
   pub below : fires entries ≤ turns
   pub tickets : AreTickets s budget entries
 
--- whatever a clock tells, from the first chooser on the planned steps give these events, and leave this chooser
-abbrev pub AreReached : {C : Type 0} → Draw C → Subject → ℕ → ℕ → C → List Entry → C → Type 0
-AreReached draw s budget turns first entries c = (clock : Option ℕ) → Reaches draw s budget turns clock first (project entries) (kept_first clock c)
+-- ---- the clock
+
+-- what is known of the clock is the moment that it tells, if it is known that it tells one
+abbrev pub IsTold : Option ℕ → Option ℕ → Type 0
+IsTold None moment = Unit {0}
+IsTold (Some known) moment = moment ≡ Some known
+
+-- from a clock that tells the first moment, or none, and from the first chooser on, the planned steps give these events, and leave this chooser and a clock that tells this
+pub record AreReached {C : Type 0} (draw : Draw C) (s : Subject) (budget turns : ℕ) (clock : Option ℕ) (first : C) (entries : List Entry) (chooser : C) (time : Time) (moment : Option ℕ) : Type 0 where
+  pub known : Option ℕ
+  pub told : IsTold known moment
+  pub reached : Reaches draw s budget turns clock first (project entries) (record { chooser = chooser; known = time.known; waited = time.waited; clock = known })
 
 -- ---- the end
 
--- an end that no clock made
-abbrev pub IsClockless : End → Type 0
-IsClockless Clock = ⊥
-IsClockless _ = Unit {0}
-
--- the events are a run that stops with this end, and the one that is scheduled where the first candidate is taken each time, whatever a clock tells
-pub record IsStopped (s : Subject) (budget turns : ℕ) (events : List Event) (e : End) : Type 0 where
+-- the events are a run that stops with this end, and the one that is scheduled by this chooser and by a clock that tells this moment, or none
+pub record IsStopped {C : Type 0} (draw : Draw C) (chooser : C) (clock : Option ℕ) (s : Subject) (budget turns : ℕ) (events : List Event) (e : End) : Type 0 where
   pub run : IsRun s budget events
   pub stops : Stops s budget turns events e
-  pub scheduled : (clock : Option ℕ) → IsScheduled always_first s budget turns clock tt events e
-  pub clockless : IsClockless e
+  pub scheduled : IsScheduled draw s budget turns clock chooser events e
 
 -- ---- what is computed
 

@@ -1,11 +1,15 @@
 -- What the functions that make a step tell each other.
-use Rattle.std.specs.Prelude.{◌≡◌, ◌≢◌, ◌≤◌, ◌<◌, ◌+◌, ◌^◌, ℕ, true, List, [], ◌∷◌, ◌++◌, slice_get, Option, Some, None, Contains}
+use Rattle.std.specs.Prelude.{◌≡◌, ◌≢◌, ◌⊎◌, ◌≤◌, ◌<◌, ◌+◌, ◌^◌, ℕ, max, true, false, List, [], ◌∷◌, ◌++◌, map as each, slice_get, Option, Some, None, IfSome, Contains}
+use Rattle.std.specs.FinMap as map
+use Rattle.outside.specs.Counts.{Rose}
 use Rattle.pascal_values.specs.declared.fault.Fault.{Fault}
 use Rattle.estelle_tree.specs.Paths.{Path}
-use Rattle.estelle_tree.specs.Timers.{pair}
+use Rattle.estelle_tree.specs.Timers.{pair, next_due}
 use Rattle.estelle_tree.specs.declared.transition.Pair.{Pair}
+use Rattle.estelle_tree.specs.declared.transition.Wanted.{Wanted}
 use Rattle.estelle_model.specs.declared.event.Event.TheVariants as event
-use Rattle.estelle_model.specs.declared.event.End.TheVariants.{Faulted}
+use Rattle.estelle_model.specs.declared.event.End.{End}
+use Rattle.estelle_model.specs.declared.event.End.TheVariants.{Clock, Faulted}
 use Rattle.estelle_model.specs.declared.job.Job.{Job}
 use Rattle.estelle_model.specs.declared.job.Done.{Done}
 use Rattle.estelle_model.specs.declared.job.Outcome.{Outcome}
@@ -13,25 +17,47 @@ use Rattle.estelle_model.specs.declared.job.Outcome.TheVariants as outcome
 use Rattle.estelle_model.specs.Subject.{Subject}
 use Rattle.estelle_model.specs.Situation.{Situation}
 use Rattle.estelle_model.specs.Firing.{bare}
+use Rattle.estelle_model.specs.Delays.{has_delays, wanted, renew}
+use Rattle.estelle_model.specs.Runs.{NoGuardFaults, IsFirstFault}
 use Rattle.estelle_model.specs.Choosers.{Draw, Picks}
 use Rattle.estelle_model.specs.Jobs.{Answers}
+use Rattle.estelle_model_legality.specs.Situations.{IsLegal}
 use Rattle.effect_log.specs.declared.notes.Notes.{Notes}
 use Rattle.effect_log.specs.Standing.{Stands}
 use Rattle.effect_log.specs.Putting.{IsRan, log_of, AnswersIn, after_put}
 use Rattle.effect_log.specs.Rooms.{outputs_in, HasRoomFor}
+use Rattle.transition_select.specs.declared.offers.Offer.{Offer}
+use Rattle.transition_select.specs.Offers.{AreOffers}
 use Rattle.run_history.specs.declared.entry.Entry.{Entry}
 use Rattle.run_history.specs.Histories.{fires}
+use Rattle.situation_steps.specs.declared.systems.System.{System}
+use Rattle.situation_steps.specs.Systems.{systems_of, first_kept, after_firing, NoneIsDue}
+use Rattle.situation_steps.specs.Laws.{first_time}
+use Rattle.delay_timers.specs.Moments.{AreDifferent}
 use Rattle.situation.specs.declared.course.Course.{Course}
 use Rattle.situation.specs.declared.limits.Limits.{Limits}
 use Rattle.situation.specs.declared.limits.Stepped.{Stepped}
 use Rattle.situation.specs.declared.limits.Stepped.TheVariants as stepped
 use Rattle.situation.specs.Runs.{noted, ending, IsJobFor}
+use Rattle.situation.specs.Putting.{arrivals_of}
+use Rattle.situation.specs.Systems.{IsFirstOne}
 use Rattle.situation.specs.Worlds.{IsOpenCourse, IsCourse, AreEmpty, HasStepped, IsOfProgram, HasBegun, now, entries_of}
 
 -- the fault, if it is one
 abbrev pub failure_of : Outcome → Option Fault
 failure_of (outcome.Ran image effects) = None
 failure_of (outcome.Faulted kind) = Some kind
+
+-- a run ends by the clock only where the clock's count of faults rose, or where it had ended so
+abbrev pub IsCause : Option End → ℕ → ℕ → Stepped → Type 0
+IsCause before faults faults' did = did ≡ stepped.Ended Clock → Rose faults faults' ⊎ (before ≡ Some Clock)
+
+-- no guard of the system faults, its instances offer this at the moment, and these transitions want timers
+pub record IsOffered (s : Subject) (budget : ℕ) (g : Situation) (system : Path) (moment : ℕ) (offered : List Offer) (wants : List Wanted) : Type 0 where
+  pub offers : AreOffers s budget (renew s budget g system moment) system offered
+  pub sound : NoGuardFaults s budget g system
+  pub wanted : wants ≡ wanted s budget g system
+  pub different : AreDifferent wants
 
 module _ {H : Type 0} where
   -- the run goes on, and there is memory for so many entries
@@ -40,16 +66,44 @@ module _ {H : Type 0} where
     pub unended : c.end ≡ None
     pub spare : n ≤ c.history.spare
 
-  -- the system is due
-  pub record IsDue (c : Course H) : Type 0 where
-    pub awaits : c.awaits ≡ true
+  -- the system with this number is the first that is due
+  pub record IsDueAt (at : ℕ) (c : Course H) : Type 0 where
+    pub first : IsFirstOne c.systems.items at
+    pub below : fires c.history.entries < c.limits.turns
+
+  -- no system is due, and a pending firing is next
+  pub record IsReady (c : Course H) : Type 0 where
+    pub none_due : NoneIsDue c.systems.items
+    pub some : c.pending.items ≢ []
+    pub below : fires c.history.entries < c.limits.turns
+
+  -- no system is due, and nothing is pending
+  pub record IsIdle (c : Course H) : Type 0 where
+    pub none_due : NoneIsDue c.systems.items
     pub none : c.pending.items ≡ []
     pub below : fires c.history.entries < c.limits.turns
 
-  -- a pending firing is next
-  pub record IsReady (c : Course H) : Type 0 where
-    pub some : c.pending.items ≢ []
-    pub below : fires c.history.entries < c.limits.turns
+  -- and this is the next moment that is due
+  pub record MayWaitFor (next : ℕ) (c : Course H) : Type 0 where
+    pub idle : IsIdle c
+    pub due : next_due c.timers ≡ Some next
+
+  -- ---- selections
+
+  -- a selection may come at this moment, by a clock that tells the other one, or none; without delays the moment is 0
+  pub record MayBeNow (moment : Option ℕ) (now : ℕ) (c : Course H) : Type 0 where
+    pub no_earlier : c.time.known ≤ now
+    pub last : now < 2 ^ 64
+    pub undelayed : c.delays ≡ false → now ≡ 0
+    pub told : c.delays ≡ true → IfSome moment (λ m. now ≡ max m c.time.known)
+
+  -- so it is of the system with this number, in the situation that the run has come to
+  abbrev pub IsOfferedAt : ℕ → ℕ → Course H → List Offer → List Wanted → Type 0
+  IsOfferedAt at moment c offers wants = (x : System) → slice_get c.systems.items at ≡ Some x → IsOffered c.program.now c.limits.budget (now c) x.path moment offers wants
+
+  -- of its guards this is the first that faults
+  abbrev pub IsFaultAt : ℕ → Course H → Path → ℕ → Fault → Type 0
+  IsFaultAt at c m n kind = (x : System) → slice_get c.systems.items at ≡ Some x → IsFirstFault c.program.now c.limits.budget (now c) x.path m n kind
 
   -- ---- what is put
 
@@ -65,6 +119,7 @@ module _ {H : Type 0} where
     pub stands : Stands c.program.now c.shared (after_put c.program.now g done).situation
     pub outs : c.notes.outs.items ≡ before.outs.items ++ (after_put c.program.now g done).outs
     pub drops : c.notes.drops.items ≡ before.drops.items ++ (after_put c.program.now g done).drops
+    pub arrivals : c.notes.arrivals.items ≡ before.arrivals.items ++ arrivals_of c.program.now g done
 
   -- ---- what is computed
 
@@ -91,7 +146,9 @@ module _ {H : Type 0} where
     pub stands : Stands old.program.now new.shared (after_put old.program.now g done).situation
     pub noted : new.history.entries ≡ old.history.entries ++ noted (event.Fire path trans (after_put old.program.now g done).outs (after_put old.program.now g done).drops) ∷ []
     pub empty : AreEmpty new.notes
-    pub rest : new ≡ record old { shared = new.shared; history = new.history; notes = new.notes; awaits = true }
+    pub systems : new.systems.items ≡ each (after_firing path (arrivals_of old.program.now g done)) old.systems.items
+    pub timers : new.timers ≡ map.remove old.timers (pair path trans)
+    pub rest : new ≡ record old { shared = new.shared; history = new.history; notes = new.notes; timers = new.timers; systems = new.systems; time = record old.time { may_wait = true } }
 
   -- its fault was noted, which ends the run
   pub record HasFailed (old new : Course H) (path : Path) (trans : ℕ) (kind : Fault) : Type 0 where
@@ -107,7 +164,7 @@ module _ {H : Type 0} where
 
   -- what a firing that was picked comes to, where this chooser was asked for it
   abbrev pub HasCommitted : Draw H → Course H → Course H → Path → ℕ → Stepped → Type 0
-  HasCommitted draw old new path trans did = (first : H) → Picks draw first old.pending.items (pair path trans) old.chooser → HasStepped draw (record old { chooser = first }) new did
+  HasCommitted draw old new path trans did = (first : H) (moment : Option ℕ) → Picks draw first old.pending.items (pair path trans) old.chooser → HasStepped draw moment moment (record old { chooser = first }) new did
 
   -- ---- the start
 
@@ -115,8 +172,12 @@ module _ {H : Type 0} where
   pub record IsFresh (s : Subject) (limits : Limits) (chooser : H) (c : Course H) : Type 0 where
     pub program : c.program.now ≡ s
     pub limits_are : c.limits ≡ limits
+    pub delays : c.delays ≡ has_delays s
     pub stands : Stands s c.shared (bare s)
+    pub timers : c.timers ≡ map.empty
     pub pending : c.pending.items ≡ []
+    pub systems : c.systems.items ≡ []
+    pub time : c.time ≡ first_time
     pub entries : c.history.entries ≡ []
     pub tickets : c.tickets ≡ 0
     pub unended : c.end ≡ None
@@ -128,7 +189,7 @@ module _ {H : Type 0} where
     pub stands : Stands old.program.now new.shared (after_put old.program.now (bare old.program.now) done).situation
     pub noted : new.history.entries ≡ old.history.entries ++ noted (event.Start (after_put old.program.now (bare old.program.now) done).outs (after_put old.program.now (bare old.program.now) done).drops) ∷ []
     pub empty : AreEmpty new.notes
-    pub rest : new ≡ record old { shared = new.shared; history = new.history; notes = new.notes; awaits = true }
+    pub rest : new ≡ record old { shared = new.shared; history = new.history; notes = new.notes }
 
   abbrev pub StartedSo : Course H → Course H → Done → Outcome → Type 0
   StartedSo old new done (outcome.Ran image effects) = HasBeenPut old new done
@@ -137,8 +198,17 @@ module _ {H : Type 0} where
   abbrev pub HasStarted : Course H → Course H → Done → Type 0
   HasStarted old new done = StartedSo old new done done.outcome
 
+  -- all systems are known, where there is no end yet
+  abbrev pub FindsSystems : Option End → Course H → Course H → Type 0
+  FindsSystems None old new = ((g : Situation) → Stands old.program.now old.shared g → IsLegal old.program.now g → new.systems.items ≡ each first_kept (systems_of old.program.now g)) × (new ≡ record old { systems = new.systems })
+  FindsSystems (Some e) old new = new ≡ old
+
+  abbrev pub HasAllSystems : Course H → Course H → Type 0
+  HasAllSystems old new = FindsSystems old.end old new
+
   -- the world of a program within limits has begun with this chooser
   pub record IsBegun (draw : Draw H) (s : Subject) (limits : Limits) (chooser : H) (c : Course H) : Type 0 where
     pub keeps : IsCourse c
     pub of : IsOfProgram s limits c
-    pub begun : HasBegun draw chooser c
+    pub begun : (moment : Option ℕ) → HasBegun draw moment chooser c
+    pub unclocked : c.end ≢ Some Clock

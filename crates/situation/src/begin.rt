@@ -1,28 +1,32 @@
 //! The start of a run.
 
-ghost use Rattle.std.specs.Prelude.{◌≡◌, ◌<◌, ◌+◌, ◌*◌, ◌^◌, ◌≤◌, ◌∷◌, ◌++◌, true, [], IfOk};
+ghost use Rattle.std.specs.Prelude.{◌≡◌, ◌<◌, ◌+◌, ◌*◌, ◌^◌, ◌≤◌, ◌∷◌, ◌++◌, [], IfOk, OnOk};
 ghost use Rattle.estelle_model.specs.declared.event.Event.TheVariants as events;
-ghost use Rattle.situation_steps.specs.OneSystems.{IsOneSystem};
+ghost use Rattle.estelle_model_legality.specs.Instances.{LeadsToStates};
 ghost use Rattle.situation.specs.Runs.{noted};
 ghost use Rattle.situation.specs.Steps.{IsFresh, IsBegun};
 
 use crate::course::{Course, event, fault_in};
+use crate::delays::has_delays;
 use crate::limits::Limits;
 use crate::putting::put_start;
+use crate::systems::all_systems;
 use body_walker::{Program, fire_plain};
+use delay_timers::Timers;
 use effect_log::Notes;
 use estelle_model::{Done, Event};
 use estelle_tree::Path;
 use outside::Chooser;
 use run_history::History;
 use situation_images::{bare_shared, start_job};
+use situation_steps::Time;
 use std::alloc::{AllocError, Global};
 
 impl<H: Chooser + Drop> Course<'_, H> {
     ghost use Rattle.effect_log.specs.Putting.{IsRan};
     ghost use Rattle.estelle_model.specs.Firing.{bare};
     ghost use Rattle.situation.specs.Worlds.{AreEmpty};
-    ghost use Rattle.situation.specs.Steps.{MayPut, HasPut, MaySettle, HasStarted};
+    ghost use Rattle.situation.specs.Steps.{MayPut, HasPut, MaySettle, HasStarted, HasAllSystems};
 
     /// Notes the start that was put.
     fn note_start(&mut self, alloc: Global)
@@ -35,15 +39,14 @@ impl<H: Chooser + Drop> Course<'_, H> {
         self.history.add(event(Event::Start { outs, drops }));
     }
 
-    /// Puts what the initialization did into the situation before it. A selection is awaited then.
+    /// Puts what the initialization did into the situation before it.
     fn put_first(&mut self, done: Done)
         requires ran { IsRan done.outcome }
         requires may { MayPut (bare self.old.program.now) self.old done }
         ensures put { HasPut (bare self.old.program.now) self.old.notes self.new done }
-        ensures rest { self.new ≡ record self.old { shared = self.new.shared; notes = self.new.notes; awaits = true } }
+        ensures rest { self.new ≡ record self.old { shared = self.new.shared; notes = self.new.notes } }
     {
         put_start(self.program, &mut self.shared, done, &mut self.notes);
-        self.awaits = true;
     }
 
     /// Puts what the initialization did into the situation, and notes it, or its fault.
@@ -59,6 +62,16 @@ impl<H: Chooser + Drop> Course<'_, H> {
             Some(kind) => self.fail(Path::root(alloc), 0, kind),
         }
     }
+
+    /// Finds all systems, where the start did not fault.
+    fn find_systems(&mut self, alloc: Global) -> Result<(), AllocError>
+        ensures { OnOk result (HasAllSystems self.old self.new) }
+    {
+        if self.end.is_none() {
+            self.systems = all_systems(alloc, self.program, &self.shared)?;
+        }
+        Ok(())
+    }
 }
 
 /// Before the start.
@@ -73,9 +86,16 @@ fn fresh<'a, H: Chooser + Drop>(
     Ok(Course {
         program,
         limits,
+        delays: has_delays(program)?,
         shared: bare_shared(alloc, program)?,
+        timers: Timers::none(alloc),
         pending: Vec::new(alloc),
-        awaits: true,
+        systems: Vec::new(alloc),
+        time: Time {
+            known: 0,
+            waited: 0,
+            may_wait: true,
+        },
         history: History::none(alloc),
         tickets: 0,
         end: None,
@@ -91,7 +111,7 @@ pub(crate) fn begin<'a, H: Chooser + Drop>(
     limits: Limits,
     chooser: H,
 ) -> Result<Course<'a, H>, AllocError>
-    requires one { IsOneSystem program.now }
+    requires leads { LeadsToStates program.now }
     requires room { limits.budget * (limits.turns + 1) < 2 ^ 63 }
     ensures { IfOk result (IsBegun H.draw program.now limits chooser) }
 {
@@ -100,5 +120,6 @@ pub(crate) fn begin<'a, H: Chooser + Drop>(
     course.history.reserve(2)?;
     course.reserve(alloc, &done)?;
     course.start(alloc, done);
+    course.find_systems(alloc)?;
     Ok(course)
 }

@@ -1,8 +1,11 @@
 //! What a world keeps, and how it goes on by one step.
 
-ghost use Rattle.std.specs.Prelude.{◌≡◌, ◌≤◌, ◌<◌, ◌+◌, ◌^◌, true, [], ◌∷◌, ◌++◌, Some, length, IfOk, IfSome, OnOk, OnErr};
-ghost use Rattle.estelle_model.specs.declared.event.End.TheVariants.{Faulted};
+ghost use Rattle.std.specs.Prelude.{◌≡◌, ◌≢◌, ◌≤◌, ◌<◌, ◌+◌, ◌^◌, ℕ, true, false, [], ◌∷◌, ◌++◌, Option, Some, length, vec_capacity, max, slice_get, map as each, IfOk, IfSome, OnOk, OnErr};
+ghost use Rattle.std.specs.FinMap as map;
+ghost use Rattle.outside.specs.Counts.{Rose, HasCause};
+ghost use Rattle.estelle_model.specs.declared.event.End.TheVariants.{Clock as ByClock, Faulted};
 ghost use Rattle.estelle_model.specs.declared.event.Event.TheVariants as events;
+ghost use Rattle.estelle_model.specs.Delays.{has_delays};
 ghost use Rattle.situation.specs.declared.limits.Stepped.TheVariants as did;
 ghost use Rattle.situation.specs.Runs.{noted, ending, take_of};
 ghost use Rattle.situation.specs.Steps.{failure_of};
@@ -10,15 +13,18 @@ ghost use Rattle.situation.specs.Steps.{failure_of};
 use crate::limits::{Limits, Stepped};
 use crate::pending;
 use crate::putting::put_firing;
+use crate::systems::{first_due, note_in_all, wake_all};
 use body_walker::{Program, fire_plain};
+use delay_timers::Timers;
 use effect_log::{Notes, Shared, reserve_for};
 use estelle_model::{Done, End, Event, Out, Outcome, Pair};
-use estelle_tree::{Items, Path};
-use outside::Chooser;
+use estelle_tree::{Items, Path, Wanted};
+use outside::{Chooser, Clock, Failed};
 use pascal_values::Fault;
 use run_history::{Entry, History, What};
 use situation_images::job_of;
 use situation_offers::{Offering, ask};
+use situation_steps::{System, Time};
 use std::alloc::{AllocError, Global};
 use transition_select::{Offer, choose, pick};
 
@@ -27,11 +33,15 @@ use transition_select::{Offer, choose, pick};
 pub(crate) struct Course<'a, H> {
     pub(crate) program: &'a Program<'a>,
     pub(crate) limits: Limits,
+    /// Whether some transition has a delay. Without one the clock is never asked.
+    pub(crate) delays: bool,
     pub(crate) shared: Shared,
+    pub(crate) timers: Timers,
     /// The selected firings in the order of their selections.
     pub(crate) pending: Vec<Pair>,
-    /// Whether the system awaits a selection.
-    pub(crate) awaits: bool,
+    /// All systems, in path order.
+    pub(crate) systems: Vec<System>,
+    pub(crate) time: Time,
     pub(crate) history: History,
     /// How many firings were taken.
     pub(crate) tickets: u64,
@@ -64,11 +74,11 @@ impl<H: Chooser + Drop> Course<'_, H> {
     ghost use Rattle.effect_log.specs.Rooms.{HasRoomFor, SeesTheSame, NotesTheSame};
     ghost use Rattle.effect_log.specs.Putting.{IsRan};
     ghost use Rattle.estelle_tree.specs.Timers.{pair};
-    ghost use Rattle.estelle_model.specs.Runs.{NoGuardFaults, IsFirstFault};
-    ghost use Rattle.transition_select.specs.Offers.{AreOffers};
-    ghost use Rattle.situation.specs.Worlds.{IsCourse, HasStepped, IsUnchanged, AreEmpty, now};
-    ghost use Rattle.situation.specs.Steps.{GoesOn, IsDue, IsReady, MayPut, HasPut, IsComputed, IsComputedAt, MaySettle, HasSettled, HasCommitted};
-    ghost use Rattle.run_history.specs.Histories.{fires};
+    ghost use Rattle.run_history.specs.Histories.{project, fires};
+    ghost use Rattle.situation_steps.specs.declared.systems.System.{System as Kept};
+    ghost use Rattle.situation_steps.specs.Systems.{NoneIsDue, after_selection, after_firing, after_wait};
+    ghost use Rattle.situation.specs.Worlds.{IsOpenCourse, IsCourse, HasStepped, IsUnchanged, AreEmpty, now};
+    ghost use Rattle.situation.specs.Steps.{GoesOn, IsDueAt, IsReady, IsIdle, MayBeNow, IsOfferedAt, IsFaultAt, MayWaitFor, IsCause, MayPut, HasPut, IsComputed, IsComputedAt, MaySettle, HasSettled, HasCommitted};
 
     /// Notes the end of the run.
     pub(crate) fn stop(&mut self, end: End)
@@ -106,12 +116,12 @@ impl<H: Chooser + Drop> Course<'_, H> {
         (Items::from_vec(outs), Items::from_vec(drops))
     }
 
-    /// Puts what a firing did into the situation that the run has come to. A selection is awaited then.
-    fn put(&mut self, done: Done)
+    /// Puts what a firing did into the situation that the run has come to.
+    fn put_shared(&mut self, done: Done)
         requires ran { IsRan done.outcome }
         requires may { MayPut (now self.old) self.old done }
         ensures put { HasPut (now self.old) self.old.notes self.new done }
-        ensures rest { self.new ≡ record self.old { shared = self.new.shared; notes = self.new.notes; awaits = true } }
+        ensures rest { self.new ≡ record self.old { shared = self.new.shared; notes = self.new.notes } }
     {
         put_firing(
             self.program,
@@ -121,7 +131,17 @@ impl<H: Chooser + Drop> Course<'_, H> {
             done,
             &mut self.notes,
         );
-        self.awaits = true;
+    }
+
+    /// The timer of what fired goes, and its system awaits a selection, as do those at which outputs arrived.
+    fn put_others(&mut self, path: &Path, trans: u32)
+        ensures systems { self.new.systems.items ≡ each (after_firing path.now self.old.notes.arrivals.items) self.old.systems.items }
+        ensures timers { self.new.timers ≡ map.remove self.old.timers (pair path.now trans) }
+        ensures rest { self.new ≡ record self.old { timers = self.new.timers; systems = self.new.systems; time = record self.old.time { may_wait = true } } }
+    {
+        self.timers.drop_one(path, trans);
+        note_in_all(&mut self.systems, path, &self.notes.arrivals);
+        self.time.may_wait = true;
     }
 
     /// Makes the room for what was done.
@@ -151,16 +171,13 @@ impl<H: Chooser + Drop> Course<'_, H> {
     }
 
     /// Notes a selection.
-    fn note_selection(&mut self, alloc: Global, takes: Items<Pair>)
+    fn note_selection(&mut self, system: Path, now: u64, takes: Items<Pair>)
         requires { 1 ≤ self.old.history.spare }
-        ensures noted { self.new.history.entries ≡ self.old.history.entries ++ noted (events.Select [] 0 takes) ∷ [] }
+        ensures noted { self.new.history.entries ≡ self.old.history.entries ++ noted (events.Select system now takes) ∷ [] }
         ensures rest { self.new ≡ record self.old { history = self.new.history } }
     {
-        self.history.add(event(Event::Select {
-            system: Path::root(alloc),
-            now: 0,
-            takes,
-        }));
+        self.history
+            .add(event(Event::Select { system, now, takes }));
     }
 
     /// Notes that a firing is taken, under the next ticket.
@@ -182,44 +199,117 @@ impl<H: Chooser + Drop> Course<'_, H> {
         });
     }
 
-    /// The system selects what the chooser chooses of what is offered.
-    fn choose(&mut self, alloc: Global, offers: &[Offer]) -> Result<Stepped, AllocError>
+    /// The firings that were selected are pending behind the others, and their system awaits no selection.
+    fn put_selection(&mut self, at: usize, now: u64, takes: Vec<Pair>)
+        requires there { at < length self.old.systems.items }
+        requires room { length self.old.pending.items + length takes.items ≤ vec_capacity self.old.pending }
+        ensures pending { self.new.pending.items ≡ self.old.pending.items ++ takes.items }
+        ensures systems { (x : Kept) → slice_get self.old.systems.items at ≡ Some x → self.new.systems.items ≡ after_selection at x (length takes.items) self.old.systems.items }
+        ensures rest { self.new ≡ record self.old { pending = self.new.pending; systems = self.new.systems; time = record self.old.time { known = now } } }
+    {
+        let system = &mut self.systems[at];
+        system.awaits = false;
+        system.pending = takes.len();
+        self.time.known = now;
+        pending::append(&mut self.pending, takes);
+    }
+
+    /// A system selects what the chooser chooses of what is offered.
+    fn choose(
+        &mut self,
+        alloc: Global,
+        at: usize,
+        now: u64,
+        offers: &[Offer],
+        wanted: &[Wanted],
+    ) -> Result<Stepped, AllocError>
         requires open { GoesOn 2 self.old }
-        requires due { IsDue self.old }
-        requires offers { AreOffers self.old.program.now self.old.limits.budget (now self.old) [] offers.now }
-        requires sound { NoGuardFaults self.old.program.now self.old.limits.budget (now self.old) [] }
-        ensures stepped { IfOk result (HasStepped H.draw self.old self.new) }
+        requires due { IsDueAt at self.old }
+        requires offers { IsOfferedAt at now self.old offers.now wanted.now }
+        ensures stepped { IfOk result (λ done. (moment : Option ℕ) → MayBeNow moment now self.old → HasStepped H.draw moment moment self.old self.new done) }
         ensures refused { OnErr result (IsUnchanged self.old self.new) }
+        ensures selected { IfOk result (λ done. done ≡ did.Selected) }
     {
         let takes = choose(alloc, offers, &mut self.chooser)?;
         let copies = pending::copies(alloc, &takes)?;
-        self.pending = takes;
-        self.awaits = false;
-        self.note_selection(alloc, copies);
+        let system = self.systems[at].path.copy(alloc)?;
+        self.pending.reserve(takes.len())?;
+        self.timers.renew(alloc, &system, now, wanted)?;
+        self.put_selection(at, now, takes);
+        self.note_selection(system, now, copies);
         Ok(Stepped::Selected)
     }
 
     /// The first guard that faults ends the run.
-    fn fault(&mut self, path: Path, trans: u32, kind: Fault) -> Stepped
+    fn fault(&mut self, at: usize, path: Path, trans: u32, kind: Fault) -> Stepped
         requires open { GoesOn 2 self.old }
-        requires due { IsDue self.old }
-        requires first { IsFirstFault self.old.program.now self.old.limits.budget (now self.old) [] path trans kind }
-        ensures { HasStepped H.draw self.old self.new result }
+        requires due { IsDueAt at self.old }
+        requires first { IsFaultAt at self.old path trans kind }
+        ensures says { result ≡ did.Ended (Faulted kind) }
+        ensures stepped { (moment : Option ℕ) → HasStepped H.draw moment moment self.old self.new result }
     {
         self.fail(path, trans, kind);
         Stepped::Ended(End::Faulted(kind))
     }
 
-    /// The system selects, where no guard of it faults.
-    fn select(&mut self, alloc: Global) -> Result<Stepped, AllocError>
+    /// A system that is due selects at this moment, where no guard of it faults.
+    fn select_at(&mut self, alloc: Global, at: usize, now: u64) -> Result<Stepped, AllocError>
         requires open { GoesOn 2 self.old }
-        requires due { IsDue self.old }
-        ensures stepped { IfOk result (HasStepped H.draw self.old self.new) }
+        requires due { IsDueAt at self.old }
+        ensures stepped { IfOk result (λ done. (moment : Option ℕ) → MayBeNow moment now self.old → HasStepped H.draw moment moment self.old self.new done) }
         ensures refused { OnErr result (IsUnchanged self.old self.new) }
+        ensures unclocked { IfOk result (λ done. done ≢ did.Ended ByClock) }
     {
-        match ask(alloc, self.program, &self.shared, self.limits.budget)? {
-            Offering::Offers(offers) => self.choose(alloc, &offers),
-            Offering::Faults { path, trans, kind } => Ok(self.fault(path, trans, kind)),
+        let offering = ask(
+            alloc,
+            self.program,
+            &self.shared,
+            &self.timers,
+            &self.systems[at].path,
+            now,
+            self.limits.budget,
+        )?;
+        match offering {
+            Offering::Offers { offers, wanted } => self.choose(alloc, at, now, &offers, &wanted),
+            Offering::Faults { path, trans, kind } => Ok(self.fault(at, path, trans, kind)),
+        }
+    }
+
+    /// The moment of a selection.
+    fn moment<C: Clock>(&self, clock: &mut C) -> Result<u64, Failed>
+        requires { IsOpenCourse self.now }
+        ensures now { IfOk result (λ now. MayBeNow (C.moment clock.old) now self.now) }
+        ensures told { C.moment clock.new ≡ C.moment clock.old }
+        ensures cause { HasCause (C.faults clock.old) (C.faults clock.new) result }
+        ensures asked { OnErr result (self.now.delays ≡ true) }
+        ensures unasked { self.now.delays ≡ false → clock.new ≡ clock.old }
+    {
+        if self.delays {
+            clock.now(self.time.known)
+        } else {
+            Ok(0)
+        }
+    }
+
+    /// A system that is due selects, unless the clock fails.
+    fn select<C: Clock>(
+        &mut self,
+        alloc: Global,
+        clock: &mut C,
+        at: usize,
+    ) -> Result<Stepped, AllocError>
+        requires open { GoesOn 2 self.old }
+        requires due { IsDueAt at self.old }
+        ensures stepped { IfOk result (HasStepped H.draw (C.moment clock.old) (C.moment clock.new) self.old self.new) }
+        ensures refused { OnErr result (IsUnchanged self.old self.new) }
+        ensures told { OnErr result (C.moment clock.new ≡ C.moment clock.old) }
+        ensures later { C.faults clock.old ≤ C.faults clock.new }
+        ensures cause { IfOk result (IsCause self.old.end (C.faults clock.old) (C.faults clock.new)) }
+        ensures unasked { self.old.delays ≡ false → clock.new ≡ clock.old }
+    {
+        match self.moment(clock) {
+            Ok(now) => self.select_at(alloc, at, now),
+            Err(_) => Ok(self.ended(End::Clock)),
         }
     }
 
@@ -251,7 +341,8 @@ impl<H: Chooser + Drop> Course<'_, H> {
     {
         match fault_in(&done.outcome) {
             None => {
-                self.put(done);
+                self.put_shared(done);
+                self.put_others(&path, trans);
                 self.note_firing(alloc, path, trans);
                 Stepped::Fired
             }
@@ -266,8 +357,10 @@ impl<H: Chooser + Drop> Course<'_, H> {
     fn commit(&mut self, alloc: Global, path: Path, done: Done) -> Stepped
         requires open { GoesOn 3 self.old }
         requires below { fires self.old.history.entries < self.old.limits.turns }
+        requires none_due { NoneIsDue self.old.systems.items }
         requires computed { IsComputed self.old (pair path done.trans) done }
-        ensures { HasCommitted H.draw self.old self.new path done.trans result }
+        ensures committed { HasCommitted H.draw self.old self.new path done.trans result }
+        ensures unclocked { result ≢ did.Ended ByClock }
     {
         let Some(Pair { path: own, trans }) = pending::take(&mut self.pending, &path, done.trans)
         else {
@@ -282,8 +375,9 @@ impl<H: Chooser + Drop> Course<'_, H> {
     fn fire(&mut self, alloc: Global) -> Result<Stepped, AllocError>
         requires open { GoesOn 3 self.old }
         requires ready { IsReady self.old }
-        ensures stepped { IfOk result (HasStepped H.draw self.old self.new) }
+        ensures stepped { IfOk result (λ done. (moment : Option ℕ) → HasStepped H.draw moment moment self.old self.new done) }
         ensures refused { OnErr result (IsUnchanged self.old self.new) }
+        ensures unclocked { IfOk result (λ done. done ≢ did.Ended ByClock) }
     {
         let at = pick(&mut self.chooser, self.pending.len());
         let path = self.pending[at].path.copy(alloc)?;
@@ -291,7 +385,7 @@ impl<H: Chooser + Drop> Course<'_, H> {
         Ok(self.commit(alloc, path, done))
     }
 
-    /// The run ends, by the limit of firings or in a deadlock.
+    /// The run ends, by the limit of firings, in a deadlock, or by the clock.
     fn ended(&mut self, end: End) -> Stepped
         requires { 1 ≤ self.old.history.spare }
         ensures noted { self.new.history.entries ≡ self.old.history.entries ++ ending end ∷ [] }
@@ -302,34 +396,102 @@ impl<H: Chooser + Drop> Course<'_, H> {
         Stepped::Ended(end)
     }
 
-    /// One step of a run that goes on.
-    fn go_on(&mut self, alloc: Global) -> Result<Stepped, AllocError>
-        requires { GoesOn 3 self.old }
-        ensures stepped { IfOk result (HasStepped H.draw self.old self.new) }
-        ensures refused { OnErr result (IsUnchanged self.old self.new) }
+    /// How many events there were.
+    fn events(&self) -> u64
+        requires { IsOpenCourse self.now }
+        ensures { result ≡ length (project self.now.history.entries) }
     {
-        if self.tickets == u64::from(self.limits.turns) {
-            return Ok(self.ended(End::Turns));
+        self.history.items().len() as u64 - self.tickets
+    }
+
+    /// The clock was waited for, and it is this moment.
+    fn put_wait(&mut self, now: u64)
+        requires { IsOpenCourse self.old }
+        ensures systems { self.new.systems.items ≡ each after_wait self.old.systems.items }
+        ensures rest { self.new ≡ record self.old { systems = self.new.systems; time = record { known = now; waited = length (project self.old.history.entries); may_wait = false } } }
+    {
+        self.time = Time {
+            known: now,
+            waited: self.events(),
+            may_wait: false,
+        };
+        wake_all(&mut self.systems);
+    }
+
+    /// The clock is waited for until the next moment that is due.
+    fn wait<C: Clock>(&mut self, clock: &mut C, due: u64) -> Stepped
+        requires open { GoesOn 2 self.old }
+        requires may { MayWaitFor due self.old }
+        ensures stepped { HasStepped H.draw (C.moment clock.old) (C.moment clock.new) self.old self.new result }
+        ensures later { C.faults clock.old ≤ C.faults clock.new }
+        ensures cause { IsCause self.old.end (C.faults clock.old) (C.faults clock.new) result }
+        ensures unasked { self.old.delays ≡ false → clock.new ≡ clock.old }
+    {
+        match clock.wait(due.max(self.time.known)) {
+            Ok(now) => {
+                self.put_wait(now);
+                Stepped::Waited
+            }
+            Err(_) => self.ended(End::Clock),
+        }
+    }
+
+    /// Where nothing is due or pending, the clock is waited for, or the run is dead.
+    fn wait_or_end<C: Clock>(&mut self, clock: &mut C) -> Stepped
+        requires open { GoesOn 2 self.old }
+        requires idle { IsIdle self.old }
+        ensures stepped { HasStepped H.draw (C.moment clock.old) (C.moment clock.new) self.old self.new result }
+        ensures later { C.faults clock.old ≤ C.faults clock.new }
+        ensures cause { IsCause self.old.end (C.faults clock.old) (C.faults clock.new) result }
+        ensures unasked { self.old.delays ≡ false → clock.new ≡ clock.old }
+    {
+        match self.timers.next_due() {
+            None => self.ended(End::Dead),
+            Some(due) => self.wait(clock, due),
+        }
+    }
+
+    /// One step of a run that goes on, below the limit of firings.
+    fn go_on<C: Clock>(&mut self, alloc: Global, clock: &mut C) -> Result<Stepped, AllocError>
+        requires open { GoesOn 3 self.old }
+        requires below { fires self.old.history.entries < self.old.limits.turns }
+        ensures stepped { IfOk result (HasStepped H.draw (C.moment clock.old) (C.moment clock.new) self.old self.new) }
+        ensures refused { OnErr result (IsUnchanged self.old self.new) }
+        ensures told { OnErr result (C.moment clock.new ≡ C.moment clock.old) }
+        ensures later { C.faults clock.old ≤ C.faults clock.new }
+        ensures cause { IfOk result (IsCause self.old.end (C.faults clock.old) (C.faults clock.new)) }
+        ensures unasked { self.old.delays ≡ false → clock.new ≡ clock.old }
+    {
+        if let Some(at) = first_due(&self.systems) {
+            return self.select(alloc, clock, at);
         }
         if !self.pending.is_empty() {
             return self.fire(alloc);
         }
-        if self.awaits {
-            return self.select(alloc);
-        }
-        Ok(self.ended(End::Dead))
+        Ok(self.wait_or_end(clock))
     }
 
     /// One step.
-    pub(crate) fn step(&mut self, alloc: Global) -> Result<Stepped, AllocError>
+    pub(crate) fn step<C: Clock>(
+        &mut self,
+        alloc: Global,
+        clock: &mut C,
+    ) -> Result<Stepped, AllocError>
         requires { IsCourse self.old }
-        ensures stepped { IfOk result (HasStepped H.draw self.old self.new) }
+        ensures stepped { IfOk result (HasStepped H.draw (C.moment clock.old) (C.moment clock.new) self.old self.new) }
         ensures refused { OnErr result (IsUnchanged self.old self.new) }
+        ensures told { OnErr result (C.moment clock.new ≡ C.moment clock.old) }
+        ensures later { C.faults clock.old ≤ C.faults clock.new }
+        ensures cause { IfOk result (IsCause self.old.end (C.faults clock.old) (C.faults clock.new)) }
+        ensures unasked { has_delays self.old.program.now ≡ false → clock.new ≡ clock.old }
     {
         if let Some(end) = self.end {
             return Ok(Stepped::Ended(end));
         }
         self.history.reserve(3)?;
-        self.go_on(alloc)
+        if self.tickets == u64::from(self.limits.turns) {
+            return Ok(self.ended(End::Turns));
+        }
+        self.go_on(alloc, clock)
     }
 }

@@ -1,60 +1,78 @@
 //! The executor: from the start on, one step after another, until the run ends.
 
-ghost use Rattle.std.specs.Prelude.{◌<◌, ◌+◌, ◌*◌, ◌^◌, IfOk, IsSome};
-ghost use Rattle.situation_steps.specs.OneSystems.{IsOneSystem};
-ghost use Rattle.outside.specs.Choices.{first_drawn};
+ghost use Rattle.std.specs.Prelude.{◌≡◌, ◌<◌, ◌≤◌, ◌+◌, ◌*◌, ◌^◌, false, Option, Some, ℕ, IfOk, IsSome};
+ghost use Rattle.outside.specs.Counts.{Rose};
+ghost use Rattle.estelle_model.specs.declared.event.End.TheVariants.{Clock as ByClock};
+ghost use Rattle.estelle_model.specs.Delays.{has_delays};
+ghost use Rattle.estelle_model_legality.specs.Instances.{LeadsToStates};
 ghost use Rattle.situation.specs.Runs.{subject, IsStopped};
-ghost use Rattle.situation.specs.Worlds.{IsCourse, IsReached};
 
+use crate::begin::begin;
+use crate::course::Course;
 use crate::limits::{Limits, Stepped};
-use crate::world::World;
 use body_walker::Program;
 use estelle_model::{End, Run};
 use estelle_tree::{Names, Spec};
-use outside::FirstChooser;
+use outside::{Chooser, Clock};
 use run_history::project;
 use std::alloc::{AllocError, Global};
 
-/// The events of a run that has ended, and its end.
-fn told(alloc: Global, world: World<'_, (), FirstChooser>) -> Result<(Run, End), AllocError>
-    requires one { IsOneSystem world.course.program.now }
-    requires ended { IsSome world.course.end }
-    requires keeps { IsCourse world.course }
-    requires reached { IsReached first_drawn (record {}) world.course }
-    ensures { IfOk result (λ r. IsStopped world.entry.course.program.now world.entry.course.limits.budget world.entry.course.limits.turns r.0.events r.1) }
-{
-    let (history, end, ()) = world.finish();
-    let run = project(alloc, &history)?;
-    Ok((run, end))
+impl<H: Chooser + Drop> Course<'_, H> {
+    ghost use Rattle.situation.specs.Worlds.{IsCourse, IsReached};
+
+    /// The events of a run that has ended, and its end.
+    fn told(self, alloc: Global) -> Result<(Run, End), AllocError>
+        requires ended { IsSome self.end }
+        requires keeps { IsCourse self }
+        ensures end { IfOk result (λ r. self.entry.end ≡ Some r.1) }
+        ensures stopped { (clock moment : Option ℕ) (first : H) → IsReached H.draw clock first self.entry moment
+            → IfOk result (λ r. IsStopped H.draw first clock self.entry.program.now self.entry.limits.budget self.entry.limits.turns r.0.events r.1) }
+    {
+        let Some(end) = self.end else { unreachable!() };
+        let run = project(alloc, &self.history)?;
+        Ok((run, end))
+    }
 }
 
 /// Runs a program to its end.
-fn run(alloc: Global, program: &Program, limits: Limits) -> Result<(Run, End), AllocError>
-    requires one { IsOneSystem program.now }
+fn run<C: Clock, H: Chooser + Drop>(
+    alloc: Global,
+    program: &Program,
+    limits: Limits,
+    clock: &mut C,
+    chooser: H,
+) -> Result<(Run, End), AllocError>
+    requires leads { LeadsToStates program.now }
     requires room { limits.budget * (limits.turns + 1) < 2 ^ 63 }
-    ensures { IfOk result (λ r. IsStopped program.now limits.budget limits.turns r.0.events r.1) }
+    ensures stopped { IfOk result (λ r. IsStopped H.draw chooser (C.moment clock.old) program.now limits.budget limits.turns r.0.events r.1) }
+    ensures cause { IfOk result (λ r. r.1 ≡ ByClock → Rose (C.faults clock.old) (C.faults clock.new)) }
+    ensures later { C.faults clock.old ≤ C.faults clock.new }
+    ensures unasked { has_delays program.now ≡ false → clock.new ≡ clock.old }
 {
-    let Ok(mut world) = World::begin(alloc, program, limits, (), FirstChooser) else {
-        return Err(AllocError);
-    };
+    let mut course = begin(alloc, program, limits, chooser)?;
     loop {
-        if let Stepped::Ended(_) = world.step(alloc)? {
-            return told(alloc, world);
+        if let Stepped::Ended(_) = course.step(alloc, clock)? {
+            return course.told(alloc);
         }
     }
 }
 
-/// Runs a specification to its end. Of several candidates it takes the first each time.
-pub fn execute(
+/// Runs a specification to its end. The clock is asked only where a transition has a delay. The error is want of memory.
+pub fn execute<C: Clock, H: Chooser + Drop>(
     alloc: Global,
     spec: &Spec,
     names: &Names,
     limits: Limits,
+    clock: &mut C,
+    chooser: H,
 ) -> Result<(Run, End), AllocError>
-    requires one { IsOneSystem (subject spec.now names.now) }
+    requires leads { LeadsToStates (subject spec.now names.now) }
     requires room { limits.budget * (limits.turns + 1) < 2 ^ 63 }
-    ensures { IfOk result (λ r. IsStopped (subject spec.now names.now) limits.budget limits.turns r.0.events r.1) }
+    ensures stopped { IfOk result (λ r. IsStopped H.draw chooser (C.moment clock.old) (subject spec.now names.now) limits.budget limits.turns r.0.events r.1) }
+    ensures cause { IfOk result (λ r. r.1 ≡ ByClock → Rose (C.faults clock.old) (C.faults clock.new)) }
+    ensures later { C.faults clock.old ≤ C.faults clock.new }
+    ensures unasked { has_delays (subject spec.now names.now) ≡ false → clock.new ≡ clock.old }
 {
     let program = Program::new(alloc, spec, names)?;
-    run(alloc, &program, limits)
+    run(alloc, &program, limits, clock, chooser)
 }

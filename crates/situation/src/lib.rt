@@ -2,20 +2,23 @@
 //! (ISO/IEC 9074: global situations, selection, firing).
 //!
 //! It stands on `transition_select` for what a system selects, on `body_walker` for guards and firings, on `effect_log` for what
-//! a firing does to the shared state, on `situation_images` for what is read of that state, on `run_history`, and on the laws
-//! of `situation_steps`. A world is of a specification that is one system, in which no transition has a delay.
+//! a firing does to the shared state, on `situation_images` for what is read of that state, on `delay_timers` and `run_history`,
+//! and on the laws of `situation_steps`.
 //!
-//! A selection asks each guard of the system anew, and copies the private part of each instance for that: it takes the time
-//! of the instances times their depth, and of all links for each instance. A firing copies the private part of its instance.
+//! A step looks at each system for the first that is due. A selection asks each guard of its system anew, and copies the private
+//! part of each instance for that: it takes the time of the instances times their depth, and of all links for each instance. A
+//! firing copies the private part of its instance.
 #![tactic(auto)]
 
 mod begin;
 mod course;
+mod delays;
 mod disciplines;
 mod executor;
 mod limits;
 mod pending;
 mod putting;
+mod systems;
 mod world;
 
 pub use executor::execute;

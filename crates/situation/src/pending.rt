@@ -1,6 +1,6 @@
 //! The list of what is pending.
 
-ghost use Rattle.std.specs.Prelude.{◌≡◌, ◌≤◌, length, IfOk, IfSome, IfNone, Contains};
+ghost use Rattle.std.specs.Prelude.{◌≡◌, ◌≤◌, ◌+◌, ◌++◌, length, vec_capacity, IfOk, IfSome, IfNone, Contains};
 ghost use Rattle.estelle_model.specs.Runs.{same_pair, without};
 ghost use Rattle.estelle_tree.specs.Timers.{pair};
 ghost use Rattle.situation.specs.Taking.{place_in};
@@ -62,4 +62,14 @@ pub(crate) fn copies(alloc: Global, pairs: &[Pair]) -> Result<Items<Pair>, Alloc
         copies.push(copy_pair(alloc, pair)?)?;
     }
     Ok(copies)
+}
+
+/// These firings behind the others. It takes no memory.
+pub(crate) fn append(pending: &mut Vec<Pair>, mut takes: Vec<Pair>)
+    requires { length pending.old.items + length takes.items ≤ vec_capacity pending.old }
+    ensures { pending.new.items ≡ pending.old.items ++ takes.items }
+{
+    let Ok(()) = pending.append(&mut takes) else {
+        unreachable!()
+    };
 }

@@ -1,26 +1,28 @@
 //! Worlds.
 
-ghost use Rattle.std.specs.Prelude.{◌≡◌, ◌*◌, ◌+◌, ◌<◌, ◌^◌, IfOk, IfErr, IfSome, OnErr, IsSome};
-ghost use Rattle.situation_steps.specs.OneSystems.{IsOneSystem};
+ghost use Rattle.std.specs.Prelude.{◌≡◌, ◌≤◌, ◌*◌, ◌+◌, ◌<◌, ◌^◌, false, IfOk, IfErr, IfSome, OnErr, IsSome};
+ghost use Rattle.estelle_model.specs.Delays.{has_delays};
+ghost use Rattle.estelle_model_legality.specs.Instances.{LeadsToStates};
 
 use crate::begin;
 use crate::course::Course;
 use crate::limits::{Limits, Stepped};
 use body_walker::Program;
 use estelle_model::End;
-use outside::Chooser;
+use outside::{Chooser, Clock};
 use run_history::History;
 use std::alloc::{AllocError, Global};
 
-/// A run of a specification with its chooser, and the clock that it was given.
+/// A run of a specification with its chooser and its clock.
 #[derive(Drop)]
 pub struct World<'a, C, H> {
     course: Course<'a, H>,
     clock: C,
 }
 
-impl<'a, C: Drop, H: Chooser + Drop> World<'a, C, H> {
+impl<'a, C: Clock + Drop, H: Chooser + Drop> World<'a, C, H> {
     ghost use Rattle.situation.specs.Worlds.{IsCourse, IsOfProgram, HasBegun, HasStepped, IsUnchanged};
+    ghost use Rattle.situation.specs.Steps.{IsCause};
 
     /// Runs the start. The refusal is want of memory.
     pub fn begin(
@@ -30,11 +32,12 @@ impl<'a, C: Drop, H: Chooser + Drop> World<'a, C, H> {
         clock: C,
         chooser: H,
     ) -> Result<World<'a, C, H>, C>
-        requires one { IsOneSystem program.now }
+        requires leads { LeadsToStates program.now }
         requires room { limits.budget * (limits.turns + 1) < 2 ^ 63 }
         ensures keeps { IfOk result (λ world. IsCourse world.course) }
         ensures of { IfOk result (λ world. IsOfProgram program.now limits world.course) }
-        ensures begun { IfOk result (λ world. HasBegun H.draw chooser world.course) }
+        ensures begun { IfOk result (λ world. HasBegun H.draw (C.moment clock) chooser world.course) }
+        ensures unasked { IfOk result (λ world. world.clock ≡ clock) }
         ensures clock { IfErr result (λ refused. refused ≡ clock) }
     {
         match begin::begin(alloc, program, limits, chooser) {
@@ -43,16 +46,19 @@ impl<'a, C: Drop, H: Chooser + Drop> World<'a, C, H> {
         }
     }
 
-    /// One step: a selection, or a firing, or the end. After a refusal, which is want of memory, what is kept is as before,
-    /// but the chooser may have been drawn from.
+    /// One step: a selection, a firing, a wait for the clock, or the end. After a refusal, which is want of memory, what is kept is
+    /// as before, but the chooser may have been drawn from and the clock been asked.
     pub fn step(&mut self, alloc: Global) -> Result<Stepped, AllocError>
         requires { IsCourse self.old.course }
         ensures keeps { IsCourse self.new.course }
-        ensures stepped { IfOk result (HasStepped H.draw self.old.course self.new.course) }
+        ensures stepped { IfOk result (HasStepped H.draw (C.moment self.old.clock) (C.moment self.new.clock) self.old.course self.new.course) }
         ensures refused { OnErr result (IsUnchanged self.old.course self.new.course) }
-        ensures clock { self.new.clock ≡ self.old.clock }
+        ensures told { OnErr result (C.moment self.new.clock ≡ C.moment self.old.clock) }
+        ensures later { C.faults self.old.clock ≤ C.faults self.new.clock }
+        ensures cause { IfOk result (IsCause self.old.course.end (C.faults self.old.clock) (C.faults self.new.clock)) }
+        ensures unasked { has_delays self.old.course.program.now ≡ false → self.new.clock ≡ self.old.clock }
     {
-        self.course.step(alloc)
+        self.course.step(alloc, &mut self.clock)
     }
 
     /// The end, once there is one.

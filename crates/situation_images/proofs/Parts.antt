@@ -1,5 +1,5 @@
 -- The parts that a tree has at and below an instance are those of the instances there.
-use Rattle.std.proofs.Common.{◌≡◌, Bool, true, false, T, List, [], ◌∷◌, map as each, filter, Some, None, refl, sym, ap, subst, cond, ◌∙◌, inl, inr}
+use Rattle.std.proofs.Common.{◌≡◌, Bool, true, false, T, List, [], ◌∷◌, map as each, filter, Option, Some, None, refl, sym, ap, subst, cond, ◌∙◌, inl, inr}
 use Rattle.std.specs.Prelude.{◌&&◌, option_map}
 use Rattle.std.specs.FinMap as map
 use Rattle.std.specs.FinMap.{find, is_sorted}
@@ -8,13 +8,15 @@ use Rattle.std.specs.Cmp.{eq_by_cmp_equiv}
 use Rattle.std.specs.Ordering.{eq_by_cmp, is_lt}
 use Rattle.std.proofs.lemmas.Simd.{map-map}
 use Rattle.std.proofs.lemmas.List.Kept.{IsStrictlySortedBy-filter}
+use Rattle.estelle_tree.specs.declared.link.IpAddr.{IpAddr}
 use Rattle.estelle_tree.specs.Paths.{Path, path_cmp, is_inside}
 use Rattle.module_tree.specs.Trees as trees
 use Rattle.estelle_model.specs.declared.image.Part.{Part}
 use Rattle.estelle_model.specs.Core.{Instance, Instances}
 use Rattle.estelle_model.specs.Subject.{Subject}
+use Rattle.estelle_model.specs.InteractionPoints.{point_of, internal_at}
 use Rattle.estelle_model.specs.Situation.{Situation}
-use Rattle.estelle_model.specs.Jobs.{part_of_entry}
+use Rattle.estelle_model.specs.Jobs.{part_of_entry, instance_of, is_internal}
 use Rattle.estelle_model.proofs.Maps.{total, apart, left_of, right_of, not_equal}
 use Rattle.estelle_model.proofs.PrivateParts.{same_path, get_inside}
 use Rattle.estelle_model_legality.specs.Choices.{AreTree}
@@ -24,7 +26,7 @@ use Rattle.estelle_model_legality.proofs.Children.{inside_way, there_has, has_th
 use Rattle.transition_select.specs.Blocks.{at_and_below}
 use Rattle.transition_select.proofs.Rising.{keys_rise, same_rising}
 use Rattle.effect_log.specs.Standing.{kept_of}
-use Rattle.situation_images.specs.Instances.{IsTreeOf, IsPartOf, parts_of, PartsLieBelow, PartsAreOfInstances}
+use Rattle.situation_images.specs.Instances.{IsTreeOf, instances_in, IsPartOf, parts_of, PartsLieBelow, PartsAreOfInstances}
 
 -- ---- a map that has what another has, changed at each path
 
@@ -53,6 +55,35 @@ module _ {X Y : Type 0} (f : Path → X → Y) where
   entries_changed x y is =
       same_entries path_cmp total apart (map.entries y) (each changed (map.entries x)) (map.entries_sorted y) (subst T (sym (sorted_changed (map.entries x))) (map.entries_sorted x))
       (λ q. sym (map.get-entries y q) ∙ is q ∙ ap (option_map (f q)) (map.get-entries x q) ∙ sym (find_changed q (map.entries x)))
+
+-- ---- the instances that a tree shows
+
+-- each is as its part shows it
+pub shown_in : (t : trees.Tree Part) (p : Path) → map.get (instances_in t) p ≡ option_map instance_of (trees.part_at t p)
+shown_in t p =
+    map.get-from_entries total (each (changed shown) (map.entries t.instances)) p
+    ∙ find_changed shown p (map.entries t.instances)
+    ∙ ap (option_map (shown p)) (sym (map.get-entries t.instances p))
+    ∙ by (map.get t.instances p)
+  where
+    shown : Path → trees.Instance Part → Instance
+    shown q i = instance_of i.part
+
+    by : (o : Option (trees.Instance Part)) → option_map (shown p) o ≡ option_map instance_of (option_map (λ (i : trees.Instance Part). i.part) o)
+    by None = refl
+    by (Some i) = refl
+
+-- and so are the interaction points that its body declares for itself
+pub internal_in : (s : Subject) (t : trees.Tree Part) (a : IpAddr) (o : Option Part) → o ≡ trees.part_at t a.path → internal_at (point_of s (option_map instance_of o) a.ip) ≡ is_internal s (instances_in t) a
+internal_in s t a o is = ap (λ (i : Option Instance). internal_at (point_of s i a.ip)) (ap (option_map instance_of) is ∙ sym (shown_in t a.path))
+
+-- they are those of a situation whose instances the tree has
+pub instances_are : (t : trees.Tree Part) (g : Situation) → IsTreeOf t g → instances_in t ≡ g.core.instances
+instances_are t g of = map.same_map total apart (instances_in t) g.core.instances (λ p. shown_in t p ∙ ap (λ (o : Option (trees.Instance Part)). option_map instance_of (option_map (λ (i : trees.Instance Part). i.part) o)) (of p) ∙ by p (map.get g.core.instances p))
+  where
+    by : (p : Path) (o : Option Instance) → option_map instance_of (option_map (λ (i : trees.Instance Part). i.part) (option_map (kept_of p) o)) ≡ o
+    by p None = refl
+    by p (Some i) = refl
 
 -- ---- the instances inside one
 

@@ -4,15 +4,19 @@ use Rattle.std.specs.FinMap as map
 use Rattle.estelle_tree.specs.Paths.{Path, is_inside}
 use Rattle.module_tree.specs.Trees as trees
 use Rattle.estelle_model.specs.declared.image.Part.{Part}
-use Rattle.estelle_model.specs.Core.{Instance}
+use Rattle.estelle_model.specs.Core.{Instance, Instances}
 use Rattle.estelle_model.specs.Situation.{Situation}
-use Rattle.estelle_model.specs.Jobs.{part_of_entry}
+use Rattle.estelle_model.specs.Jobs.{part_of_entry, instance_of}
 use Rattle.transition_select.specs.Blocks.{at_and_below}
 use Rattle.effect_log.specs.Standing.{kept_of}
 
 -- the tree has the instances of the situation, with their births
 abbrev pub IsTreeOf : trees.Tree Part → Situation → Type 0
 IsTreeOf t g = (p : Path) → map.get t.instances p ≡ option_map (kept_of p) (map.get g.core.instances p)
+
+-- the instances that the parts of a tree show
+abbrev pub instances_in : trees.Tree Part → Instances
+instances_in t = map.from_entries (each (λ e. (e.0, instance_of e.1.part)) (map.entries t.instances))
 
 -- the instance at a path is of the body with this number
 abbrev pub IsOfBody : Situation → Path → ℕ → Type 0

@@ -8,13 +8,14 @@ ghost use Rattle.estelle_model_legality.specs.Choices.{AreTree};
 ghost use Rattle.estelle_model_legality.specs.Jobs as legal;
 ghost use Rattle.body_walker_state.specs.InOrder.{InOrder};
 ghost use Rattle.effect_log.specs.Standing.{Stands};
-ghost use Rattle.situation_images.specs.Instances.{IsTreeOf, parts_of};
+ghost use Rattle.situation_images.specs.Instances.{IsTreeOf, instances_in, parts_of};
 
 use body_walker_program::Program;
 use body_walker_values::copy_part_at;
 use effect_log::Shared;
 use estelle_model::{Image, Part};
 use estelle_tree::{IpAddr, Items, Link, LinkKind, Path};
+use link_ops::LinkTest;
 use module_tree::{Tree, TreeError};
 use std::alloc::{AllocError, Global};
 
@@ -41,7 +42,7 @@ fn copy_below(alloc: Global, tree: &Tree<Part>, path: &Path) -> Result<Items<Par
 
 /// Whether the body of an instance declares an interaction point of it for itself.
 fn is_internal(program: &Program, tree: &Tree<Part>, at: &IpAddr) -> bool
-    ensures { (g : Situation) → IsTreeOf tree.now g → result ≡ jobs.is_internal program.now g.core.instances at.now }
+    ensures { result ≡ jobs.is_internal program.now (instances_in tree.now) at.now }
 {
     match tree.get(&at.path) {
         None => false,
@@ -51,7 +52,7 @@ fn is_internal(program: &Program, tree: &Tree<Part>, at: &IpAddr) -> bool
 
 /// Whether it lies below an instance, or is an internal interaction point of it.
 fn is_below_or_own(program: &Program, tree: &Tree<Part>, path: &Path, at: &IpAddr) -> bool
-    ensures { (g : Situation) → IsTreeOf tree.now g → result ≡ jobs.is_below_or_own program.now g.core.instances path.now at.now }
+    ensures { result ≡ jobs.is_below_or_own program.now (instances_in tree.now) path.now at.now }
 {
     if !path.is_at_or_above(&at.path) {
         return false;
@@ -59,40 +60,48 @@ fn is_below_or_own(program: &Program, tree: &Tree<Part>, path: &Path, at: &IpAdd
     !at.path.is_at_or_above(path) || is_internal(program, tree, at)
 }
 
-/// Whether an instance, or one below it, made the link.
-fn is_private(program: &Program, tree: &Tree<Part>, path: &Path, link: &Link) -> bool
-    ensures { (g : Situation) → IsTreeOf tree.now g → result ≡ jobs.is_private program.now g.core.instances path.now link.now }
-{
-    match link.kind {
-        LinkKind::Connection => {
-            is_below_or_own(program, tree, path, &link.first)
-                || is_below_or_own(program, tree, path, &link.second)
+/// Whether an instance, or one below it, made a link.
+#[derive(Drop)]
+struct IsPrivate<'a> {
+    program: &'a Program<'a>,
+    tree: &'a Tree<Part>,
+    path: &'a Path,
+}
+
+impl LinkTest for IsPrivate<'_> {
+    ghost passes = { λ test. jobs.is_private test.program.now (instances_in test.tree.now) test.path.now };
+
+    fn passes(&self, kind: LinkKind, first: &IpAddr, second: &IpAddr) -> bool {
+        match kind {
+            LinkKind::Connection => {
+                is_below_or_own(self.program, self.tree, self.path, first)
+                    || is_below_or_own(self.program, self.tree, self.path, second)
+            }
+            LinkKind::Attachment => self.path.is_at_or_above(&first.path),
         }
-        LinkKind::Attachment => path.is_at_or_above(&link.first.path),
     }
 }
 
-/// Those of the links, which are copies, that an instance or one below it made.
+/// Copies of the links that an instance or one below it made.
 fn private_links(
     alloc: Global,
     program: &Program,
-    tree: &Tree<Part>,
+    shared: &Shared,
     path: &Path,
-    links: Vec<Link>,
 ) -> Result<Items<Link>, AllocError>
-    ensures { (g : Situation) → IsTreeOf tree.now g → IfOk result (λ own. own ≡ filter (jobs.is_private program.now g.core.instances path.now) links.items) }
+    ensures { IfOk result (λ own. own ≡ filter (jobs.is_private program.now (instances_in shared.now.tree) path.now) shared.now.links.links) }
 {
-    let mut own = Items::new(alloc);
-    for link in links {
-        if is_private(program, tree, path, &link) {
-            own.push(link)?;
-        }
-    }
-    Ok(own)
+    let test = IsPrivate {
+        program: &*program,
+        tree: &shared.tree,
+        path: &*path,
+    };
+    let links = shared.links.copies_of(alloc, &test)?;
+    Ok(Items::from_vec(links))
 }
 
 /// The private part of an instance: the instances at and below it, in path order, with the links that they made. It
-/// takes the time of those instances and of all links.
+/// takes the time of those instances and of all links, and the memory of those instances and their links.
 pub fn image_of(
     alloc: Global,
     program: &Program,
@@ -103,7 +112,6 @@ pub fn image_of(
     ensures in_order { (g : Situation) → Stands program.now shared.now g → AreTree program.now g.core.instances → IfOk result (λ image. InOrder image.parts) }
 {
     let parts = copy_below(alloc, &shared.tree, path)?;
-    let links = shared.links.copies(alloc)?;
-    let links = private_links(alloc, program, &shared.tree, path, links)?;
+    let links = private_links(alloc, program, shared, path)?;
     Ok(Image { parts, links })
 }

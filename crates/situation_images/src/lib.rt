@@ -2,8 +2,8 @@
 //! transition finds at its queue, and the job of a pending firing, which has both.
 //!
 //! It stands on `effect_log`, whose `Stands` says for which situation the shared state stands, and on `body_walker_program`
-//! for what bodies declare. An image is a copy: it takes the time and the memory of the instances at and below its own, and
-//! of all links.
+//! for what bodies declare. An image is a copy: it takes the time of the instances at and below its own and of all links, and
+//! the memory of those instances and of the links that they made.
 #![tactic(auto)]
 
 mod bare;

@@ -1,12 +1,15 @@
--- What is counted of an instance, one transition after another, where no transition has a delay.
-use Rattle.std.proofs.Common.{◌≡◌, ◌⊎◌, ℕ, zero, suc, ◌+◌, ◌<◌, ◌≤◌, Bool, true, false, List, [], ◌∷◌, ◌++◌, filter, length, Option, Some, None, refl, sym, ap, subst, cond, ◌∙◌, inl, inr, arith, append-nil, add-one}
+-- What is counted and wanted of an instance, one transition after another.
+use Rattle.std.proofs.Common.{◌≡◌, ◌⊎◌, ℕ, zero, suc, ◌+◌, ◌<◌, ◌≤◌, Bool, true, false, ℤ, List, [], ◌∷◌, ◌++◌, map as each, filter, length, Option, Some, None, refl, sym, ap, subst, cond, ◌∙◌, inl, inr, arith, append-nil, append_assoc, add-one}
+use Rattle.std.specs.Prelude.{IsTrue, flat_map}
 use Rattle.std.specs.List.{AllByRecursion, range_with_len}
 use Rattle.std.specs.FinMap as map
 use Rattle.std.proofs.lemmas.Bool.{cases_lt}
 use Rattle.std.proofs.lemmas.List.{map-append}
 use Rattle.std.proofs.lemmas.Option.{slice_get_within}
 use Rattle.pascal_values.specs.declared.fault.Fault.{Fault}
-use Rattle.estelle_tree.specs.Paths.{Path}
+use Rattle.estelle_tree.specs.declared.transition.Wanted.{Wanted}
+use Rattle.estelle_tree.specs.Paths.{Path, is_inside}
+use Rattle.estelle_tree.specs.Timers.{Timer, pair}
 use Rattle.estelle_model.specs.declared.job.Guard.{Guard}
 use Rattle.estelle_model.specs.declared.job.Guard.TheVariants.{Off, On, Faulted}
 use Rattle.estelle_model.specs.Core.{Instance}
@@ -14,14 +17,14 @@ use Rattle.estelle_model.specs.Transitions.{Transition}
 use Rattle.estelle_model.specs.Subject.{Subject, transitions, transition}
 use Rattle.estelle_model.specs.Situation.{Situation}
 use Rattle.estelle_model.specs.Firing.{guard, guard_at, guard_of}
-use Rattle.estelle_model.specs.Delays.{is_on, may}
+use Rattle.estelle_model.specs.Delays.{has_delay, may, renew}
 use Rattle.estelle_model.specs.Selection.{priority}
 use Rattle.estelle_model.specs.Schedule.{numbers_of}
 use Rattle.transition_select.specs.declared.offers.Counted.{Counted}
 use Rattle.transition_select.specs.Offers.{AreCountedOf}
-use Rattle.situation_steps.specs.OneSystems.{IsOneSystem}
-use Rattle.situation_steps.proofs.Undelayed.{may_is}
-use Rattle.situation_offers.specs.Guards.{NoneFaults, IsFirst, counted_by, AreCountedTo}
+use Rattle.situation_steps.proofs.Renewing.{may_at, may_renewed}
+use Rattle.situation_offers.specs.Guards.{NoneFaults, IsFirst, may_by, counted_if, wanted_if, wanted_at, wanted_of, AreCountedTo}
+use Rattle.situation_offers.proofs.Wanted.{flat_to}
 
 -- ---- lists
 
@@ -70,18 +73,6 @@ module _ (s : Subject) (budget : ℕ) (g : Situation) (m : Path) where
       by None is = let wrong : Off ≡ Faulted kind = sym (ap (guard_at s budget g m n) is) ∙ e in absurd (cc)
       by (Some i) is = (i, refl)
 
-  -- ---- one transition more
-
-  pub none_counted : AreCountedTo s budget g m 0 []
-  none_counted = record {
-    numbers = refl;
-    priorities = tt;
-    sound = λ k kind low e.
-        let is : k ≡ 0 = omega arith in
-        let wrong : Off ≡ Faulted kind = sym (zero_off (map.get g.core.instances m)) ∙ ap (guard s budget g m) (sym is) ∙ e in
-        absurd (cc);
-  }
-
   sound_more : (n : ℕ) (now : Guard) → guard s budget g m (n + 1) ≡ now → ((kind : Fault) → now ≡ Faulted kind → ⊥)
       → ((k : ℕ) (kind : Fault) → k ≤ n → guard s budget g m k ≡ Faulted kind → ⊥) → (k : ℕ) (kind : Fault) → k ≤ n + 1 → guard s budget g m k ≡ Faulted kind → ⊥
   sound_more n now is sound before k kind low e = by (cases_lt k (n + 1))
@@ -90,40 +81,68 @@ module _ (s : Subject) (budget : ℕ) (g : Situation) (m : Path) where
       by (inl less) = before k kind (omega arith) e
       by (inr last) = let same : k ≡ n + 1 = omega arith in sound kind (sym is ∙ ap (guard s budget g m) (sym same) ∙ e)
 
-  module _ (one : IsOneSystem s) where
-    pub off_more : (n : ℕ) (cs : List Counted) → AreCountedTo s budget g m n cs → guard s budget g m (n + 1) ≡ Off → AreCountedTo s budget g m (n + 1) cs
-    off_more n cs are is = record {
-      numbers = are.numbers ∙ sym (not_one (may s budget g m) n (may_is s one budget g m (n + 1) ∙ ap is_on is));
-      priorities = are.priorities;
-      sound = sound_more n Off is (λ kind e. absurd (cc)) are.sound;
-    }
+-- ---- what may be selected
 
-    pub on_more : (n : ℕ) (cs : List Counted) (low : ℕ) (high : Option ℕ) (c : Counted) → AreCountedTo s budget g m n cs → guard s budget g m (n + 1) ≡ On low high
-        → c.trans ≡ n + 1 → c.priority ≡ priority s g m (n + 1) → AreCountedTo s budget g m (n + 1) (cs ++ c ∷ [])
-    on_more n cs low high c are is number prior = record {
-      numbers = map-append (λ (d : Counted). d.trans) cs (c ∷ []) ∙ (λ i. are.numbers i ++ (number i ∷ [])) ∙ sym (this_one (may s budget g m) n (may_is s one budget g m (n + 1) ∙ ap is_on is));
-      priorities = all_more (λ (d : Counted). d.priority ≡ priority s g m d.trans) cs c are.priorities (prior ∙ ap (priority s g m) (sym number));
-      sound = sound_more n (On low high) is (λ kind e. absurd (cc)) are.sound;
-    }
+-- by the answer of its guard
+may_is : (s : Subject) (budget : ℕ) (g : Situation) (system : Path) (now : ℕ) (m : Path) (n : ℕ) → IsTrue (is_inside system m) → ((kind : Fault) → guard s budget g m n ≡ Faulted kind → ⊥)
+    → may s budget (renew s budget g system now) m n ≡ may_by now (map.get g.timers (pair m n)) (has_delay s g m n) (guard s budget g m n)
+may_is s budget g system now m n inside sound = may_renewed s budget g system now m n inside sound ∙ by (map.get g.timers (pair m n)) (has_delay s g m n) (guard s budget g m n)
+  where
+    by : (o : Option Timer) (delayed : Bool) (answer : Guard) → may_at now o delayed answer ≡ may_by now o delayed answer
+    by None true (On low high) = refl
+    by (Some t) true (On low high) = refl
+    by o false (On low high) = refl
+    by o delayed Off = refl
+    by o delayed (Faulted kind) = refl
 
-    -- by the answer of its guard
-    pub one_more : (n : ℕ) (cs : List Counted) (answer : Guard) → AreCountedTo s budget g m n cs → answer ≡ guard s budget g m (n + 1) → ((kind : Fault) → answer ≡ Faulted kind → ⊥)
-        → AreCountedTo s budget g m (n + 1) (cs ++ counted_by (priority s g m (n + 1)) (n + 1) answer)
-    one_more n cs Off are is sound = subst (AreCountedTo s budget g m (n + 1)) (sym (append-nil cs)) (off_more n cs are (sym is))
-    one_more n cs (On low high) are is sound = on_more n cs low high _ are (sym is) refl refl
-    one_more n cs (Faulted kind) are is sound = absurd (sound kind refl)
+module _ (s : Subject) (budget : ℕ) (g : Situation) (system : Path) (now : ℕ) (m : Path) where
+  -- ---- one transition more
 
-  pub first_here : (n : ℕ) (cs : List Counted) (kind : Fault) → AreCountedTo s budget g m n cs → guard s budget g m (n + 1) ≡ Faulted kind → IsFirst s budget g m (n + 1) kind
-  first_here n cs kind are is = record { faults = is; first = λ k other low. are.sound k other (omega (arith, low)) }
+  pub none_counted : (before : List Wanted) → AreCountedTo s budget g system now m 0 [] before before
+  none_counted before = record {
+    numbers = refl;
+    priorities = tt;
+    wanted = sym (append-nil before);
+    sound = λ k kind low e.
+        let is : k ≡ 0 = omega arith in
+        let wrong : Off ≡ Faulted kind = sym (zero_off s budget g m (map.get g.core.instances m)) ∙ ap (guard s budget g m) (sym is) ∙ e in
+        absurd (cc);
+  }
+
+  numbers_more : (test : ℕ → Bool) (n : ℕ) (cs : List Counted) (b : Bool) (p : Option ℤ) → test (n + 1) ≡ b → each (λ c. c.trans) cs ≡ filter test (range_with_len 1 n)
+      → each (λ c. c.trans) (cs ++ counted_if b (n + 1) p) ≡ filter test (range_with_len 1 (n + 1))
+  numbers_more test n cs true p is e = map-append (λ (d : Counted). d.trans) cs (record { trans = n + 1; priority = p } ∷ []) ∙ ap (λ ns. ns ++ ((n + 1) ∷ [])) e ∙ sym (this_one test n is)
+  numbers_more test n cs false p is e = ap (each (λ (c : Counted). c.trans)) (append-nil cs) ∙ e ∙ sym (not_one test n is)
+
+  priorities_more : (n : ℕ) (cs : List Counted) (b : Bool) → AllByRecursion (λ (c : Counted). c.priority ≡ priority s g m c.trans) cs → AllByRecursion (λ (c : Counted). c.priority ≡ priority s g m c.trans) (cs ++ counted_if b (n + 1) (priority s g m (n + 1)))
+  priorities_more n cs true are = all_more (λ (d : Counted). d.priority ≡ priority s g m d.trans) cs (record { trans = n + 1; priority = priority s g m (n + 1) }) are refl
+  priorities_more n cs false are = subst (AllByRecursion (λ (d : Counted). d.priority ≡ priority s g m d.trans)) (sym (append-nil cs)) are
+
+  -- by the answer of its guard
+  pub counted_more : IsTrue (is_inside system m) → (n : ℕ) (cs more : List Counted) (before ws after : List Wanted) (answer : Guard) (b : Bool) → AreCountedTo s budget g system now m n cs before ws
+      → answer ≡ guard s budget g m (n + 1) → ((kind : Fault) → answer ≡ Faulted kind → ⊥) → b ≡ may_by now (map.get g.timers (pair m (n + 1))) (has_delay s g m (n + 1)) answer
+      → more ≡ cs ++ counted_if b (n + 1) (priority s g m (n + 1)) → after ≡ ws ++ wanted_if (has_delay s g m (n + 1)) (pair m (n + 1)) answer
+      → AreCountedTo s budget g system now m (n + 1) more before after
+  counted_more inside n cs more before ws after answer b are is sound may_it counts wants = record {
+    numbers = ap (each (λ (c : Counted). c.trans)) counts ∙ numbers_more (may s budget (renew s budget g system now) m) n cs b (priority s g m (n + 1)) tested are.numbers;
+    priorities = subst (AllByRecursion (λ (c : Counted). c.priority ≡ priority s g m c.trans)) (sym counts) (priorities_more n cs b are.priorities);
+    wanted = wants ∙ ap (λ a. ws ++ wanted_if (has_delay s g m (n + 1)) (pair m (n + 1)) a) is ∙ ap (λ vs. vs ++ wanted_at s budget g m (n + 1)) are.wanted
+        ∙ append_assoc before (flat_map (wanted_at s budget g m) (range_with_len 1 n)) (wanted_at s budget g m (n + 1)) ∙ ap (λ vs. before ++ vs) (sym (flat_to (wanted_at s budget g m) n));
+    sound = sound_more s budget g m n answer (sym is) sound are.sound;
+  }
+    where
+      tested : may s budget (renew s budget g system now) m (n + 1) ≡ b
+      tested = may_is s budget g system now m (n + 1) inside (λ kind e. sound kind (is ∙ e)) ∙ ap (may_by now (map.get g.timers (pair m (n + 1))) (has_delay s g m (n + 1))) (sym is) ∙ sym may_it
+
+  pub first_here : (n : ℕ) (cs : List Counted) (before after : List Wanted) (kind : Fault) → AreCountedTo s budget g system now m n cs before after → guard s budget g m (n + 1) ≡ Faulted kind → IsFirst s budget g m (n + 1) kind
+  first_here n cs before after kind are is = record { faults = is; first = λ k other low. are.sound k other (omega (arith, low)) }
 
   -- ---- all of them
 
-  pub all_counted : (i : Instance) (cs : List Counted) → map.get g.core.instances m ≡ Some i → AreCountedTo s budget g m (length (transitions s i.body)) cs → AreCountedOf s budget g m cs × NoneFaults s budget g m
-  all_counted i cs there are = (
-    record { numbers = are.numbers ∙ ap (λ o. filter (may s budget g m) (numbers_of s o)) (sym there); priorities = are.priorities },
-    λ n kind e. are.sound n kind (faulted_within n kind i there e) e,
+  pub all_counted : (i : Instance) (cs : List Counted) (before after : List Wanted) → map.get g.core.instances m ≡ Some i → AreCountedTo s budget g system now m (length (transitions s i.body)) cs before after
+      → AreCountedOf s budget (renew s budget g system now) m cs × NoneFaults s budget g m × (after ≡ before ++ wanted_of s budget g m)
+  all_counted i cs before after there are = (
+    record { numbers = are.numbers ∙ ap (λ o. filter (may s budget (renew s budget g system now) m) (numbers_of s o)) (sym there); priorities = are.priorities },
+    λ n kind e. are.sound n kind (faulted_within s budget g m n kind i there e) e,
+    are.wanted ∙ ap (λ o. before ++ flat_map (wanted_at s budget g m) (numbers_of s o)) (sym there),
   )
-
-  -- where there are none
-  pub nothing_counted : (i : Instance) → map.get g.core.instances m ≡ Some i → length (transitions s i.body) ≡ 0 → AreCountedOf s budget g m [] × NoneFaults s budget g m
-  nothing_counted i there none = all_counted i [] there (subst (λ n. AreCountedTo s budget g m n []) (sym none) none_counted)

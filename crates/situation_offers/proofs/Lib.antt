@@ -1,3 +1,4 @@
+pub mod Wanted
 pub mod Counting
 pub mod Active
 pub mod Asking

@@ -1,5 +1,6 @@
--- What all instances of one system offer, and the first guard of all that faults.
+-- What all instances of a system offer, and the first guard of all that faults.
 use Rattle.std.proofs.Common.{◌≡◌, ◌⊎◌, ℕ, ◌<◌, List, [], ◌∷◌, ◌++◌, refl, sym, ap, subst, ◌∙◌, inl, inr}
+use Rattle.std.specs.Prelude.{IsTrue}
 use Rattle.std.specs.Ordering.{nat_cmp, ordering_then, MatchOrdering}
 use Rattle.std.specs.Cmp.{ranks}
 use Rattle.std.specs.List.{AllByRecursion}
@@ -8,14 +9,16 @@ use Rattle.std.specs.declared.cmp.Ordering.{Ordering}
 use Rattle.std.specs.declared.cmp.Ordering.TheVariants.{Less, Equal, Greater}
 use Rattle.std.proofs.lemmas.List.{map-append}
 use Rattle.pascal_values.specs.declared.fault.Fault.{Fault}
-use Rattle.estelle_tree.specs.Paths.{Path, path_cmp}
+use Rattle.estelle_tree.specs.declared.transition.Wanted.{Wanted}
+use Rattle.estelle_tree.specs.Paths.{Path, path_cmp, is_inside}
 use Rattle.estelle_tree.specs.Timers.{pair, pair_cmp}
 use Rattle.estelle_model.specs.declared.job.Guard.TheVariants.{Faulted}
 use Rattle.estelle_model.specs.Subject.{Subject}
 use Rattle.estelle_model.specs.Situation.{Situation}
 use Rattle.estelle_model.specs.Firing.{guard}
+use Rattle.estelle_model.specs.Delays.{wanted, renew}
+use Rattle.estelle_model.specs.Jobs.{IsThere}
 use Rattle.estelle_model.specs.Runs.{NoGuardFaults, IsFirstFault}
-use Rattle.estelle_model.proofs.AlikeActions.{inside_root}
 use Rattle.estelle_model.proofs.Maps.{total, apart}
 use Rattle.estelle_model_legality.proofs.Members.{Has}
 use Rattle.transition_select.specs.declared.offers.Offer.{Offer}
@@ -23,9 +26,11 @@ use Rattle.transition_select.specs.Blocks.{at_and_below}
 use Rattle.transition_select.specs.Offers.{AreOffers, IsOffer}
 use Rattle.transition_select.proofs.Blocks.{below_has, below_rises}
 use Rattle.transition_select.proofs.Rising.{Rises, before_has, itself}
-use Rattle.situation_steps.specs.UnderWay.{IsLegalRoot}
-use Rattle.situation_offers.specs.Guards.{NoneFaults, IsFirst, HaveOffered}
+use Rattle.situation_steps.proofs.Renewing.{wanted_differ}
+use Rattle.delay_timers.specs.Moments.{AreDifferent}
+use Rattle.situation_offers.specs.Guards.{NoneFaults, IsFirst, wanted_of, HaveOffered}
 use Rattle.situation_offers.proofs.Counting.{all_more, faulted_there}
+use Rattle.situation_offers.proofs.Wanted.{flat_more, wanted_is}
 
 -- ---- lists
 
@@ -42,30 +47,36 @@ stands_before [] m rest q rises (inr h) less = absurd (itself q (total.trans q m
 stands_before (p ∷ qs) m rest q rises (inl is) less = inl is
 stands_before (p ∷ qs) m rest q rises (inr h) less = inr (stands_before qs m rest q rises.1 h less)
 
-module _ (s : Subject) (budget : ℕ) (g : Situation) where
+module _ (s : Subject) (budget : ℕ) (g : Situation) (system : Path) (now : ℕ) where
   -- ---- one instance more
 
-  pub none_offered : HaveOffered s budget g [] []
-  none_offered = record { paths = refl; offers = tt; sound = tt }
+  pub none_offered : HaveOffered s budget g system now [] [] []
+  none_offered = record { paths = refl; offers = tt; wanted = refl; sound = tt }
 
-  pub one_more : (ms : List Path) (os : List Offer) (m : Path) (o : Offer) → HaveOffered s budget g ms os → o.path ≡ m → IsOffer s budget g o → NoneFaults s budget g m → HaveOffered s budget g (ms ++ m ∷ []) (os ++ o ∷ [])
-  one_more ms os m o have is offer none = record {
+  pub one_more : (ms : List Path) (os : List Offer) (ws after : List Wanted) (m : Path) (o : Offer) → HaveOffered s budget g system now ms os ws → o.path ≡ m → IsOffer s budget (renew s budget g system now) o
+      → NoneFaults s budget g m → after ≡ ws ++ wanted_of s budget g m → HaveOffered s budget g system now (ms ++ m ∷ []) (os ++ o ∷ []) after
+  one_more ms os ws after m o have is offer none wants = record {
     paths = map-append (λ (p : Offer). p.path) os (o ∷ []) ∙ (λ i. have.paths i ++ (is i ∷ []));
-    offers = all_more (IsOffer s budget g) os o have.offers offer;
+    offers = all_more (IsOffer s budget (renew s budget g system now)) os o have.offers offer;
+    wanted = wants ∙ ap (λ vs. vs ++ wanted_of s budget g m) have.wanted ∙ sym (flat_more (wanted_of s budget g) ms m);
     sound = all_more (NoneFaults s budget g) ms m have.sound none;
   }
 
   -- ---- all of them
 
   -- a guard that faults is that of an instance which is there
-  faulted_has : (m : Path) (n : ℕ) (kind : Fault) → guard s budget g m n ≡ Faulted kind → Has (at_and_below g []) m
-  faulted_has m n kind e = below_has s g [] m (faulted_there s budget g m n kind e) (inside_root m)
+  faulted_has : (m : Path) (n : ℕ) (kind : Fault) → IsTrue (is_inside system m) → guard s budget g m n ≡ Faulted kind → Has (at_and_below g system) m
+  faulted_has m n kind inside e = below_has s g system m (faulted_there s budget g m n kind e) inside
 
-  pub all_offered : (os : List Offer) → IsLegalRoot s g → HaveOffered s budget g (at_and_below g []) os → AreOffers s budget g [] os × NoGuardFaults s budget g []
-  all_offered os legal have = (
-    record { there = (legal.root.0, legal.root.1); paths = have.paths; offers = have.offers },
-    λ m n kind inside e. all_has (NoneFaults s budget g) (at_and_below g []) m have.sound (faulted_has m n kind e) n kind e,
-  )
+  pub all_offered : (os : List Offer) (ws : List Wanted) → IsThere g.core.instances system → HaveOffered s budget g system now (at_and_below g system) os ws
+      → AreOffers s budget (renew s budget g system now) system os × NoGuardFaults s budget g system × (ws ≡ wanted s budget g system) × AreDifferent ws
+  all_offered os ws there have =
+      let all : ws ≡ wanted s budget g system = have.wanted ∙ sym (wanted_is s budget g system) in (
+        record { there = there; paths = have.paths; offers = have.offers },
+        λ m n kind inside e. all_has (NoneFaults s budget g) (at_and_below g system) m have.sound (faulted_has m n kind inside e) n kind e,
+        all,
+        subst AreDifferent (sym all) (wanted_differ s budget g system),
+      )
 
   -- ---- the first fault
 
@@ -80,14 +91,15 @@ module _ (s : Subject) (budget : ℕ) (g : Situation) where
       by Equal is e = inr (is, e)
       by Greater is e = absurd (cc)
 
-  pub first_of_all : (ms : List Path) (m : Path) (rest : List Path) (n : ℕ) (kind : Fault) → at_and_below g [] ≡ ms ++ m ∷ rest → AllByRecursion (NoneFaults s budget g) ms → IsFirst s budget g m n kind → IsFirstFault s budget g [] m n kind
-  first_of_all ms m rest n kind e before is = record {
-    inside = inside_root m;
+  pub first_of_all : (ms : List Path) (m : Path) (rest : List Path) (n : ℕ) (kind : Fault) → at_and_below g system ≡ ms ++ m ∷ rest → IsTrue (is_inside system m) → AllByRecursion (NoneFaults s budget g) ms
+      → IsFirst s budget g m n kind → IsFirstFault s budget g system m n kind
+  first_of_all ms m rest n kind e inside before is = record {
+    inside = inside;
     faults = is.faults;
-    first = λ q k other inside less fault. by q k other fault (earlier q m k n less);
+    first = λ q k other within less fault. by q k other within fault (earlier q m k n less);
   }
     where
-      by : (q : Path) (k : ℕ) (other : Fault) → guard s budget g q k ≡ Faulted other → Earlier q k m n → ⊥
-      by q k other fault (inl less) = all_has (NoneFaults s budget g) ms q before
-          (stands_before ms m rest q (subst Rises e (below_rises s g [])) (subst (λ ps. Has ps q) e (faulted_has q k other fault)) less) k other fault
-      by q k other fault (inr same) = is.first k other (subst (λ (o : Ordering). MatchOrdering o (k < n) (k ≡ n) (n < k)) same.1 (ranks k n)) (ap (λ p. guard s budget g p k) (sym (apart q m same.0)) ∙ fault)
+      by : (q : Path) (k : ℕ) (other : Fault) → IsTrue (is_inside system q) → guard s budget g q k ≡ Faulted other → Earlier q k m n → ⊥
+      by q k other within fault (inl less) = all_has (NoneFaults s budget g) ms q before
+          (stands_before ms m rest q (subst Rises e (below_rises s g system)) (subst (λ ps. Has ps q) e (faulted_has q k other within fault)) less) k other fault
+      by q k other within fault (inr same) = is.first k other (subst (λ (o : Ordering). MatchOrdering o (k < n) (k ≡ n) (n < k)) same.1 (ranks k n)) (ap (λ p. guard s budget g p k) (sym (apart q m same.0)) ∙ fault)

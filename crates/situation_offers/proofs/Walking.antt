@@ -1,17 +1,21 @@
 -- Instances that are asked one after another, as the items of a list.
 use Rattle.std.proofs.Common.{◌≡◌, ℕ, zero, suc, ◌+◌, ◌<◌, ◌≤◌, List, [], ◌∷◌, ◌++◌, map as each, length, take, drop, get_or, sym, ap, subst, ◌∙◌, arith, add-one}
+use Rattle.std.specs.Prelude.{IsTrue}
 use Rattle.std.specs.List.{AllByRecursion}
 use Rattle.std.proofs.lemmas.List.{take_all}
 use Rattle.pascal_values.specs.declared.fault.Fault.{Fault}
-use Rattle.estelle_tree.specs.Paths.{Path}
+use Rattle.estelle_tree.specs.declared.transition.Wanted.{Wanted}
+use Rattle.estelle_tree.specs.Paths.{Path, is_inside}
 use Rattle.estelle_model.specs.Subject.{Subject}
 use Rattle.estelle_model.specs.Situation.{Situation}
+use Rattle.estelle_model.specs.Delays.{wanted, renew}
+use Rattle.estelle_model.specs.Jobs.{IsThere}
 use Rattle.estelle_model.specs.Runs.{NoGuardFaults, IsFirstFault}
 use Rattle.transition_select.specs.declared.offers.Offer.{Offer}
 use Rattle.transition_select.specs.Blocks.{at_and_below}
 use Rattle.transition_select.specs.Offers.{AreOffers, IsOffer}
-use Rattle.situation_steps.specs.UnderWay.{IsLegalRoot}
-use Rattle.situation_offers.specs.Guards.{NoneFaults, IsFirst, HaveOffered}
+use Rattle.delay_timers.specs.Moments.{AreDifferent}
+use Rattle.situation_offers.specs.Guards.{NoneFaults, IsFirst, wanted_of, HaveOffered}
 use Rattle.situation_offers.proofs.Offers as offers
 
 -- what holds of what each item stands for holds at one
@@ -34,16 +38,16 @@ module _ {A : Type 0} (path : A → Path) where
   parted (x ∷ xs) zero a less is = ap (λ z. path z ∷ each path xs) (sym is)
   parted (x ∷ xs) (suc k) a less is = ap (λ ps. path x ∷ ps) (parted xs k a (omega arith) is)
 
-  module _ (s : Subject) (budget : ℕ) (g : Situation) (legal : IsLegalRoot s g) (xs : List A) (k : ℕ) (os : List Offer) (have : HaveOffered s budget g (each path (take k xs)) os) where
-    pub one_more : (a : A) → k < length xs → a ≡ get_or xs k a → (o : Offer) → o.path ≡ path a → IsOffer s budget g o → NoneFaults s budget g (path a) → (after : List Offer) → after ≡ os ++ o ∷ []
-        → HaveOffered s budget g (each path (take (k + 1) xs)) after
-    one_more a less is o same offer none after pushed =
-        subst (λ ms. HaveOffered s budget g ms after) (sym (more xs k a less is))
-        (subst (HaveOffered s budget g (each path (take k xs) ++ path a ∷ [])) (sym pushed) (offers.one_more s budget g (each path (take k xs)) os (path a) o have same offer none))
+  module _ (s : Subject) (budget : ℕ) (g : Situation) (system : Path) (now : ℕ) (xs : List A) (k : ℕ) (os : List Offer) (ws : List Wanted) (have : HaveOffered s budget g system now (each path (take k xs)) os ws) where
+    pub one_more : (a : A) → k < length xs → a ≡ get_or xs k a → (o : Offer) → o.path ≡ path a → IsOffer s budget (renew s budget g system now) o → NoneFaults s budget g (path a)
+        → (wants : List Wanted) → wants ≡ ws ++ wanted_of s budget g (path a) → (after : List Offer) → after ≡ os ++ o ∷ [] → HaveOffered s budget g system now (each path (take (k + 1) xs)) after wants
+    one_more a less is o same offer none wants more_wants after pushed =
+        subst (λ ms. HaveOffered s budget g system now ms after wants) (sym (more xs k a less is))
+        (subst (λ ps. HaveOffered s budget g system now (each path (take k xs) ++ path a ∷ []) ps wants) (sym pushed) (offers.one_more s budget g system now (each path (take k xs)) os ws wants (path a) o have same offer none more_wants))
 
-    module _ (all : each path xs ≡ at_and_below g []) where
-      pub first_fault : (a : A) → k < length xs → a ≡ get_or xs k a → (n : ℕ) (kind : Fault) → IsFirst s budget g (path a) n kind → IsFirstFault s budget g [] (path a) n kind
-      first_fault a less is n kind fault = offers.first_of_all s budget g (each path (take k xs)) (path a) (each path (drop (suc k) xs)) n kind (sym all ∙ parted xs k a less is) have.sound fault
+    module _ (all : each path xs ≡ at_and_below g system) where
+      pub first_fault : (a : A) → k < length xs → a ≡ get_or xs k a → IsTrue (is_inside system (path a)) → (n : ℕ) (kind : Fault) → IsFirst s budget g (path a) n kind → IsFirstFault s budget g system (path a) n kind
+      first_fault a less is inside n kind fault = offers.first_of_all s budget g system now (each path (take k xs)) (path a) (each path (drop (suc k) xs)) n kind (sym all ∙ parted xs k a less is) inside have.sound fault
 
-      pub all_asked : length xs ≤ k → AreOffers s budget g [] os × NoGuardFaults s budget g []
-      all_asked ends = offers.all_offered s budget g os legal (subst (λ ms. HaveOffered s budget g ms os) (ap (each path) (take_all k xs ends) ∙ all) have)
+      pub all_asked : IsThere g.core.instances system → length xs ≤ k → AreOffers s budget (renew s budget g system now) system os × NoGuardFaults s budget g system × (ws ≡ wanted s budget g system) × AreDifferent ws
+      all_asked there ends = offers.all_offered s budget g system now os ws there (subst (λ ms. HaveOffered s budget g system now ms os ws) (ap (each path) (take_all k xs ends) ∙ all) have)

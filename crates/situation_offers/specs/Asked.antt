@@ -1,59 +1,69 @@
 -- What guards come to.
-use Rattle.std.specs.Prelude.{◌≡◌, ℕ, List, [], map as each}
+use Rattle.std.specs.Prelude.{◌≡◌, ℕ, IsTrue, List, ◌++◌, map as each}
 use Rattle.std.specs.List.{AllByRecursion}
-use Rattle.estelle_tree.specs.Paths.{Path}
+use Rattle.estelle_tree.specs.declared.transition.Wanted.{Wanted}
+use Rattle.estelle_tree.specs.Paths.{Path, is_inside}
+use Rattle.estelle_tree.specs.Timers.{Timers}
 use Rattle.estelle_model.specs.declared.image.Image.{Image}
 use Rattle.estelle_model.specs.declared.image.Part.{Part}
 use Rattle.estelle_model.specs.Subject.{Subject}
 use Rattle.estelle_model.specs.Situation.{Situation}
+use Rattle.estelle_model.specs.Attributes.{IsSystem}
+use Rattle.estelle_model.specs.Delays.{wanted, renew}
 use Rattle.estelle_model.specs.Jobs.{private}
 use Rattle.estelle_model.specs.Runs.{NoGuardFaults, IsFirstFault}
 use Rattle.estelle_model_legality.specs.Jobs.{image_of}
+use Rattle.estelle_model_legality.specs.Situations.{IsLegal}
 use Rattle.effect_log.specs.declared.shared.Shared.{Shared}
 use Rattle.effect_log.specs.Standing.{Stands}
+use Rattle.delay_timers.specs.Moments.{AreDifferent}
 use Rattle.transition_select.specs.declared.offers.Offer.{Offer}
 use Rattle.transition_select.specs.Blocks.{at_and_below}
 use Rattle.transition_select.specs.Offers.{AreCountedOf, AreOffers, IsOffer}
 use Rattle.situation_images.specs.Instances.{IsOfBody}
-use Rattle.situation_steps.specs.OneSystems.{IsOneSystem}
-use Rattle.situation_steps.specs.UnderWay.{IsLegalRoot}
 use Rattle.situation_offers.specs.declared.guards.Count.{Count}
 use Rattle.situation_offers.specs.declared.guards.Count.TheVariants as count
 use Rattle.situation_offers.specs.declared.guards.Offering.{Offering}
 use Rattle.situation_offers.specs.declared.guards.Offering.TheVariants as offering
-use Rattle.situation_offers.specs.Guards.{NoneFaults, IsFirst}
+use Rattle.situation_offers.specs.Guards.{NoneFaults, IsFirst, wanted_of}
 
 -- ---- of whom is asked
 
--- the shared state stands for a situation of one system, in which the instance is of this body
-pub record IsAt (s : Subject) (shared : Shared) (g : Situation) (m : Path) (body : ℕ) : Type 0 where
-  pub one : IsOneSystem s
+-- the shared state and the timers stand for a legal situation, and this is a system in it
+pub record MayBeAsked (s : Subject) (shared : Shared) (timers : Timers) (g : Situation) (system : Path) : Type 0 where
   pub stands : Stands s shared g
-  pub legal : IsLegalRoot s g
+  pub legal : IsLegal s g
+  pub running : timers ≡ g.timers
+  pub is_system : IsSystem s g system
+
+-- the instance is of the system, and of this body
+pub record IsAt (g : Situation) (system m : Path) (body : ℕ) : Type 0 where
+  pub inside : IsTrue (is_inside system m)
   pub of_body : IsOfBody g m body
 
 -- the image shows the private part of the instance
 abbrev pub IsImageOf : Subject → Situation → Path → Image → Type 0
 IsImageOf s g m image = image ≡ image_of (private s g.core m)
 
--- these are the parts of all instances, in path order
-pub record AreAll (g : Situation) (parts : List Part) : Type 0 where
-  pub paths : each (λ p. p.path) parts ≡ at_and_below g []
-  pub bodies : AllByRecursion (λ p. IsOfBody g p.path p.body) parts
+-- these are the parts of all instances of the system, in path order
+pub record AreAll (g : Situation) (system : Path) (parts : List Part) : Type 0 where
+  pub paths : each (λ p. p.path) parts ≡ at_and_below g system
+  pub each_at : AllByRecursion (λ p. IsAt g system p.path p.body) parts
 
 -- ---- answers
 
--- what the guards of an instance come to
-abbrev pub IsCount : Subject → ℕ → Situation → Path → Count → Type 0
-IsCount s budget g m (count.Counts counted) = AreCountedOf s budget g m counted.items × NoneFaults s budget g m
-IsCount s budget g m (count.Faults n kind) = IsFirst s budget g m n kind
+module _ (s : Subject) (budget : ℕ) (g : Situation) (system : Path) (now : ℕ) where
+  -- what the guards of an instance come to, with what wants a timer before and after it
+  abbrev pub IsCount : Path → List Wanted → List Wanted → Count → Type 0
+  IsCount m before after (count.Counts counted) = AreCountedOf s budget (renew s budget g system now) m counted.items × NoneFaults s budget g m × (after ≡ before ++ wanted_of s budget g m)
+  IsCount m before after (count.Faults n kind) = IsFirst s budget g m n kind
 
--- what an instance offers
-pub record IsOfferOf (s : Subject) (budget : ℕ) (g : Situation) (m : Path) (o : Offer) : Type 0 where
-  pub path : o.path ≡ m
-  pub offer : IsOffer s budget g o
+  -- what an instance offers once the timers are renewed
+  pub record IsOfferOf (m : Path) (o : Offer) : Type 0 where
+    pub path : o.path ≡ m
+    pub offer : IsOffer s budget (renew s budget g system now) o
 
--- what the guards of the whole system come to
-abbrev pub IsOffering : Subject → ℕ → Situation → Offering → Type 0
-IsOffering s budget g (offering.Offers offers) = AreOffers s budget g [] offers.items × NoGuardFaults s budget g []
-IsOffering s budget g (offering.Faults m n kind) = IsFirstFault s budget g [] m n kind
+  -- what the guards of a system come to at a moment
+  abbrev pub IsOffering : Offering → Type 0
+  IsOffering (offering.Offers offers wants) = AreOffers s budget (renew s budget g system now) system offers.items × NoGuardFaults s budget g system × (wants.items ≡ wanted s budget g system) × AreDifferent wants.items
+  IsOffering (offering.Faults m n kind) = IsFirstFault s budget g system m n kind

@@ -1,18 +1,25 @@
 -- What is known of the guards of instances, one after another.
-use Rattle.std.specs.Prelude.{◌≡◌, ◌<◌, ◌≤◌, ℕ, ℤ, Option, List, [], ◌∷◌, map as each, filter}
+use Rattle.std.specs.Prelude.{◌≡◌, ◌+◌, ◌<◌, ◌≤◌, nat_le, ℕ, ℤ, Bool, true, false, if◌then◌else◌, Option, Some, None, List, [], ◌∷◌, ◌++◌, map as each, filter, flat_map}
 use Rattle.std.specs.List.{AllByRecursion, range_with_len}
+use Rattle.std.specs.FinMap as map
 use Rattle.pascal_values.specs.declared.fault.Fault.{Fault}
+use Rattle.estelle_tree.specs.declared.transition.Pair.{Pair}
+use Rattle.estelle_tree.specs.declared.transition.Wanted.{Wanted}
 use Rattle.estelle_tree.specs.Paths.{Path}
+use Rattle.estelle_tree.specs.Timers.{Timer, pair, cap, due}
 use Rattle.estelle_model.specs.declared.job.Guard.{Guard}
 use Rattle.estelle_model.specs.declared.job.Guard.TheVariants.{Off, On, Faulted}
 use Rattle.estelle_model.specs.Subject.{Subject}
 use Rattle.estelle_model.specs.Situation.{Situation}
 use Rattle.estelle_model.specs.Firing.{guard}
-use Rattle.estelle_model.specs.Delays.{may}
+use Rattle.estelle_model.specs.Delays.{has_delay, may, wanted_by, renew}
 use Rattle.estelle_model.specs.Selection.{priority}
+use Rattle.estelle_model.specs.Schedule.{numbers_of}
 use Rattle.transition_select.specs.declared.offers.Counted.{Counted}
 use Rattle.transition_select.specs.declared.offers.Offer.{Offer}
 use Rattle.transition_select.specs.Offers.{IsOffer}
+
+-- ---- faults
 
 -- no guard of the instance faults
 abbrev pub NoneFaults : Subject → ℕ → Situation → Path → Type 0
@@ -23,20 +30,49 @@ pub record IsFirst (s : Subject) (budget : ℕ) (g : Situation) (m : Path) (n : 
   pub faults : guard s budget g m n ≡ Faulted kind
   pub first : (k : ℕ) (other : Fault) → k < n → guard s budget g m k ≡ Faulted other → ⊥
 
--- what is counted of a transition with this priority by the answer of its guard
-abbrev pub counted_by : Option ℤ → ℕ → Guard → List Counted
-counted_by priority n (On low high) = record { trans = n; priority = priority } ∷ []
-counted_by priority n Off = []
-counted_by priority n (Faulted kind) = []
+-- ---- what a transition comes to by the answer of its guard
 
--- of the transitions of an instance up to one, none faults, and these may be selected
-pub record AreCountedTo (s : Subject) (budget : ℕ) (g : Situation) (m : Path) (n : ℕ) (cs : List Counted) : Type 0 where
-  pub numbers : each (λ c. c.trans) cs ≡ filter (may s budget g m) (range_with_len 1 n)
-  pub priorities : AllByRecursion (λ c. c.priority ≡ priority s g m c.trans) cs
-  pub sound : (k : ℕ) (kind : Fault) → k ≤ n → guard s budget g m k ≡ Faulted kind → ⊥
+-- a delay with this low is over: that of the timer that runs, or else of one that starts now
+abbrev pub is_over : ℕ → Option Timer → ℕ → Bool
+is_over now None low = nat_le (cap (now + low)) now
+is_over now (Some t) low = nat_le (due t) now
 
--- of instances one after another none faults, and this is what they offer
-pub record HaveOffered (s : Subject) (budget : ℕ) (g : Situation) (ms : List Path) (os : List Offer) : Type 0 where
-  pub paths : each (λ o. o.path) os ≡ ms
-  pub offers : AllByRecursion (IsOffer s budget g) os
-  pub sound : AllByRecursion (NoneFaults s budget g) ms
+-- once the timers are renewed it may be selected
+abbrev pub may_by : ℕ → Option Timer → Bool → Guard → Bool
+may_by now running delayed (On low high) = if delayed then is_over now running low else true
+may_by now running delayed Off = false
+may_by now running delayed (Faulted kind) = false
+
+-- what is counted of a transition with this priority
+abbrev pub counted_if : Bool → ℕ → Option ℤ → List Counted
+counted_if true n priority = record { trans = n; priority = priority } ∷ []
+counted_if false n priority = []
+
+-- what wants a timer of a transition, which has a delay or not
+abbrev pub wanted_if : Bool → Pair → Guard → List Wanted
+wanted_if true p answer = wanted_by p answer
+wanted_if false p answer = []
+
+abbrev pub wanted_at : Subject → ℕ → Situation → Path → ℕ → List Wanted
+wanted_at s budget g m n = wanted_if (has_delay s g m n) (pair m n) (guard s budget g m n)
+
+-- of all transitions of an instance
+abbrev pub wanted_of : Subject → ℕ → Situation → Path → List Wanted
+wanted_of s budget g m = flat_map (wanted_at s budget g m) (numbers_of s (map.get g.core.instances m))
+
+-- ---- on the way
+
+module _ (s : Subject) (budget : ℕ) (g : Situation) (system : Path) (now : ℕ) where
+  -- of the transitions of an instance up to one, none faults, these may be selected once the timers are renewed, and these want a timer
+  pub record AreCountedTo (m : Path) (n : ℕ) (cs : List Counted) (before after : List Wanted) : Type 0 where
+    pub numbers : each (λ c. c.trans) cs ≡ filter (may s budget (renew s budget g system now) m) (range_with_len 1 n)
+    pub priorities : AllByRecursion (λ c. c.priority ≡ priority s g m c.trans) cs
+    pub wanted : after ≡ before ++ flat_map (wanted_at s budget g m) (range_with_len 1 n)
+    pub sound : (k : ℕ) (kind : Fault) → k ≤ n → guard s budget g m k ≡ Faulted kind → ⊥
+
+  -- of instances one after another none faults, this is what they offer then, and these want a timer
+  pub record HaveOffered (ms : List Path) (os : List Offer) (ws : List Wanted) : Type 0 where
+    pub paths : each (λ o. o.path) os ≡ ms
+    pub offers : AllByRecursion (IsOffer s budget (renew s budget g system now)) os
+    pub wanted : ws ≡ flat_map (wanted_of s budget g) ms
+    pub sound : AllByRecursion (NoneFaults s budget g) ms

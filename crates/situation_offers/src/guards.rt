@@ -1,28 +1,31 @@
 //! What the instances of a system offer, by their guards.
 
-ghost use Rattle.std.specs.Prelude.{◌≡◌, ℕ, [], ◌++◌, option_and_then, IfOk, OnOk, map as each};
+ghost use Rattle.std.specs.Prelude.{◌≡◌, ℕ, ◌++◌, option_and_then, IfOk, OnOk, map as each};
+ghost use Rattle.std.specs.FinMap as map;
 ghost use Rattle.estelle_tree.specs.Paths.{Path as Seen};
+ghost use Rattle.estelle_tree.specs.Timers.{pair};
 ghost use Rattle.estelle_model.specs.Situation.{Situation};
 ghost use Rattle.estelle_model.specs.Subject.{Subject, body as body_of};
-ghost use Rattle.estelle_model.specs.Attributes.{attribute, is_process};
+ghost use Rattle.estelle_model.specs.Attributes.{attribute, is_process, IsSystem};
 ghost use Rattle.estelle_model.specs.Firing.{guard};
+ghost use Rattle.estelle_model.specs.Delays.{has_delay, renew};
 ghost use Rattle.estelle_model.specs.Selection.{priority};
 ghost use Rattle.estelle_model.specs.Runs.{IsFirstFault};
+ghost use Rattle.estelle_model_legality.specs.Situations.{IsLegal};
 ghost use Rattle.body_walker_state.specs.InOrder.{InOrder};
 ghost use Rattle.situation_images.specs.Instances.{IsOfBody};
 ghost use Rattle.effect_log.specs.Standing.{Stands};
 ghost use Rattle.transition_select.specs.Offers.{AreCountedOf};
-ghost use Rattle.situation_steps.specs.OneSystems.{IsOneSystem};
-ghost use Rattle.situation_steps.specs.UnderWay.{IsLegalRoot};
-ghost use Rattle.situation_offers.specs.Guards.{counted_by};
-ghost use Rattle.situation_offers.specs.Asked.{IsAt, IsImageOf, AreAll, IsCount, IsOfferOf, IsOffering};
+ghost use Rattle.situation_offers.specs.Guards as spec;
+ghost use Rattle.situation_offers.specs.Asked.{MayBeAsked, IsAt, IsImageOf, AreAll, IsCount, IsOfferOf, IsOffering};
 
 use body_walker::guard_plain;
 use body_walker_program::Program;
 use body_walker_state::is_in_order;
+use delay_timers::Timers;
 use effect_log::Shared;
 use estelle_model::{Attribute, Guard, Image, Part};
-use estelle_tree::Path;
+use estelle_tree::{Path, Wanted};
 use pascal_values::Fault;
 use situation_images::{found_head, image_of};
 use std::alloc::{AllocError, Global};
@@ -40,10 +43,17 @@ pub(crate) enum Count {
 /// What the guards of a system come to.
 #[derive(Drop)]
 pub enum Offering {
-    /// None faults, and the instances offer this, in path order.
-    Offers(Vec<Offer>),
+    /// None faults. The instances offer this, in path order, and these enabled transitions with a delay want a timer.
+    Offers {
+        offers: Vec<Offer>,
+        wanted: Vec<Wanted>,
+    },
     /// This one is the first that faults.
-    Faults { path: Path, trans: u32, kind: Fault },
+    Faults {
+        path: Path,
+        trans: u32,
+        kind: Fault,
+    },
 }
 
 /// The private part of an instance.
@@ -54,7 +64,7 @@ fn image_in_order(
     path: &Path,
 ) -> Result<Image, AllocError>
     ensures in_order { IfOk result (λ image. InOrder image.parts) }
-    ensures shown { (g : Situation) → Stands program.now shared.now g → IsLegalRoot program.now g → IfOk result (IsImageOf program.now g path.now) }
+    ensures shown { (g : Situation) → Stands program.now shared.now g → IsLegal program.now g → IfOk result (IsImageOf program.now g path.now) }
 {
     let image = image_of(alloc, program, shared, path)?;
     // The instances of an image stand in path order, so that nothing is refused here.
@@ -70,6 +80,7 @@ fn guard_of(
     alloc: Global,
     program: &Program,
     shared: &Shared,
+    timers: &Timers,
     path: &Path,
     body: u32,
     image: &Image,
@@ -77,10 +88,11 @@ fn guard_of(
     budget: u32,
 ) -> Result<Guard, AllocError>
     requires { InOrder image.now.parts }
-    ensures { (g : Situation) → IsAt program.now shared.now g path.now body → IsImageOf program.now g path.now image.now → IfOk result (λ answer. answer ≡ guard program.now budget g path.now trans) }
+    ensures { (g : Situation) (system : Seen) → MayBeAsked program.now shared.now timers.now g system → IsOfBody g path.now body → IsImageOf program.now g path.now image.now → IfOk result (λ answer. answer ≡ guard program.now budget g path.now trans) }
 {
     let head = found_head(alloc, program, shared, path, body, trans)?;
-    guard_plain(alloc, program, path, image, trans, head, false, budget)
+    let timed = timers.has(path, trans);
+    guard_plain(alloc, program, path, image, trans, head, timed, budget)
 }
 
 /// The priority of a transition of a body.
@@ -93,21 +105,92 @@ fn priority_of(program: &Program, body: u32, trans: u32) -> Option<i64>
     }
 }
 
-/// Counts a transition whose guard is on.
-fn count_on(
+/// Whether a transition of a body has a delay.
+fn is_delayed(program: &Program, body: u32, trans: u32) -> bool
+    ensures { (g : Situation) (m : Seen) → IsOfBody g m body → result ≡ has_delay program.now g m trans }
+{
+    match program.transition(body, trans) {
+        None => false,
+        Some(transition) => transition.delay().is_some(),
+    }
+}
+
+/// Whether a delay is over now: that of the timer that runs, or else of one that starts now.
+fn is_over(timers: &Timers, path: &Path, trans: u32, low: u32, now: u64) -> bool
+    ensures { result ≡ spec.is_over now (map.get timers.now (pair path.now trans)) low }
+{
+    if timers.has(path, trans) {
+        timers.may(path, trans, now)
+    } else {
+        now.saturating_add(u64::from(low)) <= now
+    }
+}
+
+/// Whether a transition may be selected once the timers are renewed.
+fn may(
     program: &Program,
+    timers: &Timers,
+    path: &Path,
     body: u32,
     trans: u32,
     answer: Guard,
-    counted: &mut Vec<Counted>,
-) -> Result<(), AllocError>
-    ensures { (g : Situation) (m : Seen) → IsOfBody g m body → OnOk result (counted.new.items ≡ counted.old.items ++ counted_by (priority program.now g m trans) trans answer) }
+    now: u64,
+) -> bool
+    ensures { (g : Situation) → IsOfBody g path.now body → result ≡ spec.may_by now (map.get timers.now (pair path.now trans)) (has_delay program.now g path.now trans) answer }
 {
     match answer {
-        Guard::On { .. } => {
-            counted.push(Counted {
+        Guard::On { low, .. } => {
+            if is_delayed(program, body, trans) {
+                is_over(timers, path, trans, low, now)
+            } else {
+                true
+            }
+        }
+        _ => false,
+    }
+}
+
+/// Counts a transition that may be selected.
+fn count_if(
+    program: &Program,
+    body: u32,
+    trans: u32,
+    may: bool,
+    counted: &mut Vec<Counted>,
+) -> Result<(), AllocError>
+    ensures { (g : Situation) (m : Seen) → IsOfBody g m body → OnOk result (counted.new.items ≡ counted.old.items ++ spec.counted_if may trans (priority program.now g m trans)) }
+{
+    if may {
+        counted.push(Counted {
+            trans,
+            priority: priority_of(program, body, trans),
+        })?;
+    }
+    Ok(())
+}
+
+/// An enabled transition with a delay wants a timer.
+fn want_if(
+    alloc: Global,
+    delayed: bool,
+    path: &Path,
+    trans: u32,
+    answer: Guard,
+    wanted: &mut Vec<Wanted>,
+) -> Result<(), AllocError>
+    ensures { OnOk result (wanted.new.items ≡ wanted.old.items ++ spec.wanted_if delayed (pair path.now trans) answer) }
+{
+    if !delayed {
+        return Ok(());
+    }
+    match answer {
+        Guard::On { low, high } => {
+            let path = path.copy(alloc)?;
+            wanted.push(Wanted {
+                path,
                 trans,
-                priority: priority_of(program, body, trans),
+                low,
+                high,
             })?;
             Ok(())
         }
@@ -120,22 +203,30 @@ fn count_all(
     alloc: Global,
     program: &Program,
     shared: &Shared,
+    timers: &Timers,
     path: &Path,
     body: u32,
     image: &Image,
+    now: u64,
     budget: u32,
+    wanted: &mut Vec<Wanted>,
 ) -> Result<Count, AllocError>
     requires { InOrder image.now.parts }
-    ensures { (g : Situation) → IsAt program.now shared.now g path.now body → IsImageOf program.now g path.now image.now → IfOk result (IsCount program.now budget g path.now) }
+    ensures { (g : Situation) (system : Seen) → MayBeAsked program.now shared.now timers.now g system → IsAt g system path.now body → IsImageOf program.now g path.now image.now → IfOk result (IsCount program.now budget g system now path.now wanted.old.items wanted.new.items) }
 {
     let mut counted = Vec::new(alloc);
     for index in 0..program.transitions(body) {
         let trans = index + 1;
-        let answer = guard_of(alloc, program, shared, path, body, image, trans, budget)?;
+        let answer = guard_of(
+            alloc, program, shared, timers, path, body, image, trans, budget,
+        )?;
         if let Guard::Faulted(kind) = answer {
             return Ok(Count::Faults { trans, kind });
         }
-        count_on(program, body, trans, answer, &mut counted)?;
+        let may = may(program, timers, path, body, trans, answer, now);
+        count_if(program, body, trans, may, &mut counted)?;
+        let delayed = is_delayed(program, body, trans);
+        want_if(alloc, delayed, path, trans, answer, wanted)?;
     }
     Ok(Count::Counts(counted))
 }
@@ -145,17 +236,22 @@ fn count_at(
     alloc: Global,
     program: &Program,
     shared: &Shared,
+    timers: &Timers,
     path: &Path,
     body: u32,
+    now: u64,
     budget: u32,
+    wanted: &mut Vec<Wanted>,
 ) -> Result<Count, AllocError>
-    ensures { (g : Situation) → IsAt program.now shared.now g path.now body → IfOk result (IsCount program.now budget g path.now) }
+    ensures { (g : Situation) (system : Seen) → MayBeAsked program.now shared.now timers.now g system → IsAt g system path.now body → IfOk result (IsCount program.now budget g system now path.now wanted.old.items wanted.new.items) }
 {
     if program.transitions(body) == 0 {
         return Ok(Count::Counts(Vec::new(alloc)));
     }
     let image = image_in_order(alloc, program, shared, path)?;
-    count_all(alloc, program, shared, path, body, &image, budget)
+    count_all(
+        alloc, program, shared, timers, path, body, &image, now, budget, wanted,
+    )
 }
 
 /// Whether what the children of an instance of a body select is taken together.
@@ -177,7 +273,7 @@ fn offer(
     body: u32,
     counted: &[Counted],
 ) -> Result<Offer, AllocError>
-    ensures { (g : Situation) (budget : ℕ) → IsOneSystem program.now → IsLegalRoot program.now g → IsOfBody g path.now body → AreCountedOf program.now budget g path.now counted.now → IfOk result (IsOfferOf program.now budget g path.now) }
+    ensures { (g : Situation) (system : Seen) (now budget : ℕ) → IsLegal program.now g → IsSystem program.now g system → IsAt g system path.now body → AreCountedOf program.now budget (renew program.now budget g system now) path.now counted.now → IfOk result (IsOfferOf program.now budget g system now path.now) }
 {
     Ok(Offer {
         path: path.copy(alloc)?,
@@ -188,7 +284,7 @@ fn offer(
 
 /// A guard that faults is the first of all.
 fn faulted(alloc: Global, path: &Path, trans: u32, kind: Fault) -> Result<Offering, AllocError>
-    ensures { (s : Subject) (budget : ℕ) (g : Situation) → IsFirstFault s budget g [] path.now trans kind → IfOk result (IsOffering s budget g) }
+    ensures { (s : Subject) (budget : ℕ) (g : Situation) (system : Seen) (now : ℕ) → IsFirstFault s budget g system path.now trans kind → IfOk result (IsOffering s budget g system now) }
 {
     Ok(Offering::Faults {
         path: path.copy(alloc)?,
@@ -197,41 +293,58 @@ fn faulted(alloc: Global, path: &Path, trans: u32, kind: Fault) -> Result<Offeri
     })
 }
 
-/// Asks the guards of all instances, one after another.
+/// Asks the guards of instances, one after another.
 fn ask_each(
     alloc: Global,
     program: &Program,
     shared: &Shared,
+    timers: &Timers,
     parts: &[&Part],
+    now: u64,
     budget: u32,
 ) -> Result<Offering, AllocError>
-    ensures { (g : Situation) → IsOneSystem program.now → Stands program.now shared.now g → IsLegalRoot program.now g → AreAll g (each (λ r. r.now) parts.now) → IfOk result (IsOffering program.now budget g) }
+    ensures { (g : Situation) (system : Seen) → MayBeAsked program.now shared.now timers.now g system → AreAll g system (each (λ r. r.now) parts.now) → IfOk result (IsOffering program.now budget g system now) }
 {
     let mut offers = Vec::new(alloc);
+    let mut wanted = Vec::new(alloc);
     for part in parts {
-        match count_at(alloc, program, shared, &part.path, part.body, budget)? {
+        let count = count_at(
+            alloc,
+            program,
+            shared,
+            timers,
+            &part.path,
+            part.body,
+            now,
+            budget,
+            &mut wanted,
+        )?;
+        match count {
             Count::Counts(counted) => {
                 offers.push(offer(alloc, program, &part.path, part.body, &counted)?)?;
             }
             Count::Faults { trans, kind } => return faulted(alloc, &part.path, trans, kind),
         }
     }
-    Ok(Offering::Offers(offers))
+    Ok(Offering::Offers { offers, wanted })
 }
 
-/// Asks each guard of the system, in path order and in the order of transitions.
+/// Asks each guard of a system, in path order and in the order of transitions, and tells what its instances offer
+/// once its timers are renewed at the moment `now`. The timers stay as they are.
 pub fn ask(
     alloc: Global,
     program: &Program,
     shared: &Shared,
+    timers: &Timers,
+    system: &Path,
+    now: u64,
     budget: u32,
 ) -> Result<Offering, AllocError>
-    ensures { (g : Situation) → IsOneSystem program.now → Stands program.now shared.now g → IsLegalRoot program.now g → IfOk result (IsOffering program.now budget g) }
+    ensures { (g : Situation) → Stands program.now shared.now g → IsLegal program.now g → timers.now ≡ g.timers → IsSystem program.now g system.now → IfOk result (IsOffering program.now budget g system.now now) }
 {
-    let root = Path::root(alloc);
-    match shared.tree.below(alloc, &root) {
-        Ok(parts) => ask_each(alloc, program, shared, &parts, budget),
-        // The root is always there.
+    match shared.tree.below(alloc, system) {
+        Ok(parts) => ask_each(alloc, program, shared, timers, &parts, now, budget),
+        // The system is there.
         Err(_) => Err(AllocError),
     }
 }

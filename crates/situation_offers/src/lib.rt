@@ -1,9 +1,10 @@
-//! What the instances of a system offer, by their guards (ISO/IEC 9074: enabled transitions, priorities).
+//! What the instances of a system offer, by their guards (ISO/IEC 9074: enabled transitions, priorities, `delay` clauses).
 //!
 //! It stands on `body_walker`, which evaluates a guard on the image of an instance's private part, on `situation_images` for
-//! the images and for what waits first at an interaction point, and on `transition_select`, whose `AreOffers` says what a
-//! system offers. Each guard is asked once, up to the first that faults. For each instance whose body has transitions an image is
-//! made: that takes the time of the instances at and below it, and of all links.
+//! the images and for what waits first at an interaction point, on `delay_timers` for the timers that run, and on
+//! `transition_select`, whose `AreOffers` says what a system offers. Each guard is asked once, up to the first that faults. The
+//! timers stay as they are; a renewal with what is wanted leads to the situation in which the instances offer this. For each
+//! instance whose body has transitions an image is made: that takes the time of the instances at and below it, and of all links.
 #![tactic(auto)]
 
 mod guards;

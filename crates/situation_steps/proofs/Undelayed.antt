@@ -1,6 +1,6 @@
--- Where no transition has a delay, no timer starts, and what is enabled may and must be selected.
-use Rattle.std.proofs.Common.{◌≡◌, ◌⊎◌, ℕ, zero, suc, ◌+◌, ◌<◌, ◌≤◌, Bool, true, false, List, [], ◌∷◌, ◌++◌, map as each, filter, length, Option, Some, None, refl, sym, ap, cond, ◌∙◌, inl, inr, arith}
-use Rattle.std.specs.Prelude.{◌&&◌, ◌||◌, not, is_some, slice_get, flat_map}
+-- Where no transition has a delay, no timer starts.
+use Rattle.std.proofs.Common.{◌≡◌, ◌⊎◌, ℕ, zero, suc, ◌+◌, ◌<◌, ◌≤◌, Bool, true, false, List, [], ◌∷◌, ◌++◌, map as each, length, Option, Some, None, refl, sym, ap, cond, ◌∙◌, inl, inr, arith}
+use Rattle.std.specs.Prelude.{not, is_some, slice_get, flat_map}
 use Rattle.std.specs.List.{list_any, range_with_len}
 use Rattle.std.specs.FinMap as map
 use Rattle.std.proofs.lemmas.Bool.{cases_lt}
@@ -15,12 +15,10 @@ use Rattle.estelle_model.specs.Transitions.{Transition}
 use Rattle.estelle_model.specs.Subject.{Subject, body, transitions, transitions_of, transition}
 use Rattle.estelle_model.specs.Situation.{Situation}
 use Rattle.estelle_model.specs.Firing.{transition_at, guard}
-use Rattle.estelle_model.specs.Delays.{is_on, is_delayed, has_delay, may, must, delayed_of, delayed_in, wanted_by, renew}
+use Rattle.estelle_model.specs.Delays.{is_delayed, has_delays, delayed_of, delayed_in, wanted_by, renew}
 use Rattle.estelle_model.proofs.Pairs.{pairs_total, pairs_apart}
 use Rattle.estelle_model_legality.proofs.Members.{Has, has_got, has_none}
-use Rattle.situation_steps.specs.OneSystems.{IsOneSystem}
-use Rattle.situation_steps.specs.UnderWay.{IsUntimed}
-use Rattle.situation_steps.specs.Laws.{MomentsStay}
+use Rattle.situation_steps.proofs.Listed.{filter_none}
 
 -- ---- lists
 
@@ -32,17 +30,13 @@ range_has (suc len) a n low high = by (cases_lt a n) (λ less. range_has len (a 
     by (inl less) rest = inr (rest less)
     by (inr last) rest = inl (omega arith)
 
-filter_none : {A : Type 0} (test : A → Bool) (xs : List A) → ((x : A) → test x ≡ false) → filter test xs ≡ []
-filter_none test [] none = refl
-filter_none test (x ∷ xs) none = ap (λ b. cond b (x ∷ filter test xs) (filter test xs)) (none x) ∙ filter_none test xs none
-
 flat_none : {A B : Type 0} (f : A → List B) (xs : List A) → ((x : A) → f x ≡ []) → flat_map f xs ≡ []
 flat_none f [] none = refl
 flat_none f (x ∷ xs) none = ap (λ ys. ys ++ flat_map f xs) (none x) ∙ flat_none f xs none
 
 -- ---- transitions
 
-module _ (s : Subject) (one : IsOneSystem s) where
+module _ (s : Subject) (none : has_delays s ≡ false) where
   within : (k j : ℕ) (t : Transition) (o : Option BodyAlone) → body s k ≡ o → slice_get (transitions_of s o) j ≡ Some t → k < length (bodies s.specification)
   within k j t None e got = absurd (cc)
   within k j t (Some b) e got = slice_get_within (bodies s.specification) k b e
@@ -52,27 +46,16 @@ module _ (s : Subject) (one : IsOneSystem s) where
   not_delayed k zero (Some t) e = absurd (cc)
   not_delayed k (suc j) (Some t) e =
       let less = within k j t (body s k) refl e in
-      let of_body = has_none (λ n. list_any (λ (x : Transition). is_some x.delay) (transitions s n)) (range_with_len 0 (length (bodies s.specification))) one.undelayed k (range_has (length (bodies s.specification)) 0 k (omega arith) (omega (arith, less))) in
+      let of_body = has_none (λ n. list_any (λ (x : Transition). is_some x.delay) (transitions s n)) (range_with_len 0 (length (bodies s.specification))) none k (range_has (length (bodies s.specification)) 0 k (omega arith) (omega (arith, less))) in
       has_none (λ (x : Transition). is_some x.delay) (transitions s k) of_body t (has_got (transitions s k) j t e)
 
   not_delayed_at : (n : ℕ) (o : Option Instance) → is_delayed (transition_at s n o) ≡ false
   not_delayed_at n None = refl
   not_delayed_at n (Some i) = not_delayed i.body n (transition s i.body n) refl
 
-  undelayed : (b c d : Bool) → c ≡ false → (b && (not c || d)) ≡ b
-  undelayed true false d h = refl
-  undelayed false false d h = refl
-  undelayed b true d h = absurd (cc)
-
-  module _ (budget : ℕ) (g : Situation) where
-    pub may_is : (m : Path) (n : ℕ) → may s budget g m n ≡ is_on (guard s budget g m n)
-    may_is m n = undelayed _ _ _ (not_delayed_at n (map.get g.core.instances m))
-
-    pub must_is : (m : Path) (n : ℕ) → must s budget g m n ≡ is_on (guard s budget g m n)
-    must_is m n = undelayed _ _ _ (not_delayed_at n (map.get g.core.instances m))
-
+  module _ (g : Situation) where
     none_delayed_of : (e : Path × Instance) → delayed_of s e ≡ []
-    none_delayed_of e = filter_none (λ (p : Pair). is_delayed (transition_at s p.trans (Some e.1))) (each (pair e.0) (range_with_len 1 (length (transitions s e.1.body)))) (λ p. not_delayed_at p.trans (Some e.1))
+    none_delayed_of e = filter_none (λ (p : Pair). is_delayed (transition_at s p.trans (Some e.1))) (each (pair e.0) (range_with_len 1 (length (transitions s e.1.body)))) (λ p h. not_delayed_at p.trans (Some e.1))
 
     none_delayed : (system : Path) → delayed_in s g system ≡ []
     none_delayed system = flat_none (delayed_of s) _ none_delayed_of
@@ -88,9 +71,9 @@ none_retained test = map.same_map pairs_total pairs_apart _ _
     (λ q. map.get-retain_keys (map.empty {K = Pair} {X = Timer} {R = pair_cmp}) test q (λ p tie. ap test (sym (pairs_apart q p tie)))
     ∙ without_any (test q) (map.get (map.empty {K = Pair} {X = Timer} {R = pair_cmp}) q) (map.get-empty pair_cmp q))
 
-pub moments_stay : MomentsStay
-moments_stay s one budget g untimed system =
-    ap (λ (ps : List Pair). record g { now = 0; timers = timer.renewed system 0 (flat_map (λ p. wanted_by p (guard s budget g p.path p.trans)) ps) g.timers }) (none_delayed s one budget g system)
-    ∙ ap (λ (ts : Timers). record g { now = 0; timers = map.retain_keys ts (λ p. not (is_inside system p.path)) }) untimed.timers
-    ∙ ap (λ (ts : Timers). record g { now = 0; timers = ts }) (none_retained (λ p. not (is_inside system p.path)))
-    ∙ (λ i. record g { now = sym untimed.now i; timers = sym untimed.timers i })
+-- after a selection none runs either
+pub renewed_untimed : (s : Subject) (budget : ℕ) (g : Situation) (system : Path) (now : ℕ) → has_delays s ≡ false → g.timers ≡ map.empty → (renew s budget g system now).timers ≡ map.empty
+renewed_untimed s budget g system now none untimed =
+    ap (λ (ps : List Pair). timer.renewed system now (flat_map (λ p. wanted_by p (guard s budget g p.path p.trans)) ps) g.timers) (none_delayed s none g system)
+    ∙ ap (λ (ts : Timers). map.retain_keys ts (λ p. not (is_inside system p.path))) untimed
+    ∙ none_retained (λ p. not (is_inside system p.path))

@@ -1,5 +1,7 @@
--- ---- which specifications
-pub mod OneSystems
+-- ---- the systems of a situation, and what is kept of them
+pub mod Systems
+-- ---- what a firing leaves of other systems
+pub mod Others
 -- ---- how a run goes on
 pub mod UnderWay
 pub mod Laws

@@ -1,24 +1,25 @@
 //! Laws: their contracts are the laws, and they do nothing.
 
-ghost use Rattle.situation_steps.specs.Laws.{MomentsStay, NothingSelectedIsDead, StartsGoOn, SelectionsGoOn, FiringsGoOn, OthersAreNotDue};
-ghost use Rattle.situation_steps.specs.Ends.{FaultsEnd, GuardFaultsArePlanned, DeadEnds, TurnsEnd};
+ghost use Rattle.situation_steps.specs.Others.{FiringsLeaveOthers};
+ghost use Rattle.situation_steps.specs.Laws.{StartsGoOn, NoneAreDue, SelectionsGoOn, FiringsGoOn, TimersAreWaitedFor, WaitsGoOn};
+ghost use Rattle.situation_steps.specs.Ends.{FaultsEnd, GuardFaultsArePlanned, DeadEnds, TurnsEnd, ClocksEndSelections, ClocksEndWaits};
 
-/// Where no transition has a delay, a selection at the moment 0 renews nothing.
-pub fn moments_stay()
-    ensures { MomentsStay }
+/// A firing leaves the systems as they are, and the guards of other systems at which none of its outputs arrives.
+pub fn firings_leave_others()
+    ensures { FiringsLeaveOthers }
 {}
 
-/// Where nothing is selected of a whole system and no guard faults, no guard is true.
-pub fn nothing_selected_is_dead()
-    ensures { NothingSelectedIsDead }
-{}
-
-/// The start of one system is a run that goes on, where it does not fault.
+/// The start is a run that goes on, where it does not fault.
 pub fn starts_go_on()
     ensures { StartsGoOn }
 {}
 
-/// Where the system awaits a selection and nothing is pending, what a chooser chooses is planned and applies.
+/// Where none of the systems that are kept is due, none is due in the run.
+pub fn none_are_due()
+    ensures { NoneAreDue }
+{}
+
+/// What a chooser chooses for the first system that is due is planned and applies, and the run goes on after it.
 pub fn selections_go_on<C>()
     ensures { SelectionsGoOn C }
 {}
@@ -28,9 +29,14 @@ pub fn firings_go_on()
     ensures { FiringsGoOn }
 {}
 
-/// Where something is pending, or the root does not await a selection, no system is due.
-pub fn others_are_not_due()
-    ensures { OthersAreNotDue }
+/// Where nothing is due or pending and a timer runs, the clock is waited for, for the first time since the last firing.
+pub fn timers_are_waited_for()
+    ensures { TimersAreWaitedFor }
+{}
+
+/// The run goes on after the wait.
+pub fn waits_go_on()
+    ensures { WaitsGoOn }
 {}
 
 /// A fault that applies ends the run.
@@ -38,12 +44,12 @@ pub fn faults_end()
     ensures { FaultsEnd }
 {}
 
-/// Where the system awaits a selection and nothing is pending, the first guard that faults applies, and is planned.
+/// The first guard of the first due system that faults applies, and is planned.
 pub fn guard_faults_are_planned<C>()
     ensures { GuardFaultsArePlanned C }
 {}
 
-/// Where nothing is pending, and the system does not await a selection, the run is dead.
+/// Where nothing is due or pending and no timer runs, the run is dead.
 pub fn dead_ends()
     ensures { DeadEnds }
 {}
@@ -51,4 +57,14 @@ pub fn dead_ends()
 /// The limit of firings ends the run.
 pub fn turns_end()
     ensures { TurnsEnd }
+{}
+
+/// A clock that fails ends the run, where it is asked for a selection.
+pub fn clocks_end_selections()
+    ensures { ClocksEndSelections }
+{}
+
+/// And where it is waited for.
+pub fn clocks_end_waits()
+    ensures { ClocksEndWaits }
 {}

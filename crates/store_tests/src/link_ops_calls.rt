@@ -1,9 +1,9 @@
 //! Attachments from `/1` down to `/1/1/1`, and a connection of `/1` and `/2`.
 
-ghost use Rattle.std.specs.Prelude.{◌≡◌, IfOk};
+ghost use Rattle.std.specs.Prelude.{◌≡◌, ◌||◌, nat_eq, IfOk};
 
-use estelle_tree::{IpAddr, Link, Path};
-use link_ops::{LinkAbsent, LinkTaken, Links};
+use estelle_tree::{IpAddr, Link, LinkKind, Path};
+use link_ops::{LinkAbsent, LinkTaken, LinkTest, Links};
 use std::alloc::{AllocError, Global};
 use std::process::Abort;
 use std::test::Fail;
@@ -69,12 +69,25 @@ fn joins(link: Option<&Link>, first: u32, second: u32) -> bool {
     }
 }
 
+/// The links with an end of this number.
+#[derive(Clone, Copy)]
+struct EndsAt {
+    number: u32,
+}
+
+impl LinkTest for EndsAt {
+    ghost passes = { λ test link. nat_eq link.first.ip test.number || nat_eq link.second.ip test.number };
+
+    fn passes(&self, _kind: LinkKind, first: &IpAddr, second: &IpAddr) -> bool {
+        first.ip == self.number || second.ip == self.number
+    }
+}
+
 fn are_copied(rt: &impl Abort, alloc: Global, links: &Links) -> Result<(), Fail> {
-    let copies = links.copies(alloc)?;
-    assert_eq!(rt; copies.len(), 3);
+    let copies = links.copies_of(alloc, &EndsAt { number: 1 })?;
+    assert_eq!(rt; copies.len(), 2);
     assert!(rt; joins(copies.get(0), 1, 2));
-    assert!(rt; joins(copies.get(1), 2, 3));
-    assert!(rt; joins(copies.get(2), 4, 1));
+    assert!(rt; joins(copies.get(1), 4, 1));
     Ok(())
 }
 

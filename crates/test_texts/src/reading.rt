@@ -1,6 +1,7 @@
 //! From texts to tokens and trees.
 
 ghost use Rattle.std.specs.Prelude.{IfSome};
+ghost use Rattle.estelle_tree.specs.Lexed.{FollowOneAnother};
 ghost use Rattle.estelle_parser.specs.Answers.{AreTokens};
 
 use estelle_lexer::{Tokens, tokens};
@@ -10,7 +11,8 @@ use std::alloc::Global;
 
 /// The tokens of a text of less than 2 GiB; none where it has none, or memory is refused.
 pub fn tokens_of(alloc: Global, text: &[u8]) -> Option<Tokens>
-    ensures { IfSome result (λ found. AreTokens found.items) }
+    ensures tokens { IfSome result (λ found. AreTokens found.items) }
+    ensures spans { IfSome result (λ found. FollowOneAnother 0 found.items found.rest) }
 {
     if text.len() >= 1 << 31 {
         return None;

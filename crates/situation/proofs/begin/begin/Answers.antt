@@ -11,7 +11,7 @@ start-requires g c =
     let fresh = fresh_still c.args.program.now c.args.limits c.args.chooser f m n c.in_ok-course.ensures c.reserve.ensures.kept c.reserve-2.ensures.same c.reserve-2.ensures.notes c.reserve-2.ensures.rest in
     let job = c.start_job.result in
     let first : IsStart c.args.limits.budget job = record { trans = ap (λ (j : Job). j.trans) c.start_job.ensures; path = ap (λ (j : Job). j.path) c.start_job.ensures; units = ap (λ (j : Job). j.budget) c.start_job.ensures } in
-    may_start c.args.program.now c.args.limits c.args.chooser c.requires.one c.requires.room job first c.in_ok-done.done c.in_ok-done.ensures.answers n fresh c.in_ok-reserve-2.ensures.room (spare_still c.args.program.now c.args.limits c.args.chooser f m n c.reserve-2.ensures.rest c.in_ok-reserve.ensures.room)
+    may_start c.args.program.now c.args.limits c.args.chooser c.requires.leads c.requires.room job first c.in_ok-done.done c.in_ok-done.ensures.answers n fresh c.in_ok-reserve-2.ensures.room (spare_still c.args.program.now c.args.limits c.args.chooser f m n c.reserve-2.ensures.rest c.in_ok-reserve.ensures.room)
 
 pub returns : goal.returns
 returns g c =
@@ -21,4 +21,4 @@ returns g c =
     let fresh = fresh_still c.args.program.now c.args.limits c.args.chooser f m n c.in_ok-course.ensures c.reserve.ensures.kept c.reserve-2.ensures.same c.reserve-2.ensures.notes c.reserve-2.ensures.rest in
     let job = c.start_job.result in
     let first : IsStart c.args.limits.budget job = record { trans = ap (λ (j : Job). j.trans) c.start_job.ensures; path = ap (λ (j : Job). j.path) c.start_job.ensures; units = ap (λ (j : Job). j.budget) c.start_job.ensures } in
-    has_begun c.args.program.now c.args.limits c.args.chooser c.requires.one c.requires.room job first c.in_ok-done.done c.in_ok-done.ensures.answers g.H.Chooser.draw n c.start.new.self fresh c.start.ensures
+    has_begun c.args.program.now c.args.limits c.args.chooser c.requires.leads c.requires.room job first c.in_ok-done.done c.in_ok-done.ensures.answers g.H.Chooser.draw n c.start.new.self c.find_systems.new.self fresh c.start.ensures c.in_ok-find_systems.ensures

@@ -3,20 +3,22 @@ use Rattle.std.specs.Prelude.{option_and_then}
 use Rattle.estelle_model.specs.Bodies.{BodyAlone}
 use Rattle.estelle_model.specs.Subject.{body}
 use Rattle.estelle_model.specs.Attributes.{attribute, is_process}
+use Rattle.estelle_model.specs.Delays.{renew}
 use Rattle.estelle_model.specs.Schedule.{offered}
 use Rattle.transition_select.specs.Offers.{IsOfKind}
 use Rattle.situation_offers.proofs.Active.{kind_is}
 use Rattle.situation_offers.proofs.guards.offer.Goals as goal
 
 pub returns : goal.returns
-returns c = λ g budget one legal of are.
+returns c = λ g system now budget legal is at are.
     let s = c.args.program.now in
-    let kind = kind_is s one g legal c.args.path.now of.0 of.1 c.is_of_process.result
+    let of = at.of_body in
+    let kind = kind_is s g legal system c.args.path.now is at.inside of.0 of.1 c.is_of_process.result
     (c.is_of_process.ensures ∙ ap (λ k. is_process (option_and_then (λ (x : BodyAlone). attribute s k) (body s k))) (sym of.2)) in
     record {
       path = c.in_ok-copy.ensures;
       offer = record {
         kind = subst (λ p. IsOfKind s g p c.is_of_process.result) (sym c.in_ok-copy.ensures) kind;
-        offered = c.in_ok-offered.ensures s budget g c.args.path.now are ∙ ap (offered s budget g) (sym c.in_ok-copy.ensures);
+        offered = c.in_ok-offered.ensures s budget (renew s budget g system now) c.args.path.now are ∙ ap (offered s budget (renew s budget g system now)) (sym c.in_ok-copy.ensures);
       };
     }

@@ -1,4 +1,4 @@
-use Rattle.situation_steps.proofs.Ends as by
+use Rattle.situation_steps.proofs.Dead as by
 use Rattle.situation_steps.proofs.laws.dead_ends.Goals as goal
 
 pub returns : goal.returns

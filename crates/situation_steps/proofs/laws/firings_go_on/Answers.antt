@@ -1,4 +1,4 @@
-use Rattle.situation_steps.proofs.Events as by
+use Rattle.situation_steps.proofs.Fired as by
 use Rattle.situation_steps.proofs.laws.firings_go_on.Goals as goal
 
 pub returns : goal.returns

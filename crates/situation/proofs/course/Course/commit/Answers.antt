@@ -7,7 +7,7 @@ use Rattle.situation.specs.declared.course.Course.{Course}
 use Rattle.situation.specs.Runs.{take_of}
 use Rattle.situation.specs.Worlds.{now}
 use Rattle.situation.specs.Steps.{MaySettle, HasSettled}
-use Rattle.situation.proofs.Settled.{found_if, found_is}
+use Rattle.situation.proofs.Settled.{found_if, found_is, settled_unclocked}
 use Rattle.situation.proofs.Committed.{may_settle, committed_step, with_take}
 use Rattle.situation.proofs.course.Course.commit.Goals as goal
 
@@ -22,7 +22,7 @@ note_take-requires-clause-room g c = let spare = c.requires.open.spare in omega 
 
 pub prove-unreachable-requires : goal.prove-unreachable-requires
 prove-unreachable-requires g c =
-    let fired = c.requires.open.is_open.open_run.fired in
+    let fired = c.requires.open.is_open.fired in
     let below = c.requires.below in
     let reached = c.if-prove.true in
     let limit = c.from.ensures in
@@ -34,7 +34,7 @@ unreachable-prove g c = c.prove-unreachable.type_inv
 pub note_take-requires-clause-number : goal.note_take-requires-clause-number
 note_take-requires-clause-number g c =
     let fits = c.from.type_inv in
-    let fired = c.requires.open.is_open.open_run.fired in
+    let fired = c.requires.open.is_open.fired in
     let below = c.requires.below in
     let limit = c.from.ensures in
     omega (arith, fits, fired, below, limit)
@@ -58,11 +58,11 @@ settle-requires g c =
     let spare : 2 ≤ c.note_take.new.self.history.spare = omega (arith, three, fewer) in
     record {
       may = subst (λ (x : Course g.row.H.Denot). MaySettle (now x) x c.args.done) (sym c.note_take.ensures.rest)
-          (may_settle old m p c.args.done c.requires.open c.requires.below c.requires.computed c.take.ensures.rest taken_is spare);
+          (may_settle old m p c.args.done c.requires.open c.requires.below c.requires.none_due c.requires.computed c.take.ensures.rest taken_is spare);
     }
 
-pub returns : goal.returns
-returns g c first picks =
+pub returns-clause-committed : goal.returns-clause-committed
+returns-clause-committed g c first moment picks =
     let old = c.args.self.now in
     let p = pair c.args.path c.args.done.trans in
     let m = record old { pending = c.take.new.pending; history = c.note_take.new.self.history } in
@@ -72,4 +72,8 @@ returns g c first picks =
     let there = subst (λ (x : Course g.row.H.Denot). HasSettled (now x) x c.settle.new.self c.in-Some.field-0.path c.in-Some.field-0.trans c.args.done c.settle.result) c.note_take.ensures.rest c.settle.ensures in
     let its = subst (λ (n : ℕ). HasSettled (now (with_take old m)) (with_take old m) c.settle.new.self c.args.path n c.args.done c.settle.result) trans
     (subst (λ (q : Path). HasSettled (now (with_take old m)) (with_take old m) c.settle.new.self q c.in-Some.field-0.trans c.args.done c.settle.result) own there) in
-    committed_step old m p c.args.done c.requires.open c.requires.below c.requires.computed c.take.ensures.rest taken_is g.H.Chooser.draw first picks c.settle.new.self c.settle.result its
+    committed_step old m p c.args.done c.requires.open c.requires.below c.requires.none_due c.requires.computed c.take.ensures.rest taken_is g.H.Chooser.draw first moment picks c.settle.new.self c.settle.result its
+
+pub returns-clause-unclocked : goal.returns-clause-unclocked
+returns-clause-unclocked g c clocked =
+    settled_unclocked (now c.note_take.new.self) c.note_take.new.self c.settle.new.self c.in-Some.field-0.path c.in-Some.field-0.trans c.args.done c.settle.result c.settle.ensures clocked

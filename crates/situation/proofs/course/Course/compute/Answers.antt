@@ -10,10 +10,10 @@ use Rattle.situation.proofs.course.Course.compute.Goals as goal
 pub returns-clause-computed : goal.returns-clause-computed
 returns-clause-computed g c =
     let old = c.args.self.now in
-    let o = c.requires.open.is_open.open_run in
+    let o = c.requires.open.is_open in
     let p = c.index.result.now in
     let is : slice_get old.pending.items c.args.at ≡ Some p = slice_get_read old.pending.items (length old.pending.items) c.args.at p refl c.requires.there c.index.ensures in
     let there = contained old.pending.items c.args.at p c.requires.there c.index.ensures in
-    let job_is = c.in_ok-job.ensures.job (now old) o.stands o.going.under_way.sound.legal (pending_now old 3 c.requires.open p there) in
+    let job_is = c.in_ok-job.ensures.job (now old) o.holds.stands o.going.under_way.legal (pending_now old 3 c.requires.open p there) in
     subst (λ x. IsComputedAt c.args.at x c.in_ok-done.done) (sym c.reserve.ensures.rest)
     (computed_so old 3 c.requires.open c.args.at p is there c.in_ok-job.job job_is c.in_ok-done.done c.in_ok-done.ensures.answers c.reserve.new.self.shared c.reserve.new.self.notes c.in_ok-reserve.ensures.room)

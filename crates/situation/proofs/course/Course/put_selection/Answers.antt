@@ -1,0 +1,11 @@
+use Rattle.std.proofs.Common.{◌≡◌, false, length, set, ◌∙◌, rules}
+use Rattle.std.proofs.lemmas.Option.{get_or_from_slice_get}
+use Rattle.situation_steps.specs.declared.systems.System.{System}
+use Rattle.situation.proofs.course.Course.put_selection.Goals as goal
+
+pub returns-clause-systems : goal.returns-clause-systems
+returns-clause-systems g c x there =
+    let items = c.args.self.now.systems.items in
+    let same : c.index_mut-system.result.now ≡ x = c.index_mut-system.ensures.value ∙ get_or_from_slice_get items c.args.at x _ there in
+    let count : c.len-system.result ≡ length c.args.takes.items = search rules in
+    (λ i. set items c.args.at (record { path = (same i).path; awaits = false; pending = count i }))

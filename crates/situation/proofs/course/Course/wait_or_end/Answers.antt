@@ -1,0 +1,15 @@
+use Rattle.std.proofs.Common.{◌≡◌, None, sym, subst, rules}
+use Rattle.estelle_tree.specs.Timers.{next_due}
+use Rattle.estelle_model.specs.declared.event.End.TheVariants.{Dead}
+use Rattle.situation.specs.declared.limits.Stepped.TheVariants as did
+use Rattle.situation.specs.Worlds.{HasStepped}
+use Rattle.situation.proofs.Ended.{dead_step}
+use Rattle.situation.proofs.course.Course.wait_or_end.Goals as goal
+
+pub returns-in-None-clause-stepped : goal.returns-in-None-clause-stepped
+returns-in-None-clause-stepped g c =
+    let old = c.args.self.now in
+    let m = g.C.Clock.moment c.args.clock.now in
+    let none : next_due old.timers ≡ None = search rules in
+    subst (HasStepped g.H.Chooser.draw m m old c.ended.new.self) (sym c.ended.ensures.says)
+    (subst (λ x. HasStepped g.H.Chooser.draw m m old x (did.Ended Dead)) (sym c.ended.ensures.rest) (dead_step g.H.Chooser.draw m old c.ended.new.self c.requires.open.is_open c.requires.idle none c.ended.ensures.noted))

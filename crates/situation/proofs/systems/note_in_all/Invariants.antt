@@ -1,0 +1,7 @@
+use Rattle.std.proofs.Common.{◌≡◌}
+use Rattle.situation_steps.specs.Systems.{after_firing}
+use Rattle.situation.proofs.Listed.{changed_to}
+use Rattle.situation.proofs.systems.note_in_all.Given as goal
+
+abbrev pub invariant-loop-system : goal.invariant-loop-system
+invariant-loop-system l = l.systems ≡ changed_to (after_firing l.path l.arrivals) l.system-index l.initial.systems
