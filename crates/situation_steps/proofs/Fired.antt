@@ -6,7 +6,6 @@ use Rattle.std.specs.List.{list_any}
 use Rattle.std.specs.FinMap as map
 use Rattle.std.specs.Ordering.{eq_by_cmp}
 use Rattle.std.proofs.lemmas.List.Sums.{length-filter}
-use Rattle.pascal_values.specs.declared.fault.Fault as fault
 use Rattle.estelle_tree.specs.declared.transition.Pair.{Pair}
 use Rattle.estelle_tree.specs.Paths.{Path, is_inside}
 use Rattle.estelle_tree.specs.Timers.{Timers, pair, pair_cmp}
@@ -39,7 +38,7 @@ use Rattle.situation_steps.specs.Others.{LeavesOthers}
 use Rattle.situation_steps.specs.UnderWay.{AreBelowSystems, HasRoot, IsSettled, IsSettledIfDone, IsUnderWay}
 use Rattle.situation_steps.specs.Laws.{HasFired, FiringsGoOn}
 use Rattle.situation_steps.proofs.Going.{last-push, IsRun-push, situation-push, awaits-push}
-use Rattle.situation_steps.proofs.Rest.{SameRest, all_rest, taken_by_core, taken_by_rest}
+use Rattle.estelle_model_apart.proofs.Rest.{SameRest, all_rest, taken_by_core, taken_by_rest}
 use Rattle.situation_steps.proofs.Roots.{body_at, has_root, root_body, root_stays}
 use Rattle.situation_steps.proofs.Listed.{all_at, all_each}
 use Rattle.situation_steps.proofs.Due.{system_listed, listed_system, system_kept, is_kept}

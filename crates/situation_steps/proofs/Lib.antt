@@ -6,13 +6,11 @@ pub mod Ends
 pub mod Settled
 pub mod Dead
 pub mod Undelayed
-pub mod Rest
 pub mod Roots
 pub mod Starting
 pub mod Waiting
 pub mod OthersMail
 pub mod OthersInstances
-pub mod OthersLinks
 pub mod OthersGuards
 pub mod Others
 pub mod Fired

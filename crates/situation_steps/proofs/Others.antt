@@ -1,5 +1,5 @@
 -- What a firing leaves of systems to which its instance does not belong.
-use Rattle.std.proofs.Common.{◌≡◌, ℕ, ◌≤◌, Bool, true, false, ◌&&◌, List, [], ◌∷◌, filter, Option, Some, None, is_some, refl, sym, ap, subst, cond, ◌∙◌}
+use Rattle.std.proofs.Common.{◌≡◌, ℕ, ◌≤◌, Bool, true, false, ◌&&◌, List, filter, Option, Some, None, is_some, refl, sym, ap, subst, cond, ◌∙◌}
 use Rattle.std.specs.Prelude.{nat_lt, Contains}
 use Rattle.std.specs.List.{list_any}
 use Rattle.std.specs.FinMap as map
@@ -11,21 +11,20 @@ use Rattle.estelle_model.specs.declared.effect.Effect.{Effect as LoggedEffect}
 use Rattle.estelle_model.specs.declared.event.Event.{Event}
 use Rattle.estelle_model.specs.declared.event.Event.TheVariants.{Fire}
 use Rattle.estelle_model.specs.declared.image.Image.{Image}
-use Rattle.estelle_model.specs.Core.{Instance, Core}
-use Rattle.estelle_model.specs.Effects.{Effect}
+use Rattle.estelle_model.specs.Core.{Core}
 use Rattle.estelle_model.specs.Transitions.{Transition, When}
 use Rattle.estelle_model.specs.Subject.{Subject}
-use Rattle.estelle_model.specs.Situation.{Waiting, Situation, Acting, acting_after}
+use Rattle.estelle_model.specs.Situation.{Waiting, Situation, Acting}
 use Rattle.estelle_model.specs.Queues.{one_queue}
 use Rattle.estelle_model.specs.Firing.{Firing, begun, taken, transition_at, guard, fire}
 use Rattle.estelle_model.specs.Attributes.{IsSystem}
 use Rattle.estelle_model.specs.Runs.{MayFire, HasRun, without, fired, next}
-use Rattle.estelle_model.specs.Jobs.{put, after_all, taken_by, private, IsPut}
+use Rattle.estelle_model.specs.Jobs.{put, taken_by, private, IsPut}
 use Rattle.estelle_model.specs.Schedule.{arrives}
-use Rattle.estelle_model.proofs.Maps.{total, apart, equal_of}
-use Rattle.estelle_model.proofs.Members.{Among, contained}
+use Rattle.estelle_model.proofs.Maps.{equal_of}
+use Rattle.estelle_model.proofs.Members.{contained}
 use Rattle.estelle_model.proofs.Pairs.{pairs_total, pairs_apart}
-use Rattle.estelle_model.proofs.PrivateParts.{body_of, get_inside, privates_same}
+use Rattle.estelle_model.proofs.PrivateParts.{body_of}
 use Rattle.estelle_model_legality.specs.Instances.{LeadsToStates}
 use Rattle.estelle_model_legality.specs.Situations.{IsLegal}
 use Rattle.estelle_model_legality.specs.Choices.{AreTree}
@@ -35,20 +34,18 @@ use Rattle.estelle_model_legality.proofs.Lists.{not_true, not_both}
 use Rattle.estelle_model_legality.proofs.Systems.{legal_tree}
 use Rattle.estelle_model_legality.proofs.Taken.{may_act}
 use Rattle.estelle_model_legality.proofs.Ways.{inside_itself, inside_trans}
+use Rattle.estelle_model_apart.proofs.Privates.{instances_left, private_instances_stay, private_links_stay}
+use Rattle.estelle_model_apart.proofs.Queues.{one_instance}
+use Rattle.estelle_model_apart.proofs.Rest.{all_rest}
 use Rattle.effect_log.specs.Putting.{arrivals}
 use Rattle.effect_log.proofs.Lawful.{legal-sound}
 use Rattle.effect_log.proofs.Ways.{AllDown}
 use Rattle.situation_steps.specs.Others.{LeavesOthers, FiringsLeaveOthers}
 use Rattle.situation_steps.proofs.OthersMail.{taken_away, new_there, same_there}
-use Rattle.situation_steps.proofs.OthersInstances.{put_leaves, put_body, other_apart, same_systems, same_list}
-use Rattle.situation_steps.proofs.OthersLinks.{mine, ends_inside, links_stay}
-use Rattle.situation_steps.proofs.OthersGuards.{one_instance, guard_same}
+use Rattle.situation_steps.proofs.OthersInstances.{put_body, other_apart, same_systems, same_list}
+use Rattle.situation_steps.proofs.OthersGuards.{guard_same}
 
 -- ---- where the firing begins
-
-timers_stay : (es : List Effect) (a : Acting) → (after_all es a).situation.timers ≡ a.situation.timers
-timers_stay [] a = refl
-timers_stay (e ∷ es) a = timers_stay es (acting_after e a)
 
 -- but for what waits all is the same once the head is taken
 record IsBegun (g h : Situation) : Type 0 where
@@ -77,10 +74,6 @@ module _ (s : Subject) (g : Situation) (m : Path) (there : Path → Bool) (away 
   taken_by_elsewhere : (o : Option Transition) → those (taken_by s g m o).mail ≡ those g.mail
   taken_by_elsewhere None = refl
   taken_by_elsewhere (Some t) = taken_elsewhere t.when
-
-found_alike : (b : Bool) (x y : Option Instance) → (b ≡ true → x ≡ y) → cond b x None ≡ cond b y None
-found_alike true x y h = h refl
-found_alike false x y h = refl
 
 -- ---- the firing
 
@@ -111,7 +104,7 @@ module _ (s : Subject) (leads : LeadsToStates s) (budget : ℕ) (g : Situation) 
   its = legal.pending.each (pair m n) pending
 
   leaves : (q : Path) → is_inside m q ≡ false → map.get after.core.instances q ≡ map.get g.core.instances q
-  leaves q out = put_leaves s m n h image effects left (fire s budget g m n) p q out ∙ ap (λ (c : Core). map.get c.instances q) same.core
+  leaves = instances_left s g h same.core legal.links m n image effects left (fire s budget g m n) p
 
   body : body_of (map.get after.core.instances m) ≡ body_of (map.get g.core.instances m)
   body = put_body s m n h image effects left (fire s budget g m n) p ∙ ap (λ (c : Core). body_of (map.get c.instances m)) same.core
@@ -152,21 +145,11 @@ module _ (s : Subject) (leads : LeadsToStates s) (budget : ℕ) (g : Situation) 
       mail : filter (λ (w : Waiting). is_inside system w.at.path) after.mail ≡ filter (λ (w : Waiting). is_inside system w.at.path) g.mail
       mail = same_there m (is_inside system) away s p.log (begun h) p.can_be_made down none ∙ waits_same
 
-      instances : map.retain_keys after.core.instances (is_inside q) ≡ map.retain_keys g.core.instances (is_inside q)
-      instances = map.same_map total apart (map.retain_keys after.core.instances (is_inside q)) (map.retain_keys g.core.instances (is_inside q)) (λ r.
-          get_inside after.core.instances q r
-          ∙ found_alike (is_inside q r) (map.get after.core.instances r) (map.get g.core.instances r) (λ e. leaves r (below r e))
-          ∙ sym (get_inside g.core.instances q r))
-
-      links : (private s after.core q).links ≡ (private s g.core q).links
-      links =
-          privates_same s after.core.instances g.core.instances q (ap body_of (leaves q out)) after.core.links
-          ∙ links_stay s g.core.instances q m below p.log (begun h) p.can_be_made
-          (λ l a. ends_inside s g.core.instances q g.core.links legal.links l (subst (λ (c : Core). Among l (filter (mine s g.core.instances q) c.links)) same.core a))
-          ∙ ap (λ (c : Core). filter (mine s g.core.instances q) c.links) same.core
-
       core : private s after.core q ≡ private s g.core q
-      core = λ i. record { instances = instances i; links = links i; types = (legal_after.types ∙ sym legal.types) i }
+      core =
+          let instances = private_instances_stay s g h same.core legal.links m n image effects left (fire s budget g m n) p q below in
+          let links = private_links_stay s g h same.core legal.links m n image effects left (fire s budget g m n) p q below in
+          λ i. record { instances = instances i; links = links i; types = (legal_after.types ∙ sym legal.types) i }
 
       timers : (k : ℕ) → map.contains_key after.timers (pair q k) ≡ map.contains_key g.timers (pair q k)
       timers k =
@@ -174,7 +157,7 @@ module _ (s : Subject) (leads : LeadsToStates s) (budget : ℕ) (g : Situation) 
           let at : q ≡ m = ap (λ x. x.path) (pairs_apart (pair q k) (pair m n) (equal_of (pair_cmp (pair q k) (pair m n)) e)) in
           not_both (is_inside m q) (ap (is_inside m) at ∙ inside_itself m) out) in
           ap is_some (map.get-remove pairs_total acting.situation.timers (pair m n) (pair q k) ∙ ap (λ (b : Bool). cond b None (map.get acting.situation.timers (pair q k))) differ)
-          ∙ ap (λ (ts : Timers). map.contains_key ts (pair q k)) (timers_stay p.log (begun h) ∙ same.timers)
+          ∙ ap (λ (ts : Timers). map.contains_key ts (pair q k)) ((all_rest p.log (begun h)).timers ∙ same.timers)
 
       guards : (k : ℕ) → guard s budget after q k ≡ guard s budget g q k
       guards k =

@@ -1,68 +1,31 @@
 -- A guard is the same where its instance has the same private part, head and timer.
-use Rattle.std.proofs.Common.{◌≡◌, ℕ, Bool, true, false, ◌&&◌, ◌||◌, List, [], filter, Option, Some, None, refl, sym, ap, ap₂, subst, cond, ◌∙◌, inl, inr}
-use Rattle.std.specs.Str.{bytes_eq}
+use Rattle.std.proofs.Common.{◌≡◌, ℕ, Bool, true, List, [], filter, Option, Some, None, refl, sym, ap, subst, cond, ◌∙◌, append-nil}
 use Rattle.std.specs.FinMap as map
 use Rattle.std.proofs.lemmas.List.Sorted.{IsPermutation-refl}
 use Rattle.pascal_values.specs.declared.value.Value.{Value}
 use Rattle.estelle_tree.specs.declared.link.IpAddr.{IpAddr}
 use Rattle.estelle_tree.specs.Paths.{Path}
 use Rattle.estelle_tree.specs.Timers.{pair}
-use Rattle.estelle_tree.specs.Links.{same_ip}
 use Rattle.estelle_model.specs.declared.image.Image.{Image}
 use Rattle.estelle_model.specs.declared.job.Guard.{Guard}
 use Rattle.estelle_model.specs.declared.job.Guard.TheVariants.{Off}
 use Rattle.estelle_model.specs.Core.{Instance}
 use Rattle.estelle_model.specs.Transitions.{Transition, When}
 use Rattle.estelle_model.specs.Subject.{Subject, transition}
-use Rattle.estelle_model.specs.InteractionPoints.{point, point_of}
 use Rattle.estelle_model.specs.Situation.{Waiting, Situation}
-use Rattle.estelle_model.specs.Queues.{Found, NotNeeded, Head, Absent, common_at, is_common, one_queue, queue, head_at, found, is_named}
+use Rattle.estelle_model.specs.Queues.{Found, NotNeeded, Head, Absent, queue, head_at, found, is_named}
 use Rattle.estelle_model.specs.Firing.{is_in_state, guard_with, guard_found, guard_of, guard_at, guard}
 use Rattle.estelle_model.specs.Jobs.{private, Shows, MayActAlone}
 use Rattle.estelle_model_legality.specs.Jobs.{image_of}
-use Rattle.estelle_model_legality.proofs.Lists.{and_both, or_cases, same_path}
-use Rattle.estelle_model_legality.proofs.Linking.{same_ip_is}
-use Rattle.estelle_model_legality.proofs.Within.{filter_within}
 use Rattle.estelle_model_answers.proofs.Answering.{guards_answered}
-
--- two points of one queue are of one instance
-pub one_instance : (s : Subject) (g : Situation) (a b : IpAddr) → one_queue s g.core.instances a b ≡ true → a.path ≡ b.path
-one_instance s g a b h = elim (or_cases (same_ip a b) (bytes_eq a.path b.path && (is_common s g.core.instances a && is_common s g.core.instances b)) h) [
-  | inl e ↦ ap (λ (x : IpAddr). x.path) (same_ip_is a b e)
-  | inr e ↦ same_path a.path b.path (and_both (bytes_eq a.path b.path) (is_common s g.core.instances a && is_common s g.core.instances b) e).0
-]
+use Rattle.estelle_model_apart.proofs.Queues.{queue_grows}
 
 module _ (s : Subject) (budget : ℕ) (g h : Situation) (q : Path) (there : map.get h.core.instances q ≡ map.get g.core.instances q) where
   -- ---- the head
 
-  same_point : (a : IpAddr) → a.path ≡ q → point s h.core.instances a ≡ point s g.core.instances a
-  same_point a e = ap (λ (o : Option Instance). point_of s o a.ip) (ap (map.get h.core.instances) e ∙ there ∙ sym (ap (map.get g.core.instances) e))
-
-  same_queue : (a b : IpAddr) → a.path ≡ q → b.path ≡ q → one_queue s h.core.instances a b ≡ one_queue s g.core.instances a b
-  same_queue a b ea eb = ap₂ (λ (x y : Bool). same_ip a b || (bytes_eq a.path b.path && (x && y))) (ap common_at (same_point a ea)) (ap common_at (same_point b eb))
-
   module _ (at : Path → Bool) (at_q : at q ≡ true) (mail : filter (λ (w : Waiting). at w.at.path) h.mail ≡ filter (λ (w : Waiting). at w.at.path) g.mail) where
-    in_it : (k : Situation) (a : IpAddr) → a.path ≡ q → (w : Waiting) → one_queue s k.core.instances a w.at ≡ true → at w.at.path ≡ true
-    in_it k a e w t = subst (λ (p : Path). at p ≡ true) (sym e ∙ one_instance s k a w.at t) at_q
-
-    alike : (a : IpAddr) → a.path ≡ q → (b : IpAddr) → one_queue s h.core.instances a b ≡ one_queue s g.core.instances a b
-    alike a e b = by (one_queue s h.core.instances a b) refl (one_queue s g.core.instances a b) refl
-      where
-        wrong : (k : Situation) → one_queue s k.core.instances a b ≡ true → one_queue s h.core.instances a b ≡ one_queue s g.core.instances a b
-        wrong k t = same_queue a b e (sym (one_instance s k a b t) ∙ e)
-
-        by : (x : Bool) → one_queue s h.core.instances a b ≡ x → (y : Bool) → one_queue s g.core.instances a b ≡ y → one_queue s h.core.instances a b ≡ one_queue s g.core.instances a b
-        by true f y k = wrong h f
-        by false f true k = wrong g k
-        by false f false k = f ∙ sym k
-
     pub queue_same : (a : IpAddr) → a.path ≡ q → queue s h a ≡ queue s g a
-    queue_same a e =
-        let here : Waiting → Bool = λ w. at w.at.path in
-        sym (filter_within (λ w. one_queue s h.core.instances a w.at) here h.mail (in_it h a e))
-        ∙ ap (filter (λ (w : Waiting). one_queue s h.core.instances a w.at)) mail
-        ∙ (λ i. filter (λ (w : Waiting). alike a e w.at i) (filter here g.mail))
-        ∙ filter_within (λ w. one_queue s g.core.instances a w.at) here g.mail (in_it g a e)
+    queue_same a e = queue_grows s g h q there at at_q [] (mail ∙ sym (append-nil (filter (λ (w : Waiting). at w.at.path) g.mail))) a e ∙ append-nil (queue s g a)
 
     found_same : (o : Option When) → found s h q o ≡ found s g q o
     found_same None = refl

@@ -1,6 +1,6 @@
 -- Instances elsewhere, while an instance acts: they stay as they are, and the systems stay systems.
 use Rattle.std.proofs.Common.{◌≡◌, ◌⊎◌, ℕ, Bool, true, false, List, [], ◌∷◌, Option, Some, None, refl, sym, ap, subst, cond, ◌∙◌, inl, inr}
-use Rattle.std.specs.Prelude.{◌&&◌, not, fold, filter, map as each, option_map, option_and_then, T}
+use Rattle.std.specs.Prelude.{◌&&◌, filter, map as each, option_map, option_and_then, T}
 use Rattle.std.specs.FinMap as map
 use Rattle.std.specs.FinMap.{find, is_sorted}
 use Rattle.std.specs.FinMap.Entries as entries
@@ -14,10 +14,10 @@ use Rattle.estelle_model.specs.Subject.{Subject}
 use Rattle.estelle_model.specs.Attributes.{attribute, is_system, attribute_at, IsSystem}
 use Rattle.estelle_model.specs.Situation.{Situation, Acting, acting_after}
 use Rattle.estelle_model.specs.Firing.{Firing, begun}
-use Rattle.estelle_model.specs.Jobs.{insert_part, outline_of_parts, put, after_all, CanAllBeMade, IsPut}
-use Rattle.estelle_model.proofs.Maps.{total, apart, or_else, get_inserted}
+use Rattle.estelle_model.specs.Jobs.{outline_of_parts, put, after_all, CanAllBeMade, IsPut}
+use Rattle.estelle_model.proofs.Maps.{total, apart}
 use Rattle.estelle_model.proofs.PrivateParts.{body_of, inside_self, both_inside, get_inside, told_parts}
-use Rattle.estelle_model_answers.proofs.Within.{get_after, outside_after, body_after, at_of}
+use Rattle.estelle_model_answers.proofs.Within.{get_after, body_after, at_of}
 use Rattle.estelle_model_legality.specs.Choices.{AreTree}
 use Rattle.estelle_model_legality.proofs.Lists.{not_true, not_both}
 use Rattle.estelle_model_legality.proofs.Systems.{one_system}
@@ -51,15 +51,7 @@ module _ {A : Type 0} (f : Instance → A) where
 
 -- ---- effects and records
 
--- what is not at or below the instance stays
-effects_leave : (s : Subject) (m : Path) (es : List Effect) (a : Acting) → CanAllBeMade s m es a → (q : Path) → is_inside m q ≡ false → map.get (after_all es a).situation.core.instances q ≡ map.get a.situation.core.instances q
-effects_leave s m [] a can q out = refl
-effects_leave s m (e ∷ es) a can q out =
-    effects_leave s m es (acting_after e a) can.1 q out
-    ∙ get_after e a.situation.core.instances q
-    ∙ outside_after m e (map.get a.situation.core.instances) q (at_of s m e a.situation.core can.0) out
-
--- and the instance keeps its body
+-- the instance keeps its body
 effects_body : (s : Subject) (m : Path) (es : List Effect) (a : Acting) → CanAllBeMade s m es a → body_of (map.get (after_all es a).situation.core.instances m) ≡ body_of (map.get a.situation.core.instances m)
 effects_body s m [] a can = refl
 effects_body s m (e ∷ es) a can =
@@ -80,19 +72,6 @@ module _ (s : Subject) (m : Path) (n : ℕ) (g : Situation) (image : Image) (eff
 
   abbrev final : Instances
   final = (put m p.log image.parts (begun g)).situation.core.instances
-
-  records_leave : (q : Path) → is_inside m q ≡ false → map.get final q ≡ map.get made q
-  records_leave q out =
-      let others : Instances = map.retain_keys made (λ q. not (is_inside m q)) in
-      let inner : Instances = map.retain_keys final (is_inside m) in
-      ap (λ ps. map.get (fold insert_part others ps) q) p.private.parts
-      ∙ get_inserted others (map.entries inner) (map.entries_sorted inner) q
-      ∙ ap (λ o. or_else o (map.get others q)) (sym (map.get-entries inner q) ∙ get_inside final m q ∙ ap (λ b. cond b (map.get final q) None) out)
-      ∙ map.get-retain_keys made (λ q. not (is_inside m q)) q (λ r tie. ap (λ x. not (is_inside m x)) (sym (apart q r tie)))
-      ∙ ap (λ b. cond (not b) (map.get made q) None) out
-
-  pub put_leaves : (q : Path) → is_inside m q ≡ false → map.get final q ≡ map.get g.core.instances q
-  put_leaves q out = records_leave q out ∙ effects_leave s m p.log (begun g) p.can_be_made q out
 
   at_itself : (x : Instances) → map.get (map.retain_keys x (is_inside m)) m ≡ map.get x m
   at_itself x = get_inside x m m ∙ ap (λ b. cond b (map.get x m) None) (inside_self m)

@@ -24,7 +24,7 @@ use Rattle.situation_steps.specs.declared.systems.System.{System}
 use Rattle.situation_steps.specs.Systems.{systems_of, is_awaiting, count_inside, first_kept, IsKept}
 use Rattle.situation_steps.specs.UnderWay.{AreBelowSystems, HasRoot, IsSettledIfDone}
 use Rattle.situation_steps.specs.Laws.{HasBegun, StartsGoOn}
-use Rattle.situation_steps.proofs.Rest.{SameRest, all_rest}
+use Rattle.estelle_model_apart.proofs.Rest.{SameRest, all_rest}
 use Rattle.situation_steps.proofs.Roots.{has_root, bare_root, root_stays}
 
 -- without timers, all of them are below systems
