@@ -1,0 +1,5 @@
+use Rattle.situation_bounds.proofs.Bounds as by
+use Rattle.situation_bounds.proofs.laws.waits_are_bounded.Goals as goal
+
+pub returns : goal.returns
+returns g c = by.waits_are_bounded
