@@ -90,9 +90,13 @@ outputs (e ∷ es) = outs_of e ++ outputs es
 abbrev pub OutputsAreCounted : Type 0
 OutputsAreCounted = (s : Subject) (budget : ℕ) (events : List Event) → IsRun s budget events → (situation s budget events).made ≡ length (outputs events)
 
--- each output of a run has one fate: once it is lost, or waits at the end, or is consumed, or is dropped
+-- each output has one fate: once it is lost, or waits at the end, or is consumed, or is dropped
+abbrev pub HaveOneFate : Subject → ℕ → List Event → Type 0
+HaveOneFate s budget events = (i : ℕ) → 1 ≤ i → i ≤ (situation s budget events).made → (fate : Fate) × HasFate s budget events i fate
+
+-- so it is in every run
 abbrev pub OutputsHaveOneFate : Type 0
-OutputsHaveOneFate = (s : Subject) (budget : ℕ) (events : List Event) → IsRun s budget events → (i : ℕ) → 1 ≤ i → i ≤ (situation s budget events).made → (fate : Fate) × HasFate s budget events i fate
+OutputsHaveOneFate = (s : Subject) (budget : ℕ) (events : List Event) → IsRun s budget events → HaveOneFate s budget events
 
 -- and nothing becomes of a number that no output has
 abbrev pub NoOthersHaveFates : Type 0

@@ -9,8 +9,9 @@ use Rattle.estelle_model.specs.Selection.{children, Selects}
 use Rattle.estelle_model_legality.specs.Choices.{AreTree}
 use Rattle.estelle_model_legality.proofs.Lists.{not_both}
 use Rattle.estelle_model_legality.proofs.Members.{Has, has_contained, contains_has}
-use Rattle.selection_check.specs.declared.countings.Counting.{Counting}
-use Rattle.selection_check.specs.Countings.{AreCountings, AreCountingsBelow, block_len, begins_in}
+use Rattle.transition_select.specs.declared.countings.Counting.{Counting}
+use Rattle.transition_select.specs.Countings.{AreCountings}
+use Rattle.selection_check.specs.Countings.{AreCountingsBelow, block_len, begins_in}
 use Rattle.selection_check.specs.Deciding.{SelectsOne}
 use Rattle.selection_check.proofs.Parts.{AreLeft, of_children, none_left, head_is, of_first, of_others}
 use Rattle.selection_check.proofs.Splits.{inside_of}

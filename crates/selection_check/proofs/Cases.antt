@@ -12,8 +12,9 @@ use Rattle.estelle_model.specs.Selection.{children, Eligible, IsSilent, Selects,
 use Rattle.estelle_model_legality.specs.Pending.{AreInOrder}
 use Rattle.estelle_model_legality.proofs.Lists.{not_both}
 use Rattle.transition_select.specs.Offers.{IsOfKind}
-use Rattle.selection_check.specs.declared.countings.Counting.{Counting}
-use Rattle.selection_check.specs.Countings.{IsCounting, must_some, takes_own}
+use Rattle.transition_select.specs.declared.countings.Counting.{Counting}
+use Rattle.transition_select.specs.Countings.{IsCounting}
+use Rattle.selection_check.specs.Countings.{must_some, takes_own}
 use Rattle.selection_check.specs.Deciding.{SelectsOne}
 use Rattle.selection_check.proofs.Own.{BeginsOwn, own_begins, own_taken, silent, not_silent}
 

@@ -15,9 +15,10 @@ use Rattle.estelle_model.specs.Schedule.{counted, numbers_of}
 use Rattle.estelle_model_legality.specs.Pending.{AreInOrder}
 use Rattle.estelle_model_legality.proofs.Lists.{and_both, both_and, not_both, not_true, is_not, path_is, same_path}
 use Rattle.estelle_model_legality.proofs.Members.{Has, any_has, has_any, has_none, has_filter}
-use Rattle.selection_check.specs.declared.countings.Countable.{Countable}
-use Rattle.selection_check.specs.declared.countings.Counting.{Counting}
-use Rattle.selection_check.specs.Countings.{IsCountable, AreCountablesOf, IsCounting, must_some, is_below, is_eligible, takes_own}
+use Rattle.transition_select.specs.declared.countings.Countable.{Countable}
+use Rattle.transition_select.specs.declared.countings.Counting.{Counting}
+use Rattle.transition_select.specs.Countings.{IsCountable, AreCountablesOf, IsCounting}
+use Rattle.selection_check.specs.Countings.{must_some, is_below, is_eligible, takes_own}
 use Rattle.selection_check.proofs.Counted.{may_counted, must_may}
 
 -- ---- elements

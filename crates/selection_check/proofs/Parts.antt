@@ -17,8 +17,9 @@ use Rattle.estelle_model_legality.proofs.Children.{has_child, inside_child}
 use Rattle.transition_select.specs.Blocks.{at_and_below}
 use Rattle.transition_select.proofs.Rising.{itself, before_has}
 use Rattle.transition_select.proofs.Blocks.{AreChildren, are_children, rest, blocks, has_below, has_flat}
-use Rattle.selection_check.specs.declared.countings.Counting.{Counting}
-use Rattle.selection_check.specs.Countings.{IsCounting, AreCountings, AreCountingsBelow, block_len}
+use Rattle.transition_select.specs.declared.countings.Counting.{Counting}
+use Rattle.transition_select.specs.Countings.{IsCounting, AreCountings}
+use Rattle.selection_check.specs.Countings.{AreCountingsBelow, block_len}
 
 -- ---- lists
 

@@ -15,8 +15,9 @@ use Rattle.estelle_model_legality.proofs.Lists.{not_both}
 use Rattle.estelle_model_legality.proofs.Members.{Has}
 use Rattle.estelle_model_legality.proofs.Selected.{selected}
 use Rattle.estelle_model_legality.proofs.Ways.{inside_itself}
-use Rattle.selection_check.specs.declared.countings.Counting.{Counting}
-use Rattle.selection_check.specs.Countings.{AreCountings, AreCountingsBelow, block_len, takes_len, begins_in, must_some, takes_own}
+use Rattle.transition_select.specs.declared.countings.Counting.{Counting}
+use Rattle.transition_select.specs.Countings.{AreCountings}
+use Rattle.selection_check.specs.Countings.{AreCountingsBelow, block_len, takes_len, begins_in, must_some, takes_own}
 use Rattle.selection_check.specs.Deciding.{SelectsOne}
 use Rattle.selection_check.proofs.Cases.{SelectsBelow, of_process, of_activity, of_quiet, not_both_kinds, kind_here, silent_here, loud_here, begins_own, below_only}
 use Rattle.selection_check.proofs.Parts.{AreLeft, of_one, none_left, head_is, below_first, of_others, opened, inside_of_child}

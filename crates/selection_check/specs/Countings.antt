@@ -1,40 +1,16 @@
--- What the transitions of instances let a system select, in path order.
+-- What the transitions that instances count let a system select.
 use Rattle.std.specs.Prelude.{◌≡◌, ℕ, Bool, false, ℤ, not, ◌==◌, ◌&&◌, Option, List, [], ◌∷◌, map as each, flat_map}
 use Rattle.std.specs.List.{prefix_len, list_any, AllByRecursion}
 use Rattle.std.specs.Str.{bytes_eq}
 use Rattle.estelle_tree.specs.declared.transition.Pair.{Pair}
 use Rattle.estelle_tree.specs.Paths.{Path, is_inside}
-use Rattle.estelle_model.specs.Jobs.{IsThere}
 use Rattle.estelle_model.specs.Subject.{Subject}
 use Rattle.estelle_model.specs.Situation.{Situation}
-use Rattle.estelle_model.specs.Delays.{must}
-use Rattle.estelle_model.specs.Selection.{is_higher, priority, children}
-use Rattle.estelle_model.specs.Schedule.{counted}
+use Rattle.estelle_model.specs.Selection.{is_higher, children}
+use Rattle.transition_select.specs.declared.countings.Countable.{Countable}
+use Rattle.transition_select.specs.declared.countings.Counting.{Counting}
 use Rattle.transition_select.specs.Blocks.{at_and_below}
-use Rattle.transition_select.specs.Offers.{IsOfKind}
-use Rattle.selection_check.specs.declared.countings.Countable.{Countable}
-use Rattle.selection_check.specs.declared.countings.Counting.{Counting}
-
--- its priority, and whether it must be counted
-pub record IsCountable (s : Subject) (budget : ℕ) (g : Situation) (m : Path) (c : Countable) : Type 0 where
-  pub priority : c.priority ≡ priority s g m c.trans
-  pub must : c.must ≡ must s budget g m c.trans
-
--- the transitions of an instance that may be selected now
-pub record AreCountablesOf (s : Subject) (budget : ℕ) (g : Situation) (m : Path) (cs : List Countable) : Type 0 where
-  pub numbers : each (λ c. c.trans) cs ≡ counted s budget g m
-  pub known : AllByRecursion (IsCountable s budget g m) cs
-
--- what is given of an instance
-pub record IsCounting (s : Subject) (budget : ℕ) (g : Situation) (c : Counting) : Type 0 where
-  pub kind : IsOfKind s g c.path c.of_process
-  pub transitions : AreCountablesOf s budget g c.path c.transitions.items
-
--- that of an instance that is there and of all below it
-pub record AreCountings (s : Subject) (budget : ℕ) (g : Situation) (m : Path) (cs : List Counting) : Type 0 where
-  pub there : IsThere g.core.instances m
-  pub paths : each (λ c. c.path) cs ≡ at_and_below g m
-  pub countings : AllByRecursion (IsCounting s budget g) cs
+use Rattle.transition_select.specs.Countings.{IsCounting}
 
 -- that of all below it
 pub record AreCountingsBelow (s : Subject) (budget : ℕ) (g : Situation) (m : Path) (cs : List Counting) : Type 0 where

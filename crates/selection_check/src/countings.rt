@@ -5,24 +5,7 @@ ghost use Rattle.estelle_model.specs.Selection.{is_higher};
 ghost use Rattle.selection_check.specs.Countings as spec;
 
 use estelle_tree::{Pair, Path};
-
-/// A transition of an instance that may be selected now. A smaller number is a higher priority, and none is the lowest.
-#[derive(Clone, Copy, Debug)]
-pub struct Countable {
-    pub trans: u32,
-    pub priority: Option<i64>,
-    /// Whether it must be counted: then none of lower priority may be selected, and nothing below the instance.
-    pub must: bool,
-}
-
-/// Of an instance all transitions that may be selected now.
-#[derive(Debug, Drop)]
-pub struct Counting {
-    pub path: Path,
-    /// Whether what its children select is taken together. Of others that of one child is taken.
-    pub of_process: bool,
-    pub transitions: Vec<Countable>,
-}
+use transition_select::{Countable, Counting};
 
 /// How many of these, in a row from the first on, are at or below an instance.
 pub(crate) fn block_len(path: &Path, counts: &[Counting]) -> usize

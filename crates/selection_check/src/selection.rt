@@ -7,11 +7,13 @@ ghost use Rattle.estelle_model.specs.Situation.{Situation};
 ghost use Rattle.estelle_model.specs.Selection.{children, Selects};
 ghost use Rattle.estelle_model_legality.specs.Choices.{AreTree};
 ghost use Rattle.estelle_model_legality.specs.Pending.{AreInOrder};
-ghost use Rattle.selection_check.specs.Countings.{AreCountings, AreCountingsBelow};
+ghost use Rattle.transition_select.specs.Countings.{AreCountings};
+ghost use Rattle.selection_check.specs.Countings.{AreCountingsBelow};
 ghost use Rattle.selection_check.specs.Deciding.{SelectsOne};
 
-use crate::countings::{Counting, begins_in, block_len, must_some, takes_len, takes_own};
+use crate::countings::{begins_in, block_len, must_some, takes_len, takes_own};
 use estelle_tree::Pair;
+use transition_select::Counting;
 
 /// Whether one of the children of an instance, of which and of all below which these are, may select the firings, of which there
 /// are some.

@@ -31,7 +31,7 @@ use Rattle.situation.specs.declared.limits.Stepped.{Stepped}
 use Rattle.situation.specs.declared.limits.Stepped.TheVariants as did
 use Rattle.situation.specs.declared.course.Course.{Course}
 use Rattle.situation.specs.Runs.{noted, ending, take_of, IsGoing, IsClosed, AreReached}
-use Rattle.situation.specs.Putting.{arrivals_of}
+use Rattle.situation_images.specs.Putting.{arrivals_of}
 use Rattle.situation.specs.Worlds.{IsOpenCourse, IsKept, HasStepped, now, work, left_to_do}
 use Rattle.situation.specs.Steps.{GoesOn, MayPut, MaySettle, IsComputed, HasFired, SettledSo, HasSettled}
 use Rattle.situation.proofs.Standing.{stands_still}

@@ -53,7 +53,7 @@ use Rattle.situation_units.specs.Counting.{births_at, IsWithinUnits}
 use Rattle.situation_units.proofs.Weighing.{firings_are_within}
 use Rattle.estelle_model_legality.proofs.Lists.{path_is, number_is, both_and}
 use Rattle.situation.specs.Runs.{noted, ending, take_of, AllSettled, IsWithin, IsGoing, IsClosed, AreReached, IsJobFor}
-use Rattle.situation.specs.Putting.{arrivals_of}
+use Rattle.situation_images.specs.Putting.{arrivals_of}
 use Rattle.situation.proofs.Tickets.{still_settled, still_tickets, fired_tickets, fired_settled, fired_count}
 use Rattle.situation.proofs.Steps.{project_push, reached_end, closed_on, counted_event, counted_take}
 

@@ -23,7 +23,7 @@ use Rattle.situation.specs.declared.course.Course.{Course}
 use Rattle.situation_steps.specs.declared.systems.System.{System}
 use Rattle.situation_steps.specs.Systems.{after_firing}
 use Rattle.situation.specs.Runs.{noted}
-use Rattle.situation.specs.Putting.{arrivals_of}
+use Rattle.situation_images.specs.Putting.{arrivals_of}
 use Rattle.situation.specs.Worlds.{AreEmpty}
 use Rattle.situation.specs.Steps.{failure_of, HasPut, HasFired, HasFailed, SettledSo, HasSettled}
 

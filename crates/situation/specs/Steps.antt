@@ -39,7 +39,7 @@ use Rattle.situation.specs.declared.limits.Limits.{Limits}
 use Rattle.situation.specs.declared.limits.Stepped.{Stepped}
 use Rattle.situation.specs.declared.limits.Stepped.TheVariants as stepped
 use Rattle.situation.specs.Runs.{noted, ending, IsJobFor}
-use Rattle.situation.specs.Putting.{arrivals_of}
+use Rattle.situation_images.specs.Putting.{arrivals_of}
 use Rattle.situation.specs.Systems.{IsFirstOne}
 use Rattle.situation.specs.Worlds.{IsOpenCourse, IsCourse, AreEmpty, HasStepped, IsOfProgram, HasBegun, now, entries_of}
 

@@ -9,7 +9,6 @@ ghost use Rattle.situation.specs.Steps.{IsFresh, IsBegun};
 use crate::course::{Course, event, fault_in};
 use crate::delays::has_delays;
 use crate::limits::Limits;
-use crate::putting::put_start;
 use crate::systems::all_systems;
 use body_walker::{Program, fire_plain};
 use delay_timers::Timers;
@@ -18,7 +17,7 @@ use estelle_model::{Done, Event};
 use estelle_tree::Path;
 use outside::Chooser;
 use run_history::History;
-use situation_images::{bare_shared, start_job};
+use situation_images::{bare_shared, put_start, start_job};
 use situation_steps::Time;
 use std::alloc::{AllocError, Global};
 

@@ -26,7 +26,7 @@ use situation_images::job_of;
 use situation_offers::{Offering, ask};
 use situation_steps::{System, Time};
 use std::alloc::{AllocError, Global};
-use transition_select::{Offer, choose, pick};
+use transition_select::{Offer, choose, offers_of, pick};
 
 /// A run so far, and the situation that it has come to.
 #[derive(Drop)]
@@ -270,7 +270,10 @@ impl<H: Chooser + Drop> Course<'_, H> {
             self.limits.budget,
         )?;
         match offering {
-            Offering::Offers { offers, wanted } => self.choose(alloc, at, now, &offers, &wanted),
+            Offering::Counts { counts, wanted } => {
+                let offers = offers_of(alloc, &counts)?;
+                self.choose(alloc, at, now, &offers, &wanted)
+            }
             Offering::Faults { path, trans, kind } => Ok(self.fault(at, path, trans, kind)),
         }
     }

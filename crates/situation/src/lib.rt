@@ -13,7 +13,6 @@
 mod begin;
 mod course;
 mod delays;
-mod disciplines;
 mod executor;
 mod limits;
 mod pending;

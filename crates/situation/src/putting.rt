@@ -1,60 +1,23 @@
-//! What is done, put into the shared state in the situation that the run has come to.
+//! What a firing did, put into the shared state in the situation that the run has come to.
 
-ghost use Rattle.std.specs.Prelude.{◌≡◌};
-ghost use Rattle.estelle_model.specs.Situation.{Situation};
-ghost use Rattle.estelle_model.specs.Firing.{bare};
-ghost use Rattle.situation.specs.Putting.{MayBePut, IsPutIn, led_to};
+ghost use Rattle.situation_images.specs.Putting.{MayBePut, IsPutIn};
+ghost use Rattle.situation.specs.Putting.{led_to};
 
-use crate::disciplines::Queueing;
 use body_walker_program::Program;
-use effect_log::{Disciplines, Notes, Shared, apply};
+use effect_log::{Notes, Shared};
 use estelle_model::Done;
 use run_history::History;
+use situation_images::{RunSoFar, put_firing as put_firing_in};
 
-/// The history and the units are there for the callers' ghost value.
-fn put_in<D: Disciplines>(
-    disciplines: &D,
-    _history: &History,
-    _budget: u32,
-    shared: &mut Shared,
-    done: Done,
-    notes: &mut Notes,
-)
-    ghost at: { Situation }
-    requires { MayBePut (D.subject disciplines.now) shared.old notes.old done at }
-    ensures { IsPutIn (D.subject disciplines.now) at shared.new notes.old notes.new done }
-{
-    apply(disciplines, shared, done, notes)
-}
-
-fn put_in_bare<D: Disciplines>(disciplines: &D, shared: &mut Shared, done: Done, notes: &mut Notes)
-    requires { MayBePut (D.subject disciplines.now) shared.old notes.old done (bare (D.subject disciplines.now)) }
-    ensures { IsPutIn (D.subject disciplines.now) (bare (D.subject disciplines.now)) shared.new notes.old notes.new done }
-{
-    apply(disciplines, shared, done, notes)
-}
-
-fn put_in_last<D: Disciplines>(
-    disciplines: &D,
-    history: &History,
+/// The history of a run.
+#[derive(Drop)]
+struct Past<'a> {
+    history: &'a History,
     budget: u32,
-    shared: &mut Shared,
-    done: Done,
-    notes: &mut Notes,
-)
-    requires { MayBePut (D.subject disciplines.now) shared.old notes.old done (led_to (D.subject disciplines.now) budget history.now.entries) }
-    ensures { IsPutIn (D.subject disciplines.now) (led_to (D.subject disciplines.now) budget history.now.entries) shared.new notes.old notes.new done }
-{
-    put_in(disciplines, history, budget, shared, done, notes)
 }
 
-/// Puts what the initialization did.
-pub(crate) fn put_start(program: &Program, shared: &mut Shared, done: Done, notes: &mut Notes)
-    requires { MayBePut program.now shared.old notes.old done (bare program.now) }
-    ensures { IsPutIn program.now (bare program.now) shared.new notes.old notes.new done }
-{
-    let queueing = Queueing { program: &*program };
-    put_in_bare(&queueing, shared, done, notes)
+impl RunSoFar for Past<'_> {
+    ghost leads_to = { λ past s. led_to s past.budget past.history.now.entries };
 }
 
 /// Puts what a firing did in the situation that the history leads to.
@@ -69,6 +32,9 @@ pub(crate) fn put_firing(
     requires { MayBePut program.now shared.old notes.old done (led_to program.now budget history.now.entries) }
     ensures { IsPutIn program.now (led_to program.now budget history.now.entries) shared.new notes.old notes.new done }
 {
-    let queueing = Queueing { program: &*program };
-    put_in_last(&queueing, history, budget, shared, done, notes)
+    let past = Past {
+        history: &*history,
+        budget,
+    };
+    put_firing_in(program, &past, shared, done, notes)
 }

@@ -2,13 +2,17 @@
 
 ghost use Rattle.std.specs.Prelude.{◌≡◌, ◌≤◌, ◌*◌, ◌+◌, ◌<◌, ◌^◌, false, IfOk, IfErr, IfSome, OnErr, IsSome};
 ghost use Rattle.estelle_model.specs.Delays.{has_delays};
+ghost use Rattle.estelle_model.specs.Runs.{IsRun};
+ghost use Rattle.estelle_model_fates.specs.Fates.{HaveOneFate};
 ghost use Rattle.estelle_model_legality.specs.Instances.{LeadsToStates};
+ghost use Rattle.run_history.specs.Histories.{project};
 
 use crate::begin;
 use crate::course::Course;
 use crate::limits::{Limits, Stepped};
 use body_walker::Program;
 use estelle_model::End;
+use estelle_model_fates::outputs_have_one_fate;
 use outside::{Chooser, Clock};
 use run_history::History;
 use std::alloc::{AllocError, Global};
@@ -71,10 +75,13 @@ impl<'a, C: Clock + Drop, H: Chooser + Drop> World<'a, C, H> {
     /// The history of a run that has ended, its end, and the clock.
     pub fn finish(self) -> (History, End, C)
         requires { IsSome self.course.end }
+        ensures run { IsCourse self.entry.course → IsRun self.entry.course.program.now self.entry.course.limits.budget (project result.0.entries) }
+        ensures fates { IsCourse self.entry.course → HaveOneFate self.entry.course.program.now self.entry.course.limits.budget (project result.0.entries) }
         ensures history { result.0 ≡ self.entry.course.history }
         ensures end { IfSome self.entry.course.end (λ end. result.1 ≡ end) }
         ensures clock { result.2 ≡ self.entry.clock }
     {
+        outputs_have_one_fate();
         let World { course, clock } = self;
         let Course { history, end, .. } = course;
         match end {

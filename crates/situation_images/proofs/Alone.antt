@@ -1,5 +1,5 @@
 -- The specification's own instance alone, as the stores have it.
-use Rattle.std.proofs.Common.{Bor, ◌≡◌, ◌≢◌, ℕ, ◌+◌, ◌<◌, ◌≤◌, Bool, true, false, List, [], ◌∷◌, ◌++◌, length, map as each, Option, Some, None, Result, Ok, Err, IfOk, refl, sym, ap, subst, cond, ◌∙◌, fold, arith}
+use Rattle.std.proofs.Common.{Bor, ◌≡◌, ◌≢◌, ℕ, ◌+◌, Bool, true, false, List, [], ◌∷◌, ◌++◌, length, map as each, Option, Some, None, Result, Ok, Err, IfOk, refl, sym, ap, subst, cond, ◌∙◌, arith}
 use Rattle.std.specs.Prelude.{option_map, slice_get, nat_lt, if◌then◌else◌, is_some}
 use Rattle.std.specs.Option.{option_copied, unwrap_or}
 use Rattle.std.specs.FinMap as map
@@ -19,7 +19,7 @@ use Rattle.estelle_model.specs.Actions.{at, count_from}
 use Rattle.estelle_tree.specs.declared.tree.specification.Parts.{Parts}
 use Rattle.estelle_tree.specs.declared.tree.specification.Decl.TheFolds.{fold_out-Parts}
 use Rattle.estelle_model.specs.Bodies.{Contribution, BodyAlone, decl_layer, body_layer, parts_layer, standings, default_of}
-use Rattle.estelle_model.specs.Core.{Instance, Instances}
+use Rattle.estelle_model.specs.Core.{Instance}
 use Rattle.estelle_model.specs.Subject.{Subject, body, ips_of, new_instance}
 use Rattle.estelle_model.specs.Firing.{alone, root, bare}
 use Rattle.estelle_model.specs.InteractionPoints.{point_of}
@@ -33,7 +33,7 @@ use Rattle.body_walker_state.proofs.StoreLemmas.{points_more}
 use Rattle.body_walker.specs.Roots.{root_part}
 use Rattle.body_walker.proofs.RootLemmas.{part_is}
 use Rattle.effect_log.specs.declared.shared.Shared.{Shared}
-use Rattle.effect_log.specs.Standing.{Stands, AreQueuesOf, kept_of}
+use Rattle.effect_log.specs.Standing.{Stands, kept_of}
 use Rattle.effect_log.specs.Underway.{is_common_in, declared_all}
 use Rattle.effect_log.proofs.Filing.{Filed, filed-alike}
 use Rattle.effect_log.proofs.Points.{discipline, key-itself}

@@ -1,5 +1,6 @@
 //! What is read of the shared state for an instance: its private part as an image of its own, the interaction that a
-//! transition finds at its queue, and the job of a pending firing, which has both.
+//! transition finds at its queue, and the job of a pending firing, which has both; and what a firing did, put into that state in
+//! the situation that a run so far leads to.
 //!
 //! It stands on `effect_log`, whose `Stands` says for which situation the shared state stands, and on `body_walker_program`
 //! for what bodies declare. An image is a copy: it takes the time of the instances at and below its own and of all links, and
@@ -11,9 +12,11 @@ mod heads;
 mod images;
 mod jobs;
 mod laws;
+mod putting;
 
 pub use bare::bare_shared;
 pub use heads::{copied_head, found_head};
 pub use images::image_of;
 pub use jobs::{job_of, start_job};
 pub use laws::parts_are_of_instances;
+pub use putting::{RunSoFar, put_firing, put_start};

@@ -2,6 +2,6 @@ pub mod Wanted
 pub mod Counting
 pub mod Active
 pub mod Asking
-pub mod Offers
+pub mod Counts
 pub mod Walking
 pub mod Standing

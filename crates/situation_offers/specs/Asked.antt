@@ -17,9 +17,9 @@ use Rattle.estelle_model_legality.specs.Situations.{IsLegal}
 use Rattle.effect_log.specs.declared.shared.Shared.{Shared}
 use Rattle.effect_log.specs.Standing.{Stands}
 use Rattle.delay_timers.specs.Moments.{AreDifferent}
-use Rattle.transition_select.specs.declared.offers.Offer.{Offer}
+use Rattle.transition_select.specs.declared.countings.Counting.{Counting}
 use Rattle.transition_select.specs.Blocks.{at_and_below}
-use Rattle.transition_select.specs.Offers.{AreCountedOf, AreOffers, IsOffer}
+use Rattle.transition_select.specs.Countings.{AreCountablesOf, IsCounting, AreCountings}
 use Rattle.situation_images.specs.Instances.{IsOfBody}
 use Rattle.situation_offers.specs.declared.guards.Count.{Count}
 use Rattle.situation_offers.specs.declared.guards.Count.TheVariants as count
@@ -55,15 +55,15 @@ pub record AreAll (g : Situation) (system : Path) (parts : List Part) : Type 0 w
 module _ (s : Subject) (budget : ℕ) (g : Situation) (system : Path) (now : ℕ) where
   -- what the guards of an instance come to, with what wants a timer before and after it
   abbrev pub IsCount : Path → List Wanted → List Wanted → Count → Type 0
-  IsCount m before after (count.Counts counted) = AreCountedOf s budget (renew s budget g system now) m counted.items × NoneFaults s budget g m × (after ≡ before ++ wanted_of s budget g m)
+  IsCount m before after (count.Counts counted) = AreCountablesOf s budget (renew s budget g system now) m counted.items × NoneFaults s budget g m × (after ≡ before ++ wanted_of s budget g m)
   IsCount m before after (count.Faults n kind) = IsFirst s budget g m n kind
 
-  -- what an instance offers once the timers are renewed
-  pub record IsOfferOf (m : Path) (o : Offer) : Type 0 where
-    pub path : o.path ≡ m
-    pub offer : IsOffer s budget (renew s budget g system now) o
+  -- what an instance counts once the timers are renewed
+  pub record IsCountingOf (m : Path) (c : Counting) : Type 0 where
+    pub path : c.path ≡ m
+    pub counting : IsCounting s budget (renew s budget g system now) c
 
   -- what the guards of a system come to at a moment
   abbrev pub IsOffering : Offering → Type 0
-  IsOffering (offering.Offers offers wants) = AreOffers s budget (renew s budget g system now) system offers.items × NoGuardFaults s budget g system × (wants.items ≡ wanted s budget g system) × AreDifferent wants.items
+  IsOffering (offering.Counts counts wants) = AreCountings s budget (renew s budget g system now) system counts.items × NoGuardFaults s budget g system × (wants.items ≡ wanted s budget g system) × AreDifferent wants.items
   IsOffering (offering.Faults m n kind) = IsFirstFault s budget g system m n kind

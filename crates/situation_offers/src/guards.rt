@@ -1,4 +1,4 @@
-//! What the instances of a system offer, by their guards.
+//! What the instances of a system count, by their guards.
 
 ghost use Rattle.std.specs.Prelude.{◌≡◌, ℕ, ◌++◌, option_and_then, IfOk, OnOk, map as each};
 ghost use Rattle.std.specs.FinMap as map;
@@ -15,9 +15,9 @@ ghost use Rattle.estelle_model_legality.specs.Situations.{IsLegal};
 ghost use Rattle.body_walker_state.specs.InOrder.{InOrder};
 ghost use Rattle.situation_images.specs.Instances.{IsOfBody};
 ghost use Rattle.effect_log.specs.Standing.{Stands};
-ghost use Rattle.transition_select.specs.Offers.{AreCountedOf};
+ghost use Rattle.transition_select.specs.Countings.{AreCountablesOf};
 ghost use Rattle.situation_offers.specs.Guards as spec;
-ghost use Rattle.situation_offers.specs.Asked.{MayBeAsked, IsAt, IsImageOf, AreAll, IsCount, IsOfferOf, IsOffering};
+ghost use Rattle.situation_offers.specs.Asked.{MayBeAsked, IsAt, IsImageOf, AreAll, IsCount, IsCountingOf, IsOffering};
 
 use body_walker::guard_plain;
 use body_walker_program::Program;
@@ -29,13 +29,13 @@ use estelle_tree::{Path, Wanted};
 use pascal_values::Fault;
 use situation_images::{found_head, image_of};
 use std::alloc::{AllocError, Global};
-use transition_select::{Counted, Offer, offered};
+use transition_select::{Countable, Counting};
 
 /// What the guards of an instance come to.
 #[derive(Drop)]
 pub(crate) enum Count {
     /// None faults, and these transitions may be selected.
-    Counts(Vec<Counted>),
+    Counts(Vec<Countable>),
     /// This one is the first that faults.
     Faults { trans: u32, kind: Fault },
 }
@@ -43,9 +43,9 @@ pub(crate) enum Count {
 /// What the guards of a system come to.
 #[derive(Drop)]
 pub enum Offering {
-    /// None faults. The instances offer this, in path order, and these enabled transitions with a delay want a timer.
-    Offers {
-        offers: Vec<Offer>,
+    /// None faults. The instances count this, in path order, and these enabled transitions with a delay want a timer.
+    Counts {
+        counts: Vec<Counting>,
         wanted: Vec<Wanted>,
     },
     /// This one is the first that faults.
@@ -126,6 +126,19 @@ fn is_over(timers: &Timers, path: &Path, trans: u32, low: u32, now: u64) -> bool
     }
 }
 
+/// Whether a delay that ends is over now: that of the timer that runs, or else of one that starts now.
+fn has_ended(timers: &Timers, path: &Path, trans: u32, high: Option<u32>, now: u64) -> bool
+    ensures { result ≡ spec.has_ended now (map.get timers.now (pair path.now trans)) high }
+{
+    if timers.has(path, trans) {
+        return timers.must(path, trans, now);
+    }
+    match high {
+        None => false,
+        Some(high) => now.saturating_add(u64::from(high)) <= now,
+    }
+}
+
 /// Whether a transition may be selected once the timers are renewed.
 fn may(
     program: &Program,
@@ -150,20 +163,46 @@ fn may(
     }
 }
 
+/// Whether a transition must be counted then.
+fn must(
+    program: &Program,
+    timers: &Timers,
+    path: &Path,
+    body: u32,
+    trans: u32,
+    answer: Guard,
+    now: u64,
+) -> bool
+    ensures { (g : Situation) → IsOfBody g path.now body → result ≡ spec.must_by now (map.get timers.now (pair path.now trans)) (has_delay program.now g path.now trans) answer }
+{
+    match answer {
+        Guard::On { high, .. } => {
+            if is_delayed(program, body, trans) {
+                has_ended(timers, path, trans, high, now)
+            } else {
+                true
+            }
+        }
+        _ => false,
+    }
+}
+
 /// Counts a transition that may be selected.
 fn count_if(
     program: &Program,
     body: u32,
     trans: u32,
     may: bool,
-    counted: &mut Vec<Counted>,
+    must: bool,
+    counted: &mut Vec<Countable>,
 ) -> Result<(), AllocError>
-    ensures { (g : Situation) (m : Seen) → IsOfBody g m body → OnOk result (counted.new.items ≡ counted.old.items ++ spec.counted_if may trans (priority program.now g m trans)) }
+    ensures { (g : Situation) (m : Seen) → IsOfBody g m body → OnOk result (counted.new.items ≡ counted.old.items ++ spec.counted_if may trans (priority program.now g m trans) must) }
 {
     if may {
-        counted.push(Counted {
+        counted.push(Countable {
             trans,
             priority: priority_of(program, body, trans),
+            must,
         })?;
     }
     Ok(())
@@ -224,7 +263,8 @@ fn count_all(
             return Ok(Count::Faults { trans, kind });
         }
         let may = may(program, timers, path, body, trans, answer, now);
-        count_if(program, body, trans, may, &mut counted)?;
+        let must = must(program, timers, path, body, trans, answer, now);
+        count_if(program, body, trans, may, must, &mut counted)?;
         let delayed = is_delayed(program, body, trans);
         want_if(alloc, delayed, path, trans, answer, wanted)?;
     }
@@ -265,20 +305,20 @@ fn is_of_process(program: &Program, body: u32) -> bool
     }
 }
 
-/// What an instance offers of those that are counted.
-fn offer(
+/// What an instance counts, with how its children are taken.
+fn counting(
     alloc: Global,
     program: &Program,
     path: &Path,
     body: u32,
-    counted: &[Counted],
-) -> Result<Offer, AllocError>
-    ensures { (g : Situation) (system : Seen) (now budget : ℕ) → IsLegal program.now g → IsSystem program.now g system → IsAt g system path.now body → AreCountedOf program.now budget (renew program.now budget g system now) path.now counted.now → IfOk result (IsOfferOf program.now budget g system now path.now) }
+    transitions: Vec<Countable>,
+) -> Result<Counting, AllocError>
+    ensures { (g : Situation) (system : Seen) (now budget : ℕ) → IsLegal program.now g → IsSystem program.now g system → IsAt g system path.now body → AreCountablesOf program.now budget (renew program.now budget g system now) path.now transitions.items → IfOk result (IsCountingOf program.now budget g system now path.now) }
 {
-    Ok(Offer {
+    Ok(Counting {
         path: path.copy(alloc)?,
         of_process: is_of_process(program, body),
-        offered: offered(alloc, counted)?,
+        transitions,
     })
 }
 
@@ -305,7 +345,7 @@ fn ask_each(
 ) -> Result<Offering, AllocError>
     ensures { (g : Situation) (system : Seen) → MayBeAsked program.now shared.now timers.now g system → AreAll g system (each (λ r. r.now) parts.now) → IfOk result (IsOffering program.now budget g system now) }
 {
-    let mut offers = Vec::new(alloc);
+    let mut counts = Vec::new(alloc);
     let mut wanted = Vec::new(alloc);
     for part in parts {
         let count = count_at(
@@ -321,15 +361,15 @@ fn ask_each(
         )?;
         match count {
             Count::Counts(counted) => {
-                offers.push(offer(alloc, program, &part.path, part.body, &counted)?)?;
+                counts.push(counting(alloc, program, &part.path, part.body, counted)?)?;
             }
             Count::Faults { trans, kind } => return faulted(alloc, &part.path, trans, kind),
         }
     }
-    Ok(Offering::Offers { offers, wanted })
+    Ok(Offering::Counts { counts, wanted })
 }
 
-/// Asks each guard of a system, in path order and in the order of transitions, and tells what its instances offer
+/// Asks each guard of a system, in path order and in the order of transitions, and tells what its instances count
 /// once its timers are renewed at the moment `now`. The timers stay as they are.
 pub fn ask(
     alloc: Global,

@@ -6,7 +6,7 @@ use estelle_tree::{Pair, Path};
 use outside::{Chooser, FirstChooser};
 use std::alloc::{AllocError, Global};
 use std::test::Fail;
-use transition_select::{Counted, Offer, choose, offered};
+use transition_select::{Countable, Offer, choose, offered};
 
 /// The chooser that picks the last candidate each time.
 #[derive(Clone, Copy)]
@@ -83,9 +83,10 @@ fn offers_of(
 ) -> Result<bool, AllocError> {
     let mut all = Vec::new(alloc);
     for (trans, priority) in counted {
-        all.push(Counted {
+        all.push(Countable {
             trans: *trans,
             priority: *priority,
+            must: false,
         })?;
     }
     let numbers = offered(alloc, &all)?;

@@ -4,3 +4,4 @@ pub mod Apart
 pub mod Walks
 pub mod Downwards
 pub mod Priorities
+pub mod Offering

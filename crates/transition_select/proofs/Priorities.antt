@@ -8,8 +8,8 @@ use Rattle.estelle_model.specs.Subject.{Subject}
 use Rattle.estelle_model.specs.Situation.{Situation}
 use Rattle.estelle_model.specs.Selection.{is_higher, has_priority, priority}
 use Rattle.estelle_model.specs.Schedule.{offered}
-use Rattle.transition_select.specs.declared.offers.Counted.{Counted}
-use Rattle.transition_select.specs.Offers.{AreCountedOf, higher, highest, not_below}
+use Rattle.transition_select.specs.declared.countings.Countable.{Countable}
+use Rattle.transition_select.specs.Countings.{IsCountable, AreCountablesOf, higher, highest, not_below}
 
 -- ---- the higher of two
 
@@ -44,7 +44,7 @@ or_assoc : (a b c : Bool) → ((a || b) || c) ≡ (a || (b || c))
 or_assoc true b c = refl
 or_assoc false b c = refl
 
-above_some : (so_far p : Option ℤ) (cs : List Counted) → is_higher (higher so_far cs) p ≡ (is_higher so_far p || list_any (λ k. is_higher k.priority p) cs)
+above_some : (so_far p : Option ℤ) (cs : List Countable) → is_higher (higher so_far cs) p ≡ (is_higher so_far p || list_any (λ k. is_higher k.priority p) cs)
 above_some so_far p [] = sym (or_false (is_higher so_far p))
 above_some so_far p (c ∷ cs) =
     above_some (cond (is_higher c.priority so_far) c.priority so_far) p cs
@@ -54,28 +54,28 @@ above_some so_far p (c ∷ cs) =
 -- ---- what is offered
 
 module _ (s : Subject) (budget : ℕ) (g : Situation) (m : Path) where
-  any_numbered : (n : ℕ) (cs : List Counted) → AllByRecursion (λ c. c.priority ≡ priority s g m c.trans) cs
+  any_numbered : (n : ℕ) (cs : List Countable) → AllByRecursion (IsCountable s budget g m) cs
       → list_any (λ k. is_higher k.priority (priority s g m n)) cs ≡ list_any (λ k. has_priority s g m k n) (each (λ c. c.trans) cs)
   any_numbered n [] a = refl
-  any_numbered n (c ∷ cs) a = ap (λ p. is_higher p (priority s g m n) || list_any (λ k. is_higher k.priority (priority s g m n)) cs) a.0 ∙ ap (λ b. has_priority s g m c.trans n || b) (any_numbered n cs a.1)
+  any_numbered n (c ∷ cs) a = ap (λ p. is_higher p (priority s g m n) || list_any (λ k. is_higher k.priority (priority s g m n)) cs) a.0.priority ∙ ap (λ b. has_priority s g m c.trans n || b) (any_numbered n cs a.1)
 
   -- the tests of a list of those counted
-  module _ (all : List Counted) (are : AllByRecursion (λ c. c.priority ≡ priority s g m c.trans) all) where
-    kept : (cs : List Counted) → AllByRecursion (λ c. c.priority ≡ priority s g m c.trans) cs
+  module _ (all : List Countable) (are : AllByRecursion (IsCountable s budget g m) all) where
+    kept : (cs : List Countable) → AllByRecursion (IsCountable s budget g m) cs
         → not_below (highest all) cs ≡ filter (λ n. not (list_any (λ k. has_priority s g m k n) (each (λ c. c.trans) all))) (each (λ c. c.trans) cs)
     kept [] a = refl
     kept (c ∷ cs) a = by (is_higher (highest all) c.priority) (list_any (λ k. has_priority s g m k c.trans) (each (λ c. c.trans) all)) same (kept cs a.1)
       where
         same : is_higher (highest all) c.priority ≡ list_any (λ k. has_priority s g m k c.trans) (each (λ c. c.trans) all)
-        same = ap (is_higher (highest all)) a.0 ∙ above_some None (priority s g m c.trans) all ∙ any_numbered c.trans all are
+        same = ap (is_higher (highest all)) a.0.priority ∙ above_some None (priority s g m c.trans) all ∙ any_numbered c.trans all are
 
         by : (b d : Bool) → b ≡ d → not_below (highest all) cs ≡ filter (λ n. not (list_any (λ k. has_priority s g m k n) (each (λ c. c.trans) all))) (each (λ c. c.trans) cs)
-            → each (λ (k : Counted). k.trans) (cond (not b) (c ∷ filter (λ k. not (is_higher (highest all) k.priority)) cs) (filter (λ k. not (is_higher (highest all) k.priority)) cs))
+            → each (λ (k : Countable). k.trans) (cond (not b) (c ∷ filter (λ k. not (is_higher (highest all) k.priority)) cs) (filter (λ k. not (is_higher (highest all) k.priority)) cs))
             ≡ cond (not d) (c.trans ∷ filter (λ n. not (list_any (λ k. has_priority s g m k n) (each (λ c. c.trans) all))) (each (λ c. c.trans) cs)) (filter (λ n. not (list_any (λ k. has_priority s g m k n) (each (λ c. c.trans) all))) (each (λ c. c.trans) cs))
         by true true e rest = rest
         by true false e rest = absurd (cc)
         by false true e rest = absurd (cc)
         by false false e rest = ap (λ ns. c.trans ∷ ns) rest
 
-  pub offered_is : (cs : List Counted) → AreCountedOf s budget g m cs → not_below (highest cs) cs ≡ offered s budget g m
-  offered_is cs are = kept cs are.priorities cs are.priorities ∙ ap (λ ns. filter (λ n. not (list_any (λ k. has_priority s g m k n) ns)) ns) are.numbers
+  pub offered_is : (cs : List Countable) → AreCountablesOf s budget g m cs → not_below (highest cs) cs ≡ offered s budget g m
+  offered_is cs are = kept cs are.known cs are.known ∙ ap (λ ns. filter (λ n. not (list_any (λ k. has_priority s g m k n) ns)) ns) are.numbers

@@ -1,5 +1,6 @@
--- ---- what instances offer
+-- ---- what instances offer, and what they count
 pub mod Blocks
 pub mod Offers
+pub mod Countings
 -- ---- what is chosen of it
 pub mod Choosing

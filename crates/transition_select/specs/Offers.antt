@@ -1,15 +1,13 @@
 -- What instances offer a system that selects, in path order.
-use Rattle.std.specs.Prelude.{◌≡◌, ℕ, suc, Bool, true, false, ℤ, not, Option, None, if◌then◌else◌, List, [], ◌∷◌, ◌++◌, map as each, filter}
+use Rattle.std.specs.Prelude.{◌≡◌, ℕ, suc, Bool, true, false, if◌then◌else◌, List, [], ◌∷◌, ◌++◌, map as each}
 use Rattle.std.specs.List.{prefix_len, AllByRecursion}
 use Rattle.estelle_tree.specs.Paths.{Path, is_inside}
 use Rattle.estelle_model.specs.Jobs.{IsThere}
 use Rattle.estelle_model.specs.Subject.{Subject}
 use Rattle.estelle_model.specs.Situation.{Situation}
 use Rattle.estelle_model.specs.Attributes.{IsProcess, IsActivity, is_empty}
-use Rattle.estelle_model.specs.Selection.{is_higher, priority}
-use Rattle.estelle_model.specs.Schedule.{counted, offered}
+use Rattle.estelle_model.specs.Schedule.{offered}
 use Rattle.transition_select.specs.declared.offers.Offer.{Offer}
-use Rattle.transition_select.specs.declared.offers.Counted.{Counted}
 use Rattle.transition_select.specs.Blocks.{at_and_below}
 
 -- what is taken of an instance's children: of a process what each selects, of an activity what one does
@@ -47,22 +45,3 @@ offers_some (o ∷ os) = if is_empty o.offered.items then offers_some os else tr
 abbrev pub first_len : List Offer → ℕ
 first_len [] = 0
 first_len (o ∷ os) = suc (block_len o.path os)
-
--- ---- what is offered of what is counted
-
--- the transitions of an instance that may be selected now, with their priorities
-pub record AreCountedOf (s : Subject) (budget : ℕ) (g : Situation) (m : Path) (cs : List Counted) : Type 0 where
-  pub numbers : each (λ c. c.trans) cs ≡ counted s budget g m
-  pub priorities : AllByRecursion (λ c. c.priority ≡ priority s g m c.trans) cs
-
--- the highest priority of these and of the one so far
-abbrev pub higher : Option ℤ → List Counted → Option ℤ
-higher so_far [] = so_far
-higher so_far (c ∷ cs) = higher (if is_higher c.priority so_far then c.priority else so_far) cs
-
-abbrev pub highest : List Counted → Option ℤ
-highest = higher None
-
--- those that are not below a priority
-abbrev pub not_below : Option ℤ → List Counted → List ℕ
-not_below most cs = each (λ c. c.trans) (filter (λ c. not (is_higher most c.priority)) cs)

@@ -1,5 +1,5 @@
-//! The choice among what the instances at and below a system offer (ISO/IEC 9074: a parent goes before its children; of a
-//! process each child goes on, of an activity one).
+//! What the instances at and below a system count, what they offer of it, and the choice among that (ISO/IEC 9074: a parent goes
+//! before its children; of a process each child goes on, of an activity one).
 //!
 //! It stands on `estelle_model`, whose `Chosen` the choice is, on the laws on trees of instances in `estelle_model_legality`,
 //! and on the choosers of `outside`. A choice takes the time of what stands at and below the system, times the depth of
@@ -7,7 +7,9 @@
 #![tactic(auto)]
 
 mod choice;
+mod countings;
 mod offers;
 
 pub use choice::{choose, pick};
-pub use offers::{Counted, Offer, offered};
+pub use countings::{Countable, Counting, offered, offers_of};
+pub use offers::Offer;

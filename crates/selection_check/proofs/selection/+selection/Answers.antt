@@ -1,6 +1,7 @@
 use Rattle.std.proofs.Common.{◌≡◌, ◌+◌, ◌∙◌, ℕ, suc, List, [], ◌∷◌, length, take, drop, subst, ap, refl, sym, arith}
-use Rattle.selection_check.specs.declared.countings.Counting.{Counting}
-use Rattle.selection_check.specs.Countings.{AreCountings, AreCountingsBelow, takes_len}
+use Rattle.transition_select.specs.declared.countings.Counting.{Counting}
+use Rattle.transition_select.specs.Countings.{AreCountings}
+use Rattle.selection_check.specs.Countings.{AreCountingsBelow, takes_len}
 use Rattle.selection_check.proofs.Among.{IsAmong, one_begins, one_goes_on, one_is_here, one_is_nowhere}
 use Rattle.selection_check.proofs.Walks.{AreOnTheWay, begins, ends, own_goes_on, must_stops, process_goes_on, quiet_goes_on, activity_goes_on, activity_stops}
 use Rattle.selection_check.proofs.selection.+selection.Goals as goal

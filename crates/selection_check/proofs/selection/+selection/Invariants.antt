@@ -4,7 +4,8 @@ use Rattle.estelle_model.specs.Subject.{Subject}
 use Rattle.estelle_model.specs.Situation.{Situation}
 use Rattle.estelle_model_legality.specs.Choices.{AreTree}
 use Rattle.estelle_model_legality.specs.Pending.{AreInOrder}
-use Rattle.selection_check.specs.Countings.{AreCountings, AreCountingsBelow}
+use Rattle.transition_select.specs.Countings.{AreCountings}
+use Rattle.selection_check.specs.Countings.{AreCountingsBelow}
 use Rattle.selection_check.proofs.Among.{IsAmong}
 use Rattle.selection_check.proofs.Walks.{AreOnTheWay}
 use Rattle.selection_check.proofs.selection.+selection.Given as goal

@@ -1,7 +1,3 @@
-use Rattle.std.proofs.Common.{rules, ◌≡◌, IfOk, Option, Some, None, arith}
-use Rattle.estelle_model.specs.Subject.{body}
-use Rattle.estelle_model.specs.Firing.{bare}
-use Rattle.situation_images.specs.Instances.{IsTreeOf}
 use Rattle.situation_images.proofs.Alone.{tree-in, none-there}
 use Rattle.situation_images.proofs.bare.root_tree.Goals as goal
 

@@ -3,7 +3,7 @@ use Rattle.std.specs.FinMap as map
 use Rattle.estelle_tree.specs.Timers.{pair}
 use Rattle.estelle_model.specs.Subject.{transitions}
 use Rattle.estelle_model.specs.Delays.{has_delay}
-use Rattle.situation_offers.specs.Guards.{may_by, wanted_if, AreCountedTo}
+use Rattle.situation_offers.specs.Guards.{may_by, must_by, wanted_if, AreCountedTo}
 use Rattle.situation_offers.proofs.Counting.{none_counted, counted_more, first_here, all_counted}
 use Rattle.situation_offers.proofs.guards.count_all.Goals as goal
 
@@ -23,9 +23,10 @@ loop-index-preserved c = λ g system of at shown.
     let m = c.args.path.now in
     let n = c.loop-index.index + 1 in
     let answer = c.in_ok-answer.answer in
-    counted_more s c.args.budget g system c.args.now m at.inside c.loop-index.index _ _ _ _ _ answer c.may-may.result
+    counted_more s c.args.budget g system c.args.now m at.inside c.loop-index.index _ _ _ _ _ answer c.may-may.result c.must-must.result
     (c.loop-index.invariant g system of at shown) (c.in_ok-answer.ensures g system of at.of_body shown) c.in_default.not-Faulted
     (c.may-may.ensures g at.of_body ∙ ap (λ ts. may_by c.args.now (map.get ts (pair m n)) (has_delay s g m n) answer) of.running)
+    (c.must-must.ensures g at.of_body ∙ ap (λ ts. must_by c.args.now (map.get ts (pair m n)) (has_delay s g m n) answer) of.running)
     (c.in_ok-count_if.ensures g m at.of_body)
     (c.in_ok-want_if.ensures ∙ ap (λ b. c.loop-index.wanted.items ++ wanted_if b (pair m n) answer) (c.is_delayed-delayed.ensures g m at.of_body))
 

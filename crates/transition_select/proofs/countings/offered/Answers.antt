@@ -1,9 +1,9 @@
 use Rattle.std.proofs.Common.{◌≡◌, ◌∙◌, ap}
 use Rattle.std.proofs.lemmas.Result.{IfOk-weaker}
 use Rattle.estelle_model.specs.Schedule.{offered}
-use Rattle.transition_select.specs.Offers.{not_below}
+use Rattle.transition_select.specs.Countings.{not_below}
 use Rattle.transition_select.proofs.Priorities.{offered_is}
-use Rattle.transition_select.proofs.offers.offered.Goals as goal
+use Rattle.transition_select.proofs.countings.offered.Goals as goal
 
 pub returns : goal.returns
 returns c s budget g m are =

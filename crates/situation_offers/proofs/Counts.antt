@@ -1,4 +1,4 @@
--- What all instances of a system offer, and the first guard of all that faults.
+-- What all instances of a system count, and the first guard of all that faults.
 use Rattle.std.proofs.Common.{◌≡◌, ◌⊎◌, ℕ, ◌<◌, List, [], ◌∷◌, ◌++◌, refl, sym, ap, subst, ◌∙◌, inl, inr}
 use Rattle.std.specs.Prelude.{IsTrue}
 use Rattle.std.specs.Ordering.{nat_cmp, ordering_then, MatchOrdering}
@@ -21,15 +21,16 @@ use Rattle.estelle_model.specs.Jobs.{IsThere}
 use Rattle.estelle_model.specs.Runs.{NoGuardFaults, IsFirstFault}
 use Rattle.estelle_model.proofs.Maps.{total, apart}
 use Rattle.estelle_model_legality.proofs.Members.{Has}
-use Rattle.transition_select.specs.declared.offers.Offer.{Offer}
+use Rattle.transition_select.specs.declared.countings.Counting.{Counting}
 use Rattle.transition_select.specs.Blocks.{at_and_below}
-use Rattle.transition_select.specs.Offers.{AreOffers, IsOffer}
+use Rattle.transition_select.specs.Countings.{IsCounting, AreCountings}
 use Rattle.transition_select.proofs.Blocks.{below_has, below_rises}
+use Rattle.transition_select.proofs.Offering.{all_more}
 use Rattle.transition_select.proofs.Rising.{Rises, before_has, itself}
 use Rattle.situation_steps.proofs.Renewing.{wanted_differ}
 use Rattle.delay_timers.specs.Moments.{AreDifferent}
-use Rattle.situation_offers.specs.Guards.{NoneFaults, IsFirst, wanted_of, HaveOffered}
-use Rattle.situation_offers.proofs.Counting.{all_more, faulted_there}
+use Rattle.situation_offers.specs.Guards.{NoneFaults, IsFirst, wanted_of, HaveCounted}
+use Rattle.situation_offers.proofs.Counting.{faulted_there}
 use Rattle.situation_offers.proofs.Wanted.{flat_more, wanted_is}
 
 -- ---- lists
@@ -50,14 +51,11 @@ stands_before (p ∷ qs) m rest q rises (inr h) less = inr (stands_before qs m r
 module _ (s : Subject) (budget : ℕ) (g : Situation) (system : Path) (now : ℕ) where
   -- ---- one instance more
 
-  pub none_offered : HaveOffered s budget g system now [] [] []
-  none_offered = record { paths = refl; offers = tt; wanted = refl; sound = tt }
-
-  pub one_more : (ms : List Path) (os : List Offer) (ws after : List Wanted) (m : Path) (o : Offer) → HaveOffered s budget g system now ms os ws → o.path ≡ m → IsOffer s budget (renew s budget g system now) o
-      → NoneFaults s budget g m → after ≡ ws ++ wanted_of s budget g m → HaveOffered s budget g system now (ms ++ m ∷ []) (os ++ o ∷ []) after
-  one_more ms os ws after m o have is offer none wants = record {
-    paths = map-append (λ (p : Offer). p.path) os (o ∷ []) ∙ (λ i. have.paths i ++ (is i ∷ []));
-    offers = all_more (IsOffer s budget (renew s budget g system now)) os o have.offers offer;
+  pub one_more : (ms : List Path) (cs : List Counting) (ws after : List Wanted) (m : Path) (c : Counting) → HaveCounted s budget g system now ms cs ws → c.path ≡ m → IsCounting s budget (renew s budget g system now) c
+      → NoneFaults s budget g m → after ≡ ws ++ wanted_of s budget g m → HaveCounted s budget g system now (ms ++ m ∷ []) (cs ++ c ∷ []) after
+  one_more ms cs ws after m c have is counting none wants = record {
+    paths = map-append (λ (d : Counting). d.path) cs (c ∷ []) ∙ (λ i. have.paths i ++ (is i ∷ []));
+    countings = all_more (IsCounting s budget (renew s budget g system now)) cs c have.countings counting;
     wanted = wants ∙ ap (λ vs. vs ++ wanted_of s budget g m) have.wanted ∙ sym (flat_more (wanted_of s budget g) ms m);
     sound = all_more (NoneFaults s budget g) ms m have.sound none;
   }
@@ -68,11 +66,11 @@ module _ (s : Subject) (budget : ℕ) (g : Situation) (system : Path) (now : ℕ
   faulted_has : (m : Path) (n : ℕ) (kind : Fault) → IsTrue (is_inside system m) → guard s budget g m n ≡ Faulted kind → Has (at_and_below g system) m
   faulted_has m n kind inside e = below_has s g system m (faulted_there s budget g m n kind e) inside
 
-  pub all_offered : (os : List Offer) (ws : List Wanted) → IsThere g.core.instances system → HaveOffered s budget g system now (at_and_below g system) os ws
-      → AreOffers s budget (renew s budget g system now) system os × NoGuardFaults s budget g system × (ws ≡ wanted s budget g system) × AreDifferent ws
-  all_offered os ws there have =
+  pub all_counted : (cs : List Counting) (ws : List Wanted) → IsThere g.core.instances system → HaveCounted s budget g system now (at_and_below g system) cs ws
+      → AreCountings s budget (renew s budget g system now) system cs × NoGuardFaults s budget g system × (ws ≡ wanted s budget g system) × AreDifferent ws
+  all_counted cs ws there have =
       let all : ws ≡ wanted s budget g system = have.wanted ∙ sym (wanted_is s budget g system) in (
-        record { there = there; paths = have.paths; offers = have.offers },
+        record { there = there; paths = have.paths; countings = have.countings },
         λ m n kind inside e. all_has (NoneFaults s budget g) (at_and_below g system) m have.sound (faulted_has m n kind inside e) n kind e,
         all,
         subst AreDifferent (sym all) (wanted_differ s budget g system),

@@ -4,10 +4,10 @@ use Rattle.estelle_model.specs.Bodies.{BodyAlone}
 use Rattle.estelle_model.specs.Subject.{body}
 use Rattle.estelle_model.specs.Attributes.{attribute, is_process}
 use Rattle.estelle_model.specs.Delays.{renew}
-use Rattle.estelle_model.specs.Schedule.{offered}
 use Rattle.transition_select.specs.Offers.{IsOfKind}
+use Rattle.transition_select.specs.Countings.{AreCountablesOf}
 use Rattle.situation_offers.proofs.Active.{kind_is}
-use Rattle.situation_offers.proofs.guards.offer.Goals as goal
+use Rattle.situation_offers.proofs.guards.counting.Goals as goal
 
 pub returns : goal.returns
 returns c = λ g system now budget legal is at are.
@@ -17,8 +17,8 @@ returns c = λ g system now budget legal is at are.
     (c.is_of_process.ensures ∙ ap (λ k. is_process (option_and_then (λ (x : BodyAlone). attribute s k) (body s k))) (sym of.2)) in
     record {
       path = c.in_ok-copy.ensures;
-      offer = record {
+      counting = record {
         kind = subst (λ p. IsOfKind s g p c.is_of_process.result) (sym c.in_ok-copy.ensures) kind;
-        offered = c.in_ok-offered.ensures s budget (renew s budget g system now) c.args.path.now are ∙ ap (offered s budget (renew s budget g system now)) (sym c.in_ok-copy.ensures);
+        transitions = subst (λ p. AreCountablesOf s budget (renew s budget g system now) p c.args.transitions.items) (sym c.in_ok-copy.ensures) are;
       };
     }
