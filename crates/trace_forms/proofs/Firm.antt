@@ -1,0 +1,162 @@
+-- Types that are firm: the bounds of their ordinal types are integers, their enumerations have few values, and no record is empty. Types that are bounded too can be read.
+use Rattle.std.proofs.Common.{◌≡◌, ◌∙◌, ℕ, zero, suc, ◌<◌, Bool, true, false, List, [], ◌∷◌, length, ℤ, pos, negsuc, Result, Ok, Err, Option, Some, None, refl, sym, ap, subst, arith, cond}
+use Rattle.std.specs.Prelude.{◌^◌, ◌-◌, ◌≤ℤ◌, ◌-ℤ◌}
+use Rattle.std.specs.List.{AllByRecursion}
+use Rattle.std.proofs.lemmas.Bool.Decides.{nat_tests}
+use Rattle.std.proofs.lemmas.Int.{ints}
+use Rattle.pascal_values.specs.Integers.{is_between, is_integer, difference_of}
+use Rattle.pascal_values.specs.declared.fault.Fault.{Fault}
+use Rattle.pascal_values.specs.declared.fault.Fault.TheVariants.{Overflow}
+use Rattle.pascal_values.specs.declared.value.Value.{Value, Value-F, out-Value}
+use Rattle.pascal_values.specs.declared.value.Value.TheVariants as value
+use Rattle.estelle_tree.specs.declared.tree.type_expr.Sign.{Sign}
+use Rattle.estelle_tree.specs.declared.tree.type_expr.Sign.TheVariants as sign
+use Rattle.estelle_model.specs.declared.denoter.Host.{Host}
+use Rattle.estelle_model.specs.declared.denoter.Host.TheVariants as host
+use Rattle.estelle_model.specs.declared.denoter.Denoter.{Denoter, out-Denoter}
+use Rattle.estelle_model.specs.declared.denoter.Denoter.TheVariants as denoter
+use Rattle.estelle_model.specs.declared.denoter.Denoter.TheOpen.{Denoter-F}
+use Rattle.estelle_model.specs.declared.meaning.Meaning.{Meaning}
+use Rattle.estelle_model.specs.declared.meaning.Meaning.TheVariants.{Constant, TypeName, Interaction}
+use Rattle.estelle_model.specs.Types.{ordinal_of, ordinal_at, whole, least, greatest}
+use Rattle.estelle_model.specs.Operators.{◌>>>◌, int_at, an_int, signed}
+use Rattle.estelle_model.specs.Constants.{by_sign}
+use Rattle.estelle_model.specs.Denoted.{bound_at}
+use Rattle.trace_forms.specs.Types.{IsOrdinalReadable, IsTypeFormed, NestsWithin, IsReadableType, IsInHost, IsTypeBounded, BoundedWithin, IsBoundedType}
+
+-- ---- firm types
+
+-- an enumeration has ordinals of 32 bits
+abbrev pub IsSmall : Host → Type 0
+IsSmall (host.Enumeration last) = last < 2 ^ 32
+IsSmall _ = Unit {0}
+
+abbrev pub IsFirmLayer : (Denoter → Type 0) → Denoter-F Denoter → Type 0
+IsFirmLayer IsPart (Denoter-F.Ordinal h low high) = IsSmall h × (is_integer low ≡ true) × (is_integer high ≡ true)
+IsFirmLayer IsPart (Denoter-F.Set h low high) = Unit {0}
+IsFirmLayer IsPart (Denoter-F.Array low high item) = IsPart item
+IsFirmLayer IsPart (Denoter-F.Fields fields) = (0 < length fields) × AllByRecursion IsPart fields
+
+-- so far down
+abbrev pub FirmTo : ℕ → Denoter → Type 0
+FirmTo zero t = Unit {0}
+FirmTo (suc n) t = IsFirmLayer (FirmTo n) (out-Denoter t)
+
+abbrev pub Firm : Denoter → Type 0
+Firm t = (n : ℕ) → FirmTo n t
+
+pub firm_ordinal : (h : Host) (low high : ℤ) → IsSmall h → is_integer low ≡ true → is_integer high ≡ true → Firm (denoter.Ordinal h low high)
+firm_ordinal h low high s a b zero = tt
+firm_ordinal h low high s a b (suc n) = subst (IsFirmLayer (FirmTo n)) (sym (denoter.outs-Ordinal h low high)) (s, a, b)
+
+pub firm_set : (h : Host) (low high : ℤ) → Firm (denoter.Set h low high)
+firm_set h low high zero = tt
+firm_set h low high (suc n) = subst (IsFirmLayer (FirmTo n)) (sym (denoter.outs-Set h low high)) tt
+
+pub firm_array : (low high : ℤ) (item : Denoter) → Firm item → Firm (denoter.Array low high item)
+firm_array low high item h zero = tt
+firm_array low high item h (suc n) = subst (IsFirmLayer (FirmTo n)) (sym (denoter.outs-Array low high item)) (h n)
+
+all_to : (n : ℕ) (ts : List Denoter) → AllByRecursion Firm ts → AllByRecursion (FirmTo n) ts
+all_to n [] h = tt
+all_to n (t ∷ ts) h = (h.0 n, all_to n ts h.1)
+
+pub firm_fields : (ts : List Denoter) → 0 < length ts → AllByRecursion Firm ts → Firm (denoter.Fields ts)
+firm_fields ts e h zero = tt
+firm_fields ts e h (suc n) = subst (IsFirmLayer (FirmTo n)) (sym (denoter.outs-Fields ts)) (e, all_to n ts h)
+
+-- ---- integers
+
+pub natural_in : (n : ℕ) → n < 2 ^ 63 → is_integer (pos n) ≡ true
+natural_in n h = grind (arith, nat_tests)
+
+pub number_in : (n : ℤ) → (pos 0 ≤ℤ n) × (n ≤ℤ pos (2 ^ 63 - 1)) → is_integer n ≡ true
+number_in (pos n) h = let a = h.1 in natural_in n (omega (arith, ints, a))
+number_in (negsuc n) h = let a = h.0 in absurd (omega (arith, ints, a))
+
+pub whole_firm : (h : Host) → IsSmall h → Firm (whole h)
+whole_firm host.Integer s = firm_ordinal host.Integer (least host.Integer) (greatest host.Integer) s refl refl
+whole_firm host.Boolean s = firm_ordinal host.Boolean (least host.Boolean) (greatest host.Boolean) s refl refl
+whole_firm host.Char s = firm_ordinal host.Char (least host.Char) (greatest host.Char) s refl refl
+whole_firm (host.Enumeration last) s = firm_ordinal (host.Enumeration last) (pos 0) (pos last) s refl (natural_in last (omega (arith, s)))
+
+-- ---- constants
+
+abbrev pub BoundFirm : Value → Type 0
+BoundFirm v = is_integer (bound_at (ordinal_of v)) ≡ true
+
+abbrev pub ResultFirm : Result Value Fault → Type 0
+ResultFirm (Ok v) = BoundFirm v
+ResultFirm (Err e) = Unit {0}
+
+pub int_firm : (n : ℤ) → is_integer n ≡ true → BoundFirm (value.Int n)
+int_firm n h = ap (λ (l : Value-F Value). is_integer (bound_at (ordinal_at l))) (value.outs-Int n) ∙ h
+
+pub bool_firm : (b : Bool) → BoundFirm (value.Bool b)
+bool_firm true = ap (λ (l : Value-F Value). is_integer (bound_at (ordinal_at l))) (value.outs-Bool true)
+bool_firm false = ap (λ (l : Value-F Value). is_integer (bound_at (ordinal_at l))) (value.outs-Bool false)
+
+pub char_firm : (n : ℕ) → n < 2 ^ 63 → BoundFirm (value.Char n)
+char_firm n h = ap (λ (l : Value-F Value). is_integer (bound_at (ordinal_at l))) (value.outs-Char n) ∙ natural_in n h
+
+pub enum_firm : (n : ℕ) → n < 2 ^ 63 → BoundFirm (value.Enum n)
+enum_firm n h = ap (λ (l : Value-F Value). is_integer (bound_at (ordinal_at l))) (value.outs-Enum n) ∙ natural_in n h
+
+plus_firm : (l : Value-F Value) → is_integer (bound_at (ordinal_at l)) ≡ true → ResultFirm (an_int (int_at l))
+plus_firm (Value-F.Int n) h = int_firm n h
+plus_firm _ h = tt
+
+minus_firm : (l : Value-F Value) → ResultFirm (int_at l >>> λ n. an_int (difference_of (pos 0) n))
+minus_firm (Value-F.Int n) = by (is_integer (pos 0 -ℤ n)) refl
+  where
+    by : (b : Bool) → is_integer (pos 0 -ℤ n) ≡ b → ResultFirm (an_int (cond b (Ok (pos 0 -ℤ n)) (Err Overflow)))
+    by true e = int_firm (pos 0 -ℤ n) e
+    by false e = tt
+minus_firm _ = tt
+
+pub sign_firm : (s : Option Sign) (v : Value) → BoundFirm v → ResultFirm (by_sign s v)
+unfolding signed
+sign_firm None v h = h
+sign_firm (Some sign.Plus) v h = plus_firm (out-Value v) h
+sign_firm (Some sign.Minus) v h = minus_firm (out-Value v)
+
+pub bound_firm : (r : Result Value Fault) → ResultFirm r → is_integer (bound_at (r >>> ordinal_of)) ≡ true
+bound_firm (Ok v) h = h
+bound_firm (Err e) h = refl
+
+-- ---- meanings
+
+abbrev pub MeaningFirm : Meaning → Type 0
+MeaningFirm (Constant v h) = IsSmall h × BoundFirm v
+MeaningFirm (TypeName t) = Firm t
+MeaningFirm (Interaction kind) = AllByRecursion Firm kind.parameters
+MeaningFirm _ = Unit {0}
+
+-- ---- firm types that are bounded can be read
+
+low_in : (low high n : ℤ) → is_integer low ≡ true → is_integer high ≡ true → is_between low high n ≡ true → is_integer n ≡ true
+low_in low high n a b e = grind (arith, ints, nat_tests)
+
+ordinal_readable : (h : Host) (low high : ℤ) → IsSmall h → is_integer low ≡ true → is_integer high ≡ true → IsInHost h high → IsOrdinalReadable h low high
+ordinal_readable host.Integer low high s a b u = λ n e. low_in low high n a b e
+ordinal_readable host.Boolean low high s a b u = tt
+ordinal_readable host.Char low high s a b u = u
+ordinal_readable (host.Enumeration last) low high s a b u = omega (arith, s, u)
+
+module _ (P Q R : Denoter → Type 0) (each : (t : Denoter) → P t → Q t → R t) where
+  all_parts : (ts : List Denoter) → AllByRecursion P ts → AllByRecursion Q ts → AllByRecursion R ts
+  all_parts [] h k = tt
+  all_parts (t ∷ ts) h k = (each t h.0 k.0, all_parts ts h.1 k.1)
+
+  formed : (l : Denoter-F Denoter) → IsFirmLayer P l → IsTypeBounded Q l → IsTypeFormed R l
+  formed (Denoter-F.Ordinal h low high) f b = ordinal_readable h low high f.0 f.1 f.2 b
+  formed (Denoter-F.Set h low high) f b = tt
+  formed (Denoter-F.Array low high item) f b = (b.0, each item f b.1)
+  formed (Denoter-F.Fields fields) f b = (f.0, all_parts fields f.1 b)
+
+nests : (depth : ℕ) (t : Denoter) → FirmTo (suc depth) t → BoundedWithin depth t → NestsWithin depth t
+nests zero t f b = formed (FirmTo zero) (λ _. ⊥) (λ _. ⊥) (λ t f n. n) (out-Denoter t) f b
+nests (suc depth) t f b = formed (FirmTo (suc depth)) (BoundedWithin depth) (NestsWithin depth) (nests depth) (out-Denoter t) f b
+
+pub types_readable : (ts : List Denoter) → AllByRecursion Firm ts → AllByRecursion IsBoundedType ts → AllByRecursion IsReadableType ts
+types_readable = all_parts Firm IsBoundedType IsReadableType (λ t f b. nests 200 t (f 201) b)

@@ -1,0 +1,27 @@
+mod Lists
+-- ---- selections and drops
+mod Selections
+mod Drops
+-- ---- values and instances
+mod Values
+mod Readable
+mod Firm
+mod Instances
+-- ---- what every block keeps
+mod Sound
+mod SoundExpressions
+mod Named
+mod SoundStatements
+mod Acts
+-- ---- events and runs
+mod Firings
+mod Runs
+-- ---- what spells tokens
+mod Passes
+mod Holds
+mod SpelledStatements
+mod Declared
+mod SpelledTypes
+mod Spelled
+-- ---- together
+mod Accepted

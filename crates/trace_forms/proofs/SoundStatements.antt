@@ -1,0 +1,228 @@
+-- Every statement whose outputs are named by identifiers keeps the invariant, where calls and the statements of Estelle do.
+use Rattle.std.proofs.Common.{◌≡◌, ℕ, zero, suc, Bool, List, [], ◌∷◌, map, ℤ, Option, Some, None, sym, subst, cond, true, ◌∙◌}
+use Rattle.pascal_values.specs.declared.fault.Fault.TheVariants as fault
+use Rattle.pascal_values.specs.declared.value.Value.{Value}
+use Rattle.pascal_values.specs.declared.value.Value.TheVariants as pascal
+use Rattle.estelle_tree.specs.declared.tree.name.Name.{Name}
+use Rattle.estelle_tree.specs.declared.tree.type_expr.Const.{Const}
+use Rattle.estelle_tree.specs.declared.tree.expression.Expr.{Expr}
+use Rattle.estelle_tree.specs.declared.tree.expression.Args.{Args}
+use Rattle.estelle_tree.specs.declared.tree.expression.Variable.{Variable}
+use Rattle.estelle_tree.specs.declared.tree.statement.Direction.{Direction}
+use Rattle.estelle_tree.specs.declared.tree.statement.Stmt.{Stmt, roll-Stmt, map-Stmt}
+use Rattle.estelle_tree.specs.declared.tree.statement.Case.{Case, roll-Case}
+use Rattle.estelle_tree.specs.declared.tree.statement.Stmts.{Stmts, roll-Stmts}
+use Rattle.estelle_tree.specs.declared.tree.statement.Stmt.TheOpen.{Stmt-F, Case-F, Stmts-F}
+use Rattle.estelle_tree.specs.declared.tree.statement.Stmt.TheFolds.{map-Case, map-Stmts, ind-Stmts}
+use Rattle.estelle_model.specs.declared.denoter.Denoter.{Denoter}
+use Rattle.estelle_model.specs.Types.{ordinal_of}
+use Rattle.estelle_model.specs.Operators.{bool_of}
+use Rattle.estelle_model.specs.States.{Offers}
+use Rattle.estelle_model.specs.Steps.{Running, Step, Do, ◌>>=◌, ◌>>◌, pure, fail, spend}
+use Rattle.estelle_model.specs.declared.meaning.Routine.{Routine}
+use Rattle.estelle_model.specs.declared.meaning.Meaning.{Meaning}
+use Rattle.estelle_model.specs.declared.meaning.Meaning.TheVariants.{Called}
+use Rattle.estelle_model.specs.Meant.{Meanings, result_number}
+use Rattle.estelle_model.specs.declared.place.Place.{Place}
+use Rattle.estelle_model.specs.declared.place.Place.TheVariants.{In}
+use Rattle.estelle_model.specs.Places.{put, store, store_ordinal}
+use Rattle.estelle_model.specs.declared.place.Environment.{Environment}
+use Rattle.estelle_model.specs.declared.place.ActualParameters.{ActualParameters}
+use Rattle.estelle_model.specs.Expressions.{Call, Operand, Access, Selecting, bool_step, ordinal_step, give_all, no_arguments, accessed, result_of, assigned, target, variable}
+use Rattle.estelle_model.specs.Loops.{while_turns, repeat_turns, while_loop, repeat_loop, next_of, turns_of, count_turns, count_loop}
+use Rattle.estelle_model.specs.Statements.{Action, Init, Release, Connect, Disconnect, Attach, Detach, Output, is_labelled, chosen, or_nothing, value_of_expr, arguments, assign_to, assign, invoke_of, invoke, choose, count_over, count, select, stmt, branch, stmts}
+use Rattle.estelle_model.proofs.Units.{Each, IfThere}
+use Rattle.trace_forms.proofs.Sound.{Any, IsClosed, Gives, OperandSound, AccessSound, SelectingSound, CallSound, GivenRise, then_sound, then_any, pure_any, fail_sound, if_sound, seq_sound, all_sound, spend_sound, of_value_any, give_all_sound, put_sound, store_sound, store_ordinal_sound}
+use Rattle.trace_forms.proofs.Values.{Rises, unset_rises}
+use Rattle.std.specs.List.{list_all}
+use Rattle.trace_forms.proofs.Named.{are_names, named_stmt, named_case, named_stmts, stmt_test, case_test, stmts_test}
+use Rattle.trace_forms.proofs.Named as named
+use Rattle.trace_forms.proofs.SoundExpressions.{MeaningTold, accessed_sound, args_sound, expr_sound, variable_sound}
+use Rattle.estelle_model_legality.proofs.Lists.{and_both}
+use Rattle.estelle_model.proofs.StatementEquations.{stmt_at, stmt_made, branch_made, stmts_made}
+
+-- ---- loops
+
+module _ (S : Type 0) (on : Offers S) (I : Running S → Type 0) (closed : IsClosed S on I) where
+  turns_sound : (n : ℕ) (p : Step S Bool) (b : Do S) → Gives S I Any p → Gives S I Any b → Gives S I Any (while_turns n p b)
+  turns_sound zero p b h k = then_any S I Bool (Unit {0}) Any p (λ again. cond again (fail fault.StepLimit) (pure tt)) h (λ again. if_sound S I (Unit {0}) Any again (fail fault.StepLimit) (pure tt) (fail_sound S I (Unit {0}) Any fault.StepLimit) (pure_any S I (Unit {0}) tt))
+  turns_sound (suc n) p b h k = then_any S I Bool (Unit {0}) Any p (λ again. cond again (spend >> b >> while_turns n p b) (pure tt)) h
+      (λ again. if_sound S I (Unit {0}) Any again (spend >> b >> while_turns n p b) (pure tt) (seq_sound S I (Unit {0}) Any (spend >> b) (while_turns n p b) (seq_sound S I (Unit {0}) Any spend b (spend_sound S I on closed) k) (turns_sound n p b h k)) (pure_any S I (Unit {0}) tt))
+
+  pub while_sound : (p : Step S Bool) (b : Do S) → Gives S I Any p → Gives S I Any b → Gives S I Any (while_loop p b)
+  unfolding while_loop
+  while_sound p b h k s = turns_sound s.left p b h k s
+
+  rounds_sound : (n : ℕ) (b : Do S) (p : Step S Bool) → Gives S I Any b → Gives S I Any p → Gives S I Any (repeat_turns n b p)
+  rounds_sound zero b p h k = fail_sound S I (Unit {0}) Any fault.StepLimit
+  rounds_sound (suc n) b p h k = then_any S I Bool (Unit {0}) Any (spend >> b >> p) (λ done. cond done (pure tt) (repeat_turns n b p)) (seq_sound S I Bool Any (spend >> b) p (seq_sound S I (Unit {0}) Any spend b (spend_sound S I on closed) h) k)
+      (λ done. if_sound S I (Unit {0}) Any done (pure tt) (repeat_turns n b p) (pure_any S I (Unit {0}) tt) (rounds_sound n b p h k))
+
+  pub repeat_sound : (b : Do S) (p : Step S Bool) → Gives S I Any b → Gives S I Any p → Gives S I Any (repeat_loop b p)
+  unfolding repeat_loop
+  repeat_sound b p h k s = rounds_sound s.left b p h k s
+
+  counts_sound : (k : ℕ) (dir : Direction) (n : ℤ) (f : ℤ → Do S) (u b : Do S) → ((i : ℤ) → Gives S I Any (f i)) → Gives S I Any u → Gives S I Any b → Gives S I Any (count_turns k dir n f u b)
+  counts_sound zero dir n f u b h i j = i
+  counts_sound (suc k) dir n f u b h i j = seq_sound S I (Unit {0}) Any (spend >> f n >> b) (count_turns k dir (next_of dir n) f u b) (seq_sound S I (Unit {0}) Any (spend >> f n) b (seq_sound S I (Unit {0}) Any spend (f n) (spend_sound S I on closed) (h n)) j) (counts_sound k dir (next_of dir n) f u b h i j)
+
+  pub count_sound : (dir : Direction) (first last : ℤ) (f : ℤ → Do S) (u b : Do S) → ((i : ℤ) → Gives S I Any (f i)) → Gives S I Any u → Gives S I Any b → Gives S I Any (count_loop dir first last f u b)
+  unfolding count_loop
+  count_sound dir first last f u b h i j = counts_sound (turns_of dir first last) dir first f u b h i j
+
+  -- ---- what statements of Estelle are given
+
+  abbrev pub ActionSound : Action S → Type 0
+  ActionSound (Init x b es) = Each (OperandSound S I) es
+  ActionSound (Output p n es) = Each (OperandSound S I) es
+  ActionSound a = Unit {0}
+
+  -- an output names its interaction point and its interaction by identifiers
+  abbrev pub ActionNamed : Action S → Type 0
+  ActionNamed (Output p n es) = are_names p n ≡ true
+  ActionNamed a = Unit {0}
+
+  abbrev pub ActSound : (Environment → Action S → Do S) → Environment → Type 0
+  ActSound act here = (a : Action S) → ActionNamed a → ActionSound a → Gives S I Any (act here a)
+
+-- ---- statements
+
+module _ (S : Type 0) (on : Offers S) (I : Running S → Type 0) (closed : IsClosed S on I) (meant : Meanings) (act : Environment → Action S → Do S) (here : Environment) (acts : ActSound S on I closed act here) (Told : Routine → Type 0) (told : (x : Name) → MeaningTold Told (meant x)) (call : Call S) (calls : CallSound S I Told call) where
+  value_sound : (e : Expr) → Gives S I Rises (value_of_expr S on meant act call here e)
+  value_sound e = (expr_sound S on I closed meant Told told call calls here e).value
+
+  arguments_sound : (es : Option Args) → Each (OperandSound S I) (arguments S on meant act call here es)
+  arguments_sound None = tt
+  arguments_sound (Some es) = args_sound S on I closed meant Told told call calls here es
+
+  assign_to_sound : (o : Option (Access S)) (p : Step S Value) → IfThere (AccessSound S I) o → Gives S I Rises p → Gives S I Any (assign_to S on meant act call here o p)
+  assign_to_sound None p h k = fail_sound S I (Unit {0}) Any fault.Unset
+  assign_to_sound (Some a) p h k = then_any S I Place (Unit {0}) Any a.place (λ x. p >>= λ v. store S on a.denoter x v) h (λ x. then_sound S I Value (Unit {0}) Rises Any p (λ v. store S on a.denoter x v) k (λ v y. store_sound S I on closed a.denoter x v y))
+
+  result_sound : (r : Routine) (o : Option Denoter) → IfThere (AccessSound S I) (result_of S on meant call here r o)
+  result_sound r None = tt
+  result_sound r (Some d) = pure_any S I Place (In here.frame (result_number r) [])
+
+  assigned_sound : (x : Meaning) (xs : List (Selecting S)) → Each (SelectingSound S I) xs → IfThere (AccessSound S I) (assigned S on meant call here x xs)
+  assigned_sound (Called r) xs h = result_sound r r.result
+  assigned_sound x xs h = accessed_sound S on I closed meant Told told call calls here x xs h
+
+  assign_sound : (v : Variable) (e : Expr) → Gives S I Any (assign S on meant act call here v e)
+  unfolding assign target
+  assign_sound v e = assign_to_sound (assigned S on meant call here (meant (variable S on meant call here v).name) (variable S on meant call here v).selectors) (value_of_expr S on meant act call here e) (assigned_sound (meant (variable S on meant call here v).name) (variable S on meant call here v).selectors (variable_sound S on I closed meant Told told call calls here v)) (value_sound e)
+
+  invoke_of_sound : (x : Meaning) → MeaningTold Told x → (es : List (Operand S)) → Each (OperandSound S I) es → Gives S I Any (invoke_of S on meant act call here x es)
+  invoke_of_sound (Called r) m es h = then_sound S I ActualParameters (Unit {0}) GivenRise Any (give_all r.parameters es no_arguments) (λ g. call r g >>= λ v. pure tt) (give_all_sound S I r.parameters es no_arguments tt h)
+      (λ g y. then_sound S I Value (Unit {0}) Rises Any (call r g) (λ v. pure tt) (calls r g m y) (λ v _. pure_any S I (Unit {0}) tt))
+  invoke_of_sound _ m es h = fail_sound S I (Unit {0}) Any fault.Unset
+
+  invoke_sound : (x : Name) (es : Option Args) → Gives S I Any (invoke S on meant act call here x es)
+  unfolding invoke
+  invoke_sound x es = invoke_of_sound (meant x) (told x) (arguments S on meant act call here es) (arguments_sound es)
+
+  test_sound : (e : Expr) → Gives S I Any (bool_step (value_of_expr S on meant act call here e))
+  test_sound e = of_value_any S I Bool bool_of (value_of_expr S on meant act call here e) (value_sound e)
+
+  or_nothing_sound : (o : Option (Do S)) → IfThere (Gives S I {A = Unit {0}} Any) o → Gives S I Any (or_nothing o)
+  or_nothing_sound None h = pure_any S I (Unit {0}) tt
+  or_nothing_sound (Some p) h = h
+
+  choose_sound : (e : Expr) (p : Do S) (o : Option (Do S)) → Gives S I Any p → IfThere (Gives S I {A = Unit {0}} Any) o → Gives S I Any (choose S on meant act call here e p o)
+  unfolding choose
+  choose_sound e p o h k = then_any S I Bool (Unit {0}) Any (bool_step (value_of_expr S on meant act call here e)) (λ b. cond b p (or_nothing o)) (test_sound e) (λ b. if_sound S I (Unit {0}) Any b p (or_nothing o) h (or_nothing_sound o k))
+
+  ordinal_sound : (e : Expr) → Gives S I Any (ordinal_step (value_of_expr S on meant act call here e))
+  ordinal_sound e = of_value_any S I ℤ ordinal_of (value_of_expr S on meant act call here e) (value_sound e)
+
+  count_over_sound : (o : Option (Access S)) (first : Expr) (dir : Direction) (last : Expr) (b : Do S) → IfThere (AccessSound S I) o → Gives S I Any b → Gives S I Any (count_over S on meant act call here o (ordinal_step (value_of_expr S on meant act call here first)) dir (ordinal_step (value_of_expr S on meant act call here last)) b)
+  count_over_sound None first dir last b h k = fail_sound S I (Unit {0}) Any fault.Unset
+  count_over_sound (Some a) first dir last b h k = then_any S I ℤ (Unit {0}) Any (ordinal_step (value_of_expr S on meant act call here first)) (λ i. ordinal_step (value_of_expr S on meant act call here last) >>= λ j. a.place >>= λ p. count_loop dir i j (λ n. store_ordinal S on a.denoter p n) (put S on p pascal.Unset) b) (ordinal_sound first)
+      (λ i. then_any S I ℤ (Unit {0}) Any (ordinal_step (value_of_expr S on meant act call here last)) (λ j. a.place >>= λ p. count_loop dir i j (λ n. store_ordinal S on a.denoter p n) (put S on p pascal.Unset) b) (ordinal_sound last)
+      (λ j. then_any S I Place (Unit {0}) Any a.place (λ p. count_loop dir i j (λ n. store_ordinal S on a.denoter p n) (put S on p pascal.Unset) b) h
+      (λ p. count_sound S on I closed dir i j (λ n. store_ordinal S on a.denoter p n) (put S on p pascal.Unset) b (λ n. store_ordinal_sound S I on closed a.denoter p n) (put_sound S I on closed p pascal.Unset unset_rises) k)))
+
+  for_sound : (x : Name) (first : Expr) (dir : Direction) (last : Expr) (b : Do S) → Gives S I Any b → Gives S I Any (count S on meant act call here x first dir last b)
+  unfolding count
+  for_sound x first dir last b k = count_over_sound (accessed S on meant call here (meant x) []) first dir last b (accessed_sound S on I closed meant Told told call calls here (meant x) [] tt) k
+
+  abbrev CaseSound : List Const × Do S → Type 0
+  CaseSound x = Gives S I Any x.1
+
+  chosen_sound : (n : ℤ) (xs : List (List Const × Do S)) → Each CaseSound xs → Gives S I Any (chosen meant n xs)
+  chosen_sound n [] h = fail_sound S I (Unit {0}) Any fault.NoCase
+  chosen_sound n (x ∷ xs) h = if_sound S I (Unit {0}) Any (is_labelled meant n x.0) x.1 (chosen meant n xs) h.0 (chosen_sound n xs h.1)
+
+  select_sound : (e : Expr) (xs : List (List Const × Do S)) → Each CaseSound xs → Gives S I Any (select S on meant act call here e xs)
+  unfolding select
+  select_sound e xs h = then_any S I ℤ (Unit {0}) Any (ordinal_step (value_of_expr S on meant act call here e)) (λ n. chosen meant n xs) (ordinal_sound e) (λ n. chosen_sound n xs h)
+
+  -- ---- trees
+
+  abbrev pub StmtSound : Stmt → Type 0
+  StmtSound x = named_stmt x ≡ true → Gives S I {A = Unit {0}} Any (stmt S on meant act call here x)
+
+  abbrev pub BranchSound : Case → Type 0
+  BranchSound x = named_case x ≡ true → CaseSound (branch S on meant act call here x)
+
+  abbrev pub StmtsSound : Stmts → Type 0
+  StmtsSound x = named_stmts x ≡ true → Gives S I {A = Unit {0}} Any (stmts S on meant act call here x)
+
+  abbrev ShownStmt : Type 0
+  ShownStmt = (x : Stmt) × StmtSound x
+
+  abbrev ShownCase : Type 0
+  ShownCase = (x : Case) × BranchSound x
+
+  abbrev ShownStmts : Type 0
+  ShownStmts = (x : Stmts) × StmtsSound x
+
+  shown_stmts : (xs : List ShownStmt) → list_all (λ b. b) (map named_stmt (map (λ e. e.0) xs)) ≡ true → Each (Gives S I {A = Unit {0}} Any) (map (stmt S on meant act call here) (map (λ e. e.0) xs))
+  shown_stmts [] n = tt
+  shown_stmts (x ∷ xs) n = let b = and_both (named_stmt x.0) _ n in (x.1 b.0, shown_stmts xs b.1)
+
+  shown_cases : (xs : List ShownCase) → list_all (λ b. b) (map named_case (map (λ e. e.0) xs)) ≡ true → Each CaseSound (map (branch S on meant act call here) (map (λ e. e.0) xs))
+  shown_cases [] n = tt
+  shown_cases (x ∷ xs) n = let b = and_both (named_case x.0) _ n in (x.1 b.0, shown_cases xs b.1)
+
+  abbrev opened_stmt : Stmt-F ShownStmt ShownCase ShownStmts → Stmt-F Stmt Case Stmts
+  opened_stmt y = map-Stmt ShownStmt ShownCase ShownStmts Stmt Case Stmts (λ e. e.0) (λ e. e.0) (λ e. e.0) y
+
+  abbrev opened_case : Case-F ShownStmt ShownCase ShownStmts → Case-F Stmt Case Stmts
+  opened_case y = map-Case ShownStmt ShownCase ShownStmts Stmt Case Stmts (λ e. e.0) (λ e. e.0) (λ e. e.0) y
+
+  abbrev opened_stmts : Stmts-F ShownStmt ShownCase ShownStmts → Stmts-F Stmt Case Stmts
+  opened_stmts y = map-Stmts ShownStmt ShownCase ShownStmts Stmt Case Stmts (λ e. e.0) (λ e. e.0) (λ e. e.0) y
+
+  stmt_go : (z : Stmt-F ShownStmt ShownCase ShownStmts) → stmt_test (opened_stmt z) ≡ true → Gives S I {A = Unit {0}} Any (stmt_at S on meant act call here (opened_stmt z))
+  stmt_go Stmt-F.Empty n = pure_any S I (Unit {0}) tt
+  stmt_go (Stmt-F.Assign v e span) n = assign_sound v e
+  stmt_go (Stmt-F.Call x es span) n = invoke_sound x es
+  stmt_go (Stmt-F.Begin body span) n = body.1 n
+  stmt_go (Stmt-F.If test then_part None span) n = choose_sound test (stmt S on meant act call here then_part.0) None (then_part.1 (and_both (named_stmt then_part.0) _ n).0) tt
+  stmt_go (Stmt-F.If test then_part (Some p) span) n = let b = and_both (named_stmt then_part.0) _ n in choose_sound test (stmt S on meant act call here then_part.0) (Some (stmt S on meant act call here p.0)) (then_part.1 b.0) (p.1 b.1)
+  stmt_go (Stmt-F.While test body span) n = while_sound S on I closed (bool_step (value_of_expr S on meant act call here test)) (stmt S on meant act call here body.0) (test_sound test) (body.1 n)
+  stmt_go (Stmt-F.Repeat body test span) n = repeat_sound S on I closed (stmts S on meant act call here body.0) (bool_step (value_of_expr S on meant act call here test)) (body.1 n) (test_sound test)
+  stmt_go (Stmt-F.Count x first dir last body span) n = for_sound x first dir last (stmt S on meant act call here body.0) (body.1 n)
+  stmt_go (Stmt-F.Case e cases semicolon span) n = select_sound e (map (branch S on meant act call here) (map (λ c. c.0) cases)) (shown_cases cases n)
+  stmt_go (Stmt-F.Init x b es span) n = acts (Init x b (arguments S on meant act call here es)) tt (arguments_sound es)
+  stmt_go (Stmt-F.Release x span) n = acts (Release x) tt tt
+  stmt_go (Stmt-F.Connect p q span) n = acts (Connect p q) tt tt
+  stmt_go (Stmt-F.Disconnect p span) n = acts (Disconnect p) tt tt
+  stmt_go (Stmt-F.Attach p x q span) n = acts (Attach p x q) tt tt
+  stmt_go (Stmt-F.Detach p span) n = acts (Detach p) tt tt
+  stmt_go (Stmt-F.Output p x es span) n = acts (Output p x (arguments S on meant act call here es)) n (arguments_sound es)
+
+  stmt_shown : (x : Stmt-F Stmt Case Stmts) (y : Stmt-F ShownStmt ShownCase ShownStmts) → opened_stmt y ≡ x → StmtSound (roll-Stmt x)
+  stmt_shown x y is = subst (λ (z : Stmt-F Stmt Case Stmts). StmtSound (roll-Stmt z)) is
+      (λ n. subst (λ a. Gives S I {A = Unit {0}} Any a) (sym (stmt_made S on meant act call here (opened_stmt y))) (stmt_go y (sym (named.stmt_made (opened_stmt y)) ∙ n)))
+
+  branch_shown : (x : Case-F Stmt Case Stmts) (y : Case-F ShownStmt ShownCase ShownStmts) → opened_case y ≡ x → BranchSound (roll-Case x)
+  branch_shown x y is = subst (λ (z : Case-F Stmt Case Stmts). BranchSound (roll-Case z)) is
+      (λ n. subst (λ a. CaseSound a) (sym (branch_made S on meant act call here (opened_case y))) (y.body.1 (sym (named.case_made (opened_case y)) ∙ n)))
+
+  stmts_shown : (x : Stmts-F Stmt Case Stmts) (y : Stmts-F ShownStmt ShownCase ShownStmts) → opened_stmts y ≡ x → StmtsSound (roll-Stmts x)
+  stmts_shown x y is = subst (λ (z : Stmts-F Stmt Case Stmts). StmtsSound (roll-Stmts z)) is
+      (λ n. subst (λ a. Gives S I {A = Unit {0}} Any a) (sym (stmts_made S on meant act call here (opened_stmts y))) (all_sound S I (map (stmt S on meant act call here) (map (λ e. e.0) y.stmts)) (shown_stmts y.stmts (sym (named.stmts_made (opened_stmts y)) ∙ n))))
+
+  pub stmts_sound : (x : Stmts) → StmtsSound x
+  stmts_sound = ind-Stmts StmtSound BranchSound StmtsSound stmt_shown branch_shown stmts_shown

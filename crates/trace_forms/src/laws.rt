@@ -1,0 +1,14 @@
+//! The laws. The contract of each function is a law, and the function does nothing.
+
+ghost use Rattle.trace_forms.specs.Laws.{ParametersAreReadable, RunsHaveForm};
+
+/// The values of the parameters of the interactions of a specification that was read can be read, where their types are bounded.
+pub fn parameters_are_readable()
+    ensures { ParametersAreReadable }
+{}
+
+/// The events and the end of every run of an accepted specification have the form that a trace can tell, where the types of
+/// the parameters of its interactions are bounded, and births and outputs can be numbered with 64 bits.
+pub fn runs_have_form()
+    ensures { RunsHaveForm }
+{}
