@@ -1,0 +1,20 @@
+-- ---- runs and their beginnings
+pub mod Prefixes
+pub mod Computed
+pub mod Nexts
+pub mod Starting
+-- ---- lists of firings
+pub mod Lists
+-- ---- selections, faults and ends
+pub mod Faulting
+pub mod Deciding
+pub mod Off
+pub mod Counted
+pub mod Found
+pub mod Closing
+pub mod Refusing
+-- ---- what is kept
+pub mod Replaying
+pub mod Beginning
+pub mod Settling
+pub mod Judged

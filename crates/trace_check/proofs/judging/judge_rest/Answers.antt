@@ -1,0 +1,29 @@
+use Rattle.std.proofs.Common.{◌≡◌, ◌<◌, ◌≤◌, length, ◌∙◌, arith}
+use Rattle.trace_check.proofs.Deciding.{is_so, not_so}
+use Rattle.trace_check.proofs.Judged.{event_wrong, end_wrong, all_right, some_event}
+use Rattle.trace_check.proofs.judging.judge_rest.Goals as goal
+
+pub returns-then-not-branch-clause-refused : goal.returns-then-not-branch-clause-refused
+returns-then-not-branch-clause-refused c =
+    let known = c.loop-index.invariant in
+    let all = c.requires.all in
+    let below = c.loop-index-test.true in
+    let within : c.loop-index.index < length c.args.replay.events.now = omega (arith, all, below) in
+    event_wrong c.args.replay c.loop-index.replay c.args.end c.loop-index.index known.keeps known.program known.budget known.events known.count c.step.new.self c.in_ok-step.field-0 c.in_ok-step.ensures c.if-not-branch.true known.some within
+
+pub returns-then-branch-clause-run : goal.returns-then-branch-clause-run
+returns-then-branch-clause-run c =
+    let known = c.loop-index.invariant in
+    let some = some_event c.args.replay.program.now c.args.replay.budget c.args.replay.events.now c.args.replay c.requires.begun in
+    let all = c.requires.all in
+    let last : c.loop-index.index ≡ c.args.count = omega arith in
+    all_right c.args.replay c.loop-index.replay c.args.end c.args.count known.keeps known.program known.budget known.events (known.count ∙ last) c.requires.all (is_so c.in_ok-may_end.field-0 c.in_ok-may_end.ensures c.if-branch.true)
+
+pub returns-clause-refused : goal.returns-clause-refused
+returns-clause-refused c =
+    let known = c.loop-index.invariant in
+    let some = some_event c.args.replay.program.now c.args.replay.budget c.args.replay.events.now c.args.replay c.requires.begun in
+    let all = c.requires.all in
+    let last : c.loop-index.index ≡ c.args.count = omega arith in
+    let one : 1 ≤ c.args.count = omega arith in
+    end_wrong c.args.replay c.loop-index.replay c.args.end c.args.count known.keeps known.program known.budget known.events (known.count ∙ last) one c.requires.all (not_so c.in_ok-may_end.field-0 c.in_ok-may_end.ensures c.if-branch.false)

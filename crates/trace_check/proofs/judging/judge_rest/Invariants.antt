@@ -1,0 +1,14 @@
+use Rattle.std.proofs.Common.{◌≡◌, ◌≤◌}
+use Rattle.trace_check.specs.Replays.{IsReplay}
+use Rattle.trace_check.proofs.judging.judge_rest.Given as goal
+
+-- the events before this one apply
+abbrev pub invariant-loop-index : goal.invariant-loop-index
+invariant-loop-index l = record {
+  keeps : IsReplay l.replay;
+  program : l.replay.program ≡ l.fn.replay.program;
+  budget : l.replay.budget ≡ l.fn.replay.budget;
+  events : l.replay.events ≡ l.fn.replay.events;
+  count : l.replay.count ≡ l.index;
+  some : 1 ≤ l.index;
+}

@@ -1,0 +1,16 @@
+use Rattle.std.proofs.Common.{◌≡◌, ◌↔◌, [], refl, sym, ◌∙◌}
+use Rattle.std.specs.Prelude.{IsTrue}
+use Rattle.estelle_model.specs.Ends.{IsDead}
+use Rattle.trace_check.specs.Going.{AreOff}
+use Rattle.trace_check.specs.Replays.{now}
+use Rattle.trace_check.proofs.Counted.{vec_empty, if_ok}
+use Rattle.trace_check.proofs.Deciding.{as_well}
+use Rattle.trace_check.proofs.replay.Replay.is_dead.Goals as goal
+
+pub returns : goal.returns
+returns c =
+    let r = c.args.self.now in
+    let o = c.requires in
+    let none : r.pending.items ≡ [] = vec_empty r.pending.items r.pending.len c.is_empty.result c.is_empty.ensures c.if-not-is_empty.false r.pending.ok.0 in
+    if_ok c.all_off.result (λ b. IsTrue b ↔ AreOff r.program.now r.budget (now r) []) (λ b. IsTrue b ↔ IsDead r.program.now r.budget (now r))
+    (λ b h. as_well b h (λ off. record { pending = sym o.holds.pending ∙ none; off = λ m n. off m n refl }) (λ dead m n inside. dead.off m n)) c.all_off.ensures

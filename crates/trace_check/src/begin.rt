@@ -1,0 +1,134 @@
+//! The first event of a trace.
+
+ghost use Rattle.std.specs.Prelude.{◌≡◌, ◌<◌, ◌*◌, ◌^◌, length, take, Some, slice_get, IfOk, MatchOption};
+ghost use Rattle.estelle_model.specs.declared.event.Event.TheVariants as told;
+ghost use Rattle.estelle_model.specs.Firing.{bare};
+ghost use Rattle.estelle_model.specs.Runs.{IsRun};
+ghost use Rattle.estelle_model_legality.specs.Instances.{LeadsToStates};
+ghost use Rattle.effect_log.specs.Putting.{IsRan};
+ghost use Rattle.situation_images.specs.Putting.{MayBePut, IsPutIn};
+ghost use Rattle.trace_check.specs.Replays.{IsFresh, IsOf, HasBegun};
+
+use crate::replay::{Replay, fault_in};
+use body_walker::{Program, fire_plain};
+use delay_timers::Timers;
+use effect_log::Notes;
+use estelle_model::{Done, Event, Out};
+use estelle_tree::Path;
+use pascal_values::Fault;
+use situation_images::{bare_shared, put_start, start_job};
+use std::alloc::{AllocError, Global};
+
+/// Before the start.
+fn fresh<'a>(
+    alloc: Global,
+    program: &'a Program<'a>,
+    budget: u32,
+    events: &'a [Event],
+) -> Result<Replay<'a>, AllocError>
+    ensures fresh { IfOk result IsFresh }
+    ensures of { IfOk result (IsOf program.now budget events.now) }
+{
+    Ok(Replay {
+        program,
+        budget,
+        events,
+        count: 0,
+        shared: bare_shared(alloc, program)?,
+        timers: Timers::none(alloc),
+        pending: Vec::new(alloc),
+        moment: 0,
+        fault: None,
+        notes: Notes::none(alloc),
+    })
+}
+
+impl Replay<'_> {
+    ghost use Rattle.trace_check.specs.Replays.{IsNext, HasJudged, MayBegin, FailsFirst};
+
+    /// Puts what the initialization did into the situation before it.
+    fn put_first(&mut self, done: Done)
+        requires { MayBePut self.old.program.now self.old.shared self.old.notes done (bare self.old.program.now) }
+        ensures put { IsPutIn self.old.program.now (bare self.old.program.now) self.new.shared self.old.notes self.new.notes done }
+        ensures rest { self.new ≡ record self.old { shared = self.new.shared; notes = self.new.notes } }
+    {
+        put_start(self.program, &mut self.shared, done, &mut self.notes);
+    }
+
+    /// Whether the initialization gives these outputs and drops; then it is made.
+    fn start(&mut self, done: Done, outs: &[Out], drops: &[u64]) -> bool
+        requires may { MayBegin self.old done }
+        requires ran { IsRan done.outcome }
+        requires next { IsNext self.old (told.Start outs.now drops.now) }
+        ensures { HasJudged self.old self.new result }
+    {
+        self.put_first(done);
+        if !self.has_noted(outs, drops) {
+            return false;
+        }
+        self.clear_notes();
+        self.count = 1;
+        true
+    }
+
+    /// Whether a fault is that of the initialization; then it ends the run.
+    fn fail_first(&mut self, own: Fault, path: &Path, trans: u32, kind: Fault) -> bool
+        requires fresh { IsFresh self.old }
+        requires fails { FailsFirst self.old own }
+        requires next { IsNext self.old (told.Fault path.now trans kind) }
+        ensures { HasJudged self.old self.new result }
+    {
+        if path.items().is_empty() && trans == 0 && kind == own {
+            self.fault = Some(own);
+            self.count = 1;
+            return true;
+        }
+        false
+    }
+
+    /// Whether the first event is what the initialization comes to; then the situation is the one after it.
+    fn judge_first(&mut self, done: Done, first: &Event) -> bool
+        requires may { MayBegin self.old done }
+        requires next { IsNext self.old first.now }
+        ensures { HasJudged self.old self.new result }
+    {
+        match fault_in(&done.outcome) {
+            None => match first {
+                Event::Start { outs, drops } => self.start(done, outs.as_slice(), drops.as_slice()),
+                Event::Select { .. } => false,
+                Event::Fire { .. } => false,
+                Event::Fault { .. } => false,
+            },
+            Some(own) => match first {
+                Event::Start { .. } => false,
+                Event::Select { .. } => false,
+                Event::Fire { .. } => false,
+                Event::Fault { path, trans, kind } => self.fail_first(own, path, *trans, *kind),
+            },
+        }
+    }
+}
+
+/// The trace after its first event, if that is the start of a run, or its fault.
+pub(crate) fn begin<'a>(
+    alloc: Global,
+    program: &'a Program<'a>,
+    budget: u32,
+    events: &'a [Event],
+    first: &Event,
+) -> Result<Option<Replay<'a>>, AllocError>
+    requires leads { LeadsToStates program.now }
+    requires few { length events.now < 2 ^ 31 }
+    requires room { budget * length events.now < 2 ^ 63 }
+    requires first { slice_get events.now 0 ≡ Some first.now }
+    ensures { IfOk result (λ begun. MatchOption begun (IsRun program.now budget (take 1 events.now) → ⊥) (HasBegun program.now budget events.now)) }
+{
+    let mut replay = fresh(alloc, program, budget, events)?;
+    let done = fire_plain(alloc, program, start_job(alloc, budget))?;
+    replay.reserve(alloc, &done)?;
+    if replay.judge_first(done, first) {
+        Ok(Some(replay))
+    } else {
+        Ok(None)
+    }
+}

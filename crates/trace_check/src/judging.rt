@@ -1,0 +1,65 @@
+//! The judge of events and an end.
+
+ghost use Rattle.std.specs.Prelude.{◌≡◌, ◌<◌, ◌*◌, ◌^◌, length, IfOk, IfErr};
+ghost use Rattle.estelle_model.specs.Subject.{Subject};
+ghost use Rattle.estelle_model.specs.declared.event.Event.{Event as Seen};
+ghost use Rattle.estelle_model_legality.specs.Instances.{LeadsToStates};
+ghost use Rattle.trace_check.specs.Judging.{IsRunTo, IsRefused};
+ghost use Rattle.trace_check.specs.Replays.{HasBegun};
+
+use crate::begin::begin;
+use crate::error::JudgeError;
+use crate::replay::Replay;
+use body_walker_program::Program;
+use estelle_model::{End, Run};
+use std::alloc::Global;
+
+/// Judges the events after the first, and the end.
+fn judge_rest(alloc: Global, mut replay: Replay, count: usize, end: End) -> Result<(), JudgeError>
+    requires few { count < 2 ^ 31 }
+    requires all { count ≡ length replay.events.now }
+    requires begun { HasBegun replay.program.now replay.budget replay.events.now replay }
+    ensures run { IfOk result (λ _. IsRunTo replay.entry.program.now replay.entry.budget replay.entry.events.now end) }
+    ensures refused { IfErr result (IsRefused replay.entry.program.now replay.entry.budget replay.entry.events.now end) }
+{
+    let events = replay.events;
+    for index in 1..count {
+        if !replay.step(alloc, &events[index])? {
+            return Err(JudgeError::NotARun {
+                entry: index as u32 + 1,
+            });
+        }
+    }
+    if replay.may_end(alloc, end)? {
+        Ok(())
+    } else {
+        Err(JudgeError::NotARun {
+            entry: count as u32 + 1,
+        })
+    }
+}
+
+/// Whether events and an end are those of a run with this budget, whatever its schedule was; or the first entry that does not
+/// apply.
+pub fn judge(
+    alloc: Global,
+    program: &Program,
+    budget: u32,
+    run: &Run,
+    end: End,
+) -> Result<(), JudgeError>
+    requires leads { LeadsToStates program.now }
+    requires counted { length run.now.events < 2 ^ 31 }
+    ensures run { IfOk result (λ _. IsRunTo program.now budget run.now.events end) }
+    ensures refused { IfErr result (IsRefused program.now budget run.now.events end) }
+{
+    let events = run.events.as_slice();
+    let Some(first) = events.first() else {
+        return Err(JudgeError::NotARun { entry: 1 });
+    };
+    let begun = begin(alloc, program, budget, events, first)?;
+    match begun {
+        None => Err(JudgeError::NotARun { entry: 1 }),
+        Some(replay) => judge_rest(alloc, replay, events.len(), end),
+    }
+}
