@@ -9,7 +9,7 @@ use Rattle.estelle_model.specs.Situation.{Situation}
 use Rattle.estelle_model.specs.Selection.{is_higher, has_priority, priority}
 use Rattle.estelle_model.specs.Schedule.{offered}
 use Rattle.transition_select.specs.declared.countings.Countable.{Countable}
-use Rattle.transition_select.specs.Countings.{IsCountable, AreCountablesOf, higher, highest, not_below}
+use Rattle.transition_select.specs.Countings.{HasPriority, IsCountable, AreCountedOf, AreCountablesOf, higher, highest, not_below}
 
 -- ---- the higher of two
 
@@ -54,20 +54,20 @@ above_some so_far p (c ∷ cs) =
 -- ---- what is offered
 
 module _ (s : Subject) (budget : ℕ) (g : Situation) (m : Path) where
-  any_numbered : (n : ℕ) (cs : List Countable) → AllByRecursion (IsCountable s budget g m) cs
+  any_numbered : (n : ℕ) (cs : List Countable) → AllByRecursion (HasPriority s g m) cs
       → list_any (λ k. is_higher k.priority (priority s g m n)) cs ≡ list_any (λ k. has_priority s g m k n) (each (λ c. c.trans) cs)
   any_numbered n [] a = refl
-  any_numbered n (c ∷ cs) a = ap (λ p. is_higher p (priority s g m n) || list_any (λ k. is_higher k.priority (priority s g m n)) cs) a.0.priority ∙ ap (λ b. has_priority s g m c.trans n || b) (any_numbered n cs a.1)
+  any_numbered n (c ∷ cs) a = ap (λ p. is_higher p (priority s g m n) || list_any (λ k. is_higher k.priority (priority s g m n)) cs) a.0 ∙ ap (λ b. has_priority s g m c.trans n || b) (any_numbered n cs a.1)
 
   -- the tests of a list of those counted
-  module _ (all : List Countable) (are : AllByRecursion (IsCountable s budget g m) all) where
-    kept : (cs : List Countable) → AllByRecursion (IsCountable s budget g m) cs
+  module _ (all : List Countable) (are : AllByRecursion (HasPriority s g m) all) where
+    kept : (cs : List Countable) → AllByRecursion (HasPriority s g m) cs
         → not_below (highest all) cs ≡ filter (λ n. not (list_any (λ k. has_priority s g m k n) (each (λ c. c.trans) all))) (each (λ c. c.trans) cs)
     kept [] a = refl
     kept (c ∷ cs) a = by (is_higher (highest all) c.priority) (list_any (λ k. has_priority s g m k c.trans) (each (λ c. c.trans) all)) same (kept cs a.1)
       where
         same : is_higher (highest all) c.priority ≡ list_any (λ k. has_priority s g m k c.trans) (each (λ c. c.trans) all)
-        same = ap (is_higher (highest all)) a.0.priority ∙ above_some None (priority s g m c.trans) all ∙ any_numbered c.trans all are
+        same = ap (is_higher (highest all)) a.0 ∙ above_some None (priority s g m c.trans) all ∙ any_numbered c.trans all are
 
         by : (b d : Bool) → b ≡ d → not_below (highest all) cs ≡ filter (λ n. not (list_any (λ k. has_priority s g m k n) (each (λ c. c.trans) all))) (each (λ c. c.trans) cs)
             → each (λ (k : Countable). k.trans) (cond (not b) (c ∷ filter (λ k. not (is_higher (highest all) k.priority)) cs) (filter (λ k. not (is_higher (highest all) k.priority)) cs))
@@ -77,5 +77,12 @@ module _ (s : Subject) (budget : ℕ) (g : Situation) (m : Path) where
         by false true e rest = absurd (cc)
         by false false e rest = ap (λ ns. c.trans ∷ ns) rest
 
-  pub offered_is : (cs : List Countable) → AreCountablesOf s budget g m cs → not_below (highest cs) cs ≡ offered s budget g m
-  offered_is cs are = kept cs are.known cs are.known ∙ ap (λ ns. filter (λ n. not (list_any (λ k. has_priority s g m k n) ns)) ns) are.numbers
+  pub offered_is : (cs : List Countable) → AreCountedOf s budget g m cs → not_below (highest cs) cs ≡ offered s budget g m
+  offered_is cs are = kept cs are.priorities cs are.priorities ∙ ap (λ ns. filter (λ n. not (list_any (λ k. has_priority s g m k n) ns)) ns) are.numbers
+
+  priorities_of : (cs : List Countable) → AllByRecursion (IsCountable s budget g m) cs → AllByRecursion (HasPriority s g m) cs
+  priorities_of [] a = tt
+  priorities_of (c ∷ cs) a = (a.0.priority, priorities_of cs a.1)
+
+  pub counted_of : (cs : List Countable) → AreCountablesOf s budget g m cs → AreCountedOf s budget g m cs
+  counted_of cs are = record { numbers = are.numbers; priorities = priorities_of cs are.known }

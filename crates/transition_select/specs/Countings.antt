@@ -13,12 +13,21 @@ use Rattle.transition_select.specs.declared.countings.Counting.{Counting}
 use Rattle.transition_select.specs.Blocks.{at_and_below}
 use Rattle.transition_select.specs.Offers.{IsOfKind}
 
+-- its priority is that of the transition
+abbrev pub HasPriority : Subject → Situation → Path → Countable → Type 0
+HasPriority s g m c = c.priority ≡ priority s g m c.trans
+
+-- the transitions of an instance that may be selected now, with their priorities
+pub record AreCountedOf (s : Subject) (budget : ℕ) (g : Situation) (m : Path) (cs : List Countable) : Type 0 where
+  pub numbers : each (λ c. c.trans) cs ≡ counted s budget g m
+  pub priorities : AllByRecursion (HasPriority s g m) cs
+
 -- its priority, and whether it must be counted
 pub record IsCountable (s : Subject) (budget : ℕ) (g : Situation) (m : Path) (c : Countable) : Type 0 where
-  pub priority : c.priority ≡ priority s g m c.trans
+  pub priority : HasPriority s g m c
   pub must : c.must ≡ must s budget g m c.trans
 
--- the transitions of an instance that may be selected now
+-- the same, with which of them must be counted
 pub record AreCountablesOf (s : Subject) (budget : ℕ) (g : Situation) (m : Path) (cs : List Countable) : Type 0 where
   pub numbers : each (λ c. c.trans) cs ≡ counted s budget g m
   pub known : AllByRecursion (IsCountable s budget g m) cs

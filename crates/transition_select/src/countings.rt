@@ -74,7 +74,7 @@ fn not_below(
 /// Of the transitions of an instance that may be selected those that it offers: those over which none has priority. An error is
 /// want of memory.
 pub fn offered(alloc: Global, counted: &[Countable]) -> Result<Vec<u32>, AllocError>
-    ensures { (s : Subject) (budget : ℕ) (g : Situation) (m : Seen) → spec.AreCountablesOf s budget g m counted.now → IfOk result (λ numbers. numbers.items ≡ offered s budget g m) }
+    ensures { (s : Subject) (budget : ℕ) (g : Situation) (m : Seen) → spec.AreCountedOf s budget g m counted.now → IfOk result (λ numbers. numbers.items ≡ offered s budget g m) }
 {
     not_below(alloc, highest(counted), counted)
 }
