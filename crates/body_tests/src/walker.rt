@@ -1,7 +1,7 @@
 //! What an evaluator of bodies is made of: whether a value fits a type, and variables that are put and loaded.
 
 use body_walker_program::Program;
-use body_walker_state::{Walk, is_in_order};
+use body_walker_state::{View, Walk};
 use body_walker_values::{Stop, fits};
 use estelle_model::{Denoter, Host, Image, Part, Place};
 use estelle_tree::{Items, Path, SequenceMut};
@@ -55,8 +55,8 @@ fn is_put_and_loaded(alloc: Global, walk: &mut Walk, place: &Place) -> bool {
     unset && put && refused && holds(alloc, walk, place, 7)
 }
 
-fn is_put_in(alloc: Global, program: &Program, image: &Image) -> bool {
-    if !is_in_order(image) {
+fn is_put_in(alloc: Global, program: &Program, view: &View) -> bool {
+    if !view.is_in_order() {
         return false;
     }
     let place = Place::Of {
@@ -64,13 +64,22 @@ fn is_put_in(alloc: Global, program: &Program, image: &Image) -> bool {
         variable: 0,
         way: Items::new(alloc),
     };
-    let mut walk = Walk::new(alloc, program.bodies(), image, 5);
+    let mut walk = Walk::new(alloc, program.bodies(), view, 5);
     is_put_and_loaded(alloc, &mut walk, &place)
+}
+
+fn is_put_into(alloc: Global, program: &Program, image: &Image) -> Result<bool, AllocError> {
+    let mut parts = Vec::new(alloc);
+    for part in image.parts.as_slice() {
+        parts.push(part)?;
+    }
+    let view = View::of(&parts, image.links.as_slice());
+    Ok(is_put_in(alloc, program, &view))
 }
 
 fn is_put_of(alloc: Global, program: &Program) -> bool {
     match unset_image(alloc) {
-        Ok(image) => is_put_in(alloc, program, &image),
+        Ok(image) => matches!(is_put_into(alloc, program, &image), Ok(true)),
         Err(_) => false,
     }
 }

@@ -3,3 +3,4 @@ pub mod RootLemmas
 pub mod FiringLemmas
 pub mod AskedGuards
 pub mod GuardAnswers
+pub mod SettledGuards

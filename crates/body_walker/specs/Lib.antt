@@ -2,3 +2,5 @@
 pub mod Roots
 -- ---- what is run
 pub mod Runs
+-- ---- guards of which nothing is evaluated
+pub mod Settled

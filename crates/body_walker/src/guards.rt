@@ -190,7 +190,8 @@ fn delay(
     }
 }
 
-fn at_once() -> Guard
+/// The guard of a transition that may fire at once.
+pub(crate) fn at_once() -> Guard
     ensures { (s : Subject) → result ≡ clauses.at_once Logged on_log s }
 {
     Guard::On {

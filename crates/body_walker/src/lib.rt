@@ -8,7 +8,10 @@ mod firing;
 mod guards;
 mod plain;
 mod root;
+mod settling;
 
 pub use body_walker_program::Program;
+pub use body_walker_state::View;
 pub use plain::{fire_plain, guard_plain};
 pub use root::root_part;
+pub use settling::settled;

@@ -19,13 +19,14 @@ ghost use Rattle.body_walker.specs.Runs.{logged_guard};
 
 use crate::firing::compute;
 use crate::guards::guard;
+use crate::settling::{is_in_state, is_received};
 use body_walker_program::{Program, with_choices};
-use body_walker_state::{ModuleBodies, Walk, part_at};
+use body_walker_state::{ModuleBodies, View, Walk};
 use body_walker_values::Stop;
-use estelle_model::{Done, Guard, Image, Interaction, Job, Part};
+use estelle_model::{Done, Guard, Interaction, Job, Part};
 use estelle_model_answers::{guards_are_answered, jobs_are_answered};
-use estelle_tree::{Path, Sequence, SequenceMut};
-use flat_transitions::{Transition, When};
+use estelle_tree::{Path, SequenceMut};
+use flat_transitions::Transition;
 use meaning_table::Table;
 use pascal_values::Values;
 use std::alloc::{AllocError, Global};
@@ -58,39 +59,6 @@ pub fn fire_plain(alloc: Global, program: &Program, job: Job) -> Result<Done, Al
     })
 }
 
-/// Whether the instance is in one of the transition's states, or the transition names none.
-fn is_in_state(transition: &Transition, state: Option<u32>) -> bool
-    ensures { result ≡ firing.is_in_state transition.now.from state }
-{
-    match transition.from() {
-        None => true,
-        Some(states) => match state {
-            None => false,
-            Some(state) => states.has(state),
-        },
-    }
-}
-
-/// Whether this is the interaction that a `when` names.
-fn is_named(when: &When, head: Option<&Interaction>) -> bool
-    ensures { result ≡ asked.is_received (Some when.now) (option_copied head.entry) }
-{
-    match head {
-        None => false,
-        Some(head) => when.name().word.items() == head.name.items(),
-    }
-}
-
-/// Whether a transition needs no interaction, or the head is the one that it names.
-fn is_received(transition: &Transition, head: Option<&Interaction>) -> bool
-    ensures { result ≡ asked.is_received transition.now.when (option_copied head.entry) }
-{
-    match transition.when() {
-        None => true,
-        Some(when) => is_named(when, head),
-    }
-}
-
 /// The values of the interaction that is received, if one is.
 fn received_values<'i>(head: Option<&'i Interaction>, none: &'i Values) -> &'i Values
     requires { none.now ≡ [] }
@@ -113,22 +81,22 @@ fn answered(guard: Result<Guard, Stop>) -> Result<Guard, AllocError>
     }
 }
 
-/// `provided` and the delay on what an image shows. The table tells what names mean where those of `any` have values.
+/// `provided` and the delay on what a view shows. The table tells what names mean where those of `any` have values.
 fn guard_on(
     table: &Table,
     bodies: &ModuleBodies,
     alloc: Global,
     path: &Path,
-    image: &Image,
+    view: &View,
     transition: &Transition,
     values: &Values,
     timed: bool,
     budget: u32,
 ) -> Result<Guard, AllocError>
-    requires { InOrder image.now.parts }
-    ensures { meant_with bodies.now transition.now.chosen ≡ meanings_of table.now → IfOk result (λ answer. answer ≡ logged_guard bodies.now path.now image.now values.now timed budget transition.now) }
+    requires { InOrder view.now.parts }
+    ensures { meant_with bodies.now transition.now.chosen ≡ meanings_of table.now → IfOk result (λ answer. answer ≡ logged_guard bodies.now path.now view.now values.now timed budget transition.now) }
 {
-    let mut walk = Walk::new(alloc, bodies, image, budget);
+    let mut walk = Walk::new(alloc, bodies, view, budget);
     answered(guard(
         table, bodies, alloc, &mut walk, path, transition, values, timed,
     ))
@@ -139,14 +107,14 @@ fn guard_of_choices(
     alloc: Global,
     program: &Program,
     path: &Path,
-    image: &Image,
+    view: &View,
     transition: &Transition,
     values: &Values,
     timed: bool,
     budget: u32,
 ) -> Result<Guard, AllocError>
-    requires { InOrder image.now.parts }
-    ensures { IfOk result (λ answer. answer ≡ logged_guard program.now path.now image.now values.now timed budget transition.now) }
+    requires { InOrder view.now.parts }
+    ensures { IfOk result (λ answer. answer ≡ logged_guard program.now path.now view.now values.now timed budget transition.now) }
 {
     let table = with_choices(program.table(), transition.chosen())?;
     guard_on(
@@ -154,7 +122,7 @@ fn guard_of_choices(
         program.bodies(),
         alloc,
         path,
-        image,
+        view,
         transition,
         values,
         timed,
@@ -167,19 +135,19 @@ fn evaluated(
     alloc: Global,
     program: &Program,
     path: &Path,
-    image: &Image,
+    view: &View,
     transition: &Transition,
     head: Option<&Interaction>,
     timed: bool,
     budget: u32,
 ) -> Result<Guard, AllocError>
-    requires { InOrder image.now.parts }
-    ensures { IfOk result (λ answer. answer ≡ asked.guard_run program.now path.now image.now (option_copied head.entry) timed budget transition.now) }
+    requires { InOrder view.now.parts }
+    ensures { IfOk result (λ answer. answer ≡ asked.guard_run program.now path.now view.now (option_copied head.entry) timed budget transition.now) }
 {
     let none = Values::none(alloc);
     let values = received_values(head, &none);
     guard_of_choices(
-        alloc, program, path, image, transition, values, timed, budget,
+        alloc, program, path, view, transition, values, timed, budget,
     )
 }
 
@@ -188,15 +156,15 @@ fn of_transition(
     alloc: Global,
     program: &Program,
     path: &Path,
-    image: &Image,
+    view: &View,
     transition: &Transition,
     state: Option<u32>,
     head: Option<&Interaction>,
     timed: bool,
     budget: u32,
 ) -> Result<Guard, AllocError>
-    requires { InOrder image.now.parts }
-    ensures { IfOk result (λ answer. answer ≡ (if firing.is_in_state transition.now.from state && asked.is_received transition.now.when (option_copied head.entry) then asked.guard_run program.now path.now image.now (option_copied head.entry) timed budget transition.now else Off)) }
+    requires { InOrder view.now.parts }
+    ensures { IfOk result (λ answer. answer ≡ (if firing.is_in_state transition.now.from state && asked.is_received transition.now.when (option_copied head.entry) then asked.guard_run program.now path.now view.now (option_copied head.entry) timed budget transition.now else Off)) }
 {
     if !is_in_state(transition, state) {
         return Ok(Guard::Off);
@@ -204,7 +172,7 @@ fn of_transition(
     if !is_received(transition, head) {
         return Ok(Guard::Off);
     }
-    evaluated(alloc, program, path, image, transition, head, timed, budget)
+    evaluated(alloc, program, path, view, transition, head, timed, budget)
 }
 
 /// The guard of the transition with a number of an instance.
@@ -212,45 +180,43 @@ fn of_part(
     alloc: Global,
     program: &Program,
     path: &Path,
-    image: &Image,
+    view: &View,
     part: &Part,
     trans: u32,
     head: Option<&Interaction>,
     timed: bool,
     budget: u32,
 ) -> Result<Guard, AllocError>
-    requires { InOrder image.now.parts }
-    ensures { IfOk result (λ answer. answer ≡ asked.guard_for program.now path.now image.now trans (option_copied head.entry) timed budget (Some (instance_of part.now))) }
+    requires { InOrder view.now.parts }
+    ensures { IfOk result (λ answer. answer ≡ asked.guard_for program.now path.now view.now trans (option_copied head.entry) timed budget (Some (instance_of part.now))) }
 {
     match program.transition(part.body, trans) {
         None => Ok(Guard::Off),
         Some(transition) => of_transition(
-            alloc, program, path, image, transition, part.state, head, timed, budget,
+            alloc, program, path, view, transition, part.state, head, timed, budget,
         ),
     }
 }
 
-/// The guard of an instance's transition with a number. It copies nothing of the image, unless a function that
-/// it calls assigns to a variable of an instance.
+/// The guard of an instance's transition with a number. Nothing of the image is copied, unless a function that is called
+/// assigns to a variable of an instance. It takes memory for what it evaluates, and halves the parts for each instance that it reads.
 pub fn guard_plain(
     alloc: Global,
     program: &Program,
     path: &Path,
-    image: &Image,
+    view: &View,
     trans: u32,
     head: Option<&Interaction>,
     timed: bool,
     budget: u32,
 ) -> Result<Guard, AllocError>
-    requires { InOrder image.now.parts }
-    ensures computed { IfOk result (λ answer. answer ≡ asked.guard_of_image program.now path.now image.now trans (option_copied head.entry) timed budget) }
-    ensures answers { IfOk result (λ answer. asked.IsGuard program.now path.now image.now trans (option_copied head.entry) timed budget answer) }
+    requires { InOrder view.now.parts }
+    ensures computed { IfOk result (λ answer. answer ≡ asked.guard_of_image program.now path.now view.now trans (option_copied head.entry) timed budget) }
+    ensures answers { IfOk result (λ answer. asked.IsGuard program.now path.now view.now trans (option_copied head.entry) timed budget answer) }
 {
     guards_are_answered();
-    match part_at(image.parts.as_slice(), path) {
+    match view.part(path) {
         None => Ok(Guard::Off),
-        Some(part) => of_part(
-            alloc, program, path, image, part, trans, head, timed, budget,
-        ),
+        Some(part) => of_part(alloc, program, path, view, part, trans, head, timed, budget),
     }
 }

@@ -1,4 +1,5 @@
 pub mod OrderLemmas
+pub mod LentLemmas
 pub mod PartLemmas
 pub mod FollowLemmas
 pub mod BodyLemmas

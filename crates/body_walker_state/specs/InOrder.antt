@@ -1,11 +1,16 @@
 -- Parts in path order.
 use Rattle.std.specs.Prelude.{◌≡◌, ℕ, Bool, List, map as each, fold, slice_get, Option, Some, IsTrue}
+use Rattle.std.specs.Borrow.{Bor}
 use Rattle.std.specs.FinMap as map
 use Rattle.std.specs.FinMap.{find, is_sorted}
 use Rattle.estelle_model.specs.declared.image.Part.{Part}
 use Rattle.estelle_tree.specs.Paths.{Path, path_cmp}
 use Rattle.estelle_model.specs.Core.{Instance, Instances}
 use Rattle.estelle_model.specs.Jobs.{instance_of, insert_part}
+
+-- the parts to which references lead
+abbrev pub parts_behind : List (Bor Part) → List Part
+parts_behind refs = each (λ r. r.now) refs
 
 -- a part as an entry of a map
 abbrev pub entry_of : Part → Path × Instance

@@ -11,5 +11,6 @@ pub mod Alterations
 pub mod Entries
 -- ---- what stores and walks are seen as
 pub mod Kept
+pub mod Seen
 pub mod KeptLinks
 pub mod Shown

@@ -7,15 +7,13 @@ ghost use Rattle.estelle_tree.specs.Paths.{is_inside};
 ghost use Rattle.estelle_model.specs.Effects as effects;
 ghost use Rattle.estelle_model.specs.Effects.{changed_in, instances_after};
 ghost use Rattle.estelle_model.specs.Jobs.{part_of_entry, instance_of};
-ghost use Rattle.body_walker_state.specs.InOrder.{InOrder, instances_of};
+ghost use Rattle.body_walker_state.specs.InOrder.{InOrder, instances_of, parts_behind};
 ghost use Rattle.body_walker_state.specs.Alterations.{altered};
 ghost use Rattle.body_walker_state.specs.Entries.{effect_of};
 
 use crate::alteration::{Alteration, alter_at};
 use crate::log::LogEntry;
-use crate::parts::{
-    find_part, insert_part, keep_outside, kept_parts, own_parts, part_at, shown_parts,
-};
+use crate::parts::{find_shown, insert_part, keep_outside, kept_parts, own_parts, shown_at};
 use body_walker_values::{copy_part_at, into_vec};
 use estelle_model::Part;
 use estelle_tree::{Items, Path};
@@ -25,7 +23,7 @@ use std::marker::Model;
 /// The instances of an image. They are lent, and copied once one of them changes.
 #[derive(Drop)]
 pub struct InstanceMap<'a> {
-    lent: &'a [Part],
+    lent: &'a [&'a Part],
     /// In place of the lent parts, once one has changed.
     own: Vec<Part>,
     is_own: bool,
@@ -49,9 +47,9 @@ impl<'a> Model for InstanceMap<'a> {
 }
 
 impl<'a> InstanceMap<'a> {
-    pub(crate) fn lent(alloc: Global, parts: &'a [Part]) -> InstanceMap<'a>
-        requires { InOrder parts.now }
-        ensures { result ≡ instances_of parts.now }
+    pub(crate) fn lent(alloc: Global, parts: &'a [&'a Part]) -> InstanceMap<'a>
+        requires { InOrder (parts_behind parts.now) }
+        ensures { result ≡ instances_of (parts_behind parts.now) }
     {
         InstanceMap {
             lent: parts,
@@ -74,7 +72,7 @@ impl<'a> InstanceMap<'a> {
     pub(crate) fn get(&self, path: &Path) -> Option<&Part>
         ensures { option_map instance_of (option_copied result) ≡ maps.get self.now path.now }
     {
-        part_at(shown_parts(self.lent, &self.own, self.is_own), path)
+        shown_at(self.lent, &self.own, self.is_own, path)
     }
 
     /// Alters the record of an instance, if it is there.
@@ -86,7 +84,7 @@ impl<'a> InstanceMap<'a> {
     ) -> Result<(), AllocError>
         ensures { OnOk result (self.new ≡ changed_in path.now (altered by.entry) self.old) }
     {
-        match find_part(shown_parts(self.lent, &self.own, self.is_own), path) {
+        match find_shown(self.lent, &self.own, self.is_own, path) {
             Some(place) => {
                 own_parts(alloc, self.lent, &mut self.own, self.is_own)?;
                 self.is_own = true;

@@ -13,6 +13,7 @@ mod instances;
 mod links;
 mod log;
 mod parts;
+mod view;
 mod walk;
 
 pub use alteration::Alteration;
@@ -20,5 +21,6 @@ pub use bodies::{Initialization, ModuleBodies, ModuleBody};
 pub use born::new_part;
 pub use ends::{above, is_bound, is_connected, is_same_path, is_upper};
 pub use log::LogEntry;
-pub use parts::{is_in_order, part_at};
+pub use parts::{copy_parts, is_in_order, part_at};
+pub use view::View;
 pub use walk::Walk;

@@ -8,9 +8,9 @@ ghost use Rattle.estelle_tree.specs.Paths.{path_cmp, is_inside};
 ghost use Rattle.estelle_model.specs.Jobs.{instance_of};
 ghost use Rattle.estelle_model.specs.Places.{held_in};
 ghost use Rattle.body_walker_values.specs.Gives.{Gives};
-ghost use Rattle.body_walker_state.specs.InOrder.{entries_of, are_in_order, InOrder, instance_in, StandsAt};
+ghost use Rattle.body_walker_state.specs.InOrder.{parts_behind, entries_of, are_in_order, InOrder, instance_in, StandsAt};
 
-use body_walker_values::{Stop, copy_parts};
+use body_walker_values::{Stop, copy_part_at};
 use estelle_model::{Image, Part};
 use estelle_tree::{Items, Path};
 use pascal_values::Fault;
@@ -70,21 +70,97 @@ fn nth(parts: &[Part], place: usize) -> Option<&Part>
     parts.get(place)
 }
 
-/// The parts that are shown: the own ones, or the lent ones.
-pub fn shown_parts<'p>(lent: &'p [Part], own: &'p Vec<Part>, is_own: bool) -> &'p [Part]
-    ensures { result.now ≡ (if is_own then own.now.items else lent.now) }
+/// Whether the parts that are lent stand in path order, each path once.
+pub fn are_in_order(parts: &[&Part]) -> bool
+    ensures { result ≡ are_in_order (parts_behind parts.now) }
 {
-    if is_own { own } else { lent }
+    for i in 1..parts.len() {
+        if !compare(&parts[i - 1].path, &parts[i].path).is_lt() {
+            return false;
+        }
+    }
+    true
+}
+
+/// The place of the part with a path, among parts that are lent.
+fn find_lent(parts: &[&Part], path: &Path) -> Option<usize>
+    requires { InOrder (parts_behind parts.now) }
+    ensures { MatchOption result (instance_in (parts_behind parts.now) path.now ≡ None) (λ k. StandsAt (parts_behind parts.now) path.now k) }
+{
+    match parts.binary_search_by(|part| compare(&part.path, path)) {
+        Ok(place) => Some(place),
+        Err(_) => None,
+    }
+}
+
+/// The part with a path, among parts that are lent.
+pub fn lent_at<'p>(parts: &[&'p Part], path: &Path) -> Option<&'p Part>
+    requires { InOrder (parts_behind parts.now) }
+    ensures { option_map instance_of (option_copied result) ≡ instance_in (parts_behind parts.now) path.now }
+{
+    match find_lent(parts, path) {
+        Some(place) => lent_nth(parts, place),
+        None => None,
+    }
+}
+
+fn lent_nth<'p>(parts: &[&'p Part], place: usize) -> Option<&'p Part>
+    ensures { option_copied result ≡ slice_get (parts_behind parts.now) place }
+{
+    match parts.get(place) {
+        Some(part) => Some(*part),
+        None => None,
+    }
+}
+
+/// The place of the part with a path, among those that are shown: the own ones, or the lent ones.
+pub fn find_shown(lent: &[&Part], own: &Vec<Part>, is_own: bool, path: &Path) -> Option<usize>
+    requires { InOrder (if is_own then own.now.items else parts_behind lent.now) }
+    ensures { MatchOption result (instance_in (if is_own then own.now.items else parts_behind lent.now) path.now ≡ None) (λ k. StandsAt (if is_own then own.now.items else parts_behind lent.now) path.now k) }
+{
+    if is_own {
+        find_part(own, path)
+    } else {
+        find_lent(lent, path)
+    }
+}
+
+/// The part with a path, of those that are shown.
+pub fn shown_at<'p>(
+    lent: &[&'p Part],
+    own: &'p Vec<Part>,
+    is_own: bool,
+    path: &Path,
+) -> Option<&'p Part>
+    requires { InOrder (if is_own then own.now.items else parts_behind lent.now) }
+    ensures { option_map instance_of (option_copied result) ≡ instance_in (if is_own then own.now.items else parts_behind lent.now) path.now }
+{
+    if is_own {
+        part_at(own, path)
+    } else {
+        lent_at(lent, path)
+    }
+}
+
+/// Copies of parts that are lent. It takes the time and the memory of all that they hold.
+pub fn copy_parts(alloc: Global, parts: &[&Part]) -> Result<Vec<Part>, AllocError>
+    ensures { IfOk result (λ copies. copies.items ≡ parts_behind parts.now) }
+{
+    let mut copies = Vec::new(alloc);
+    for part in parts {
+        copies.push(copy_part_at(alloc, &part.path, part)?)?;
+    }
+    Ok(copies)
 }
 
 /// Copies the lent parts in place of the own ones, unless these are shown.
 pub fn own_parts(
     alloc: Global,
-    lent: &[Part],
+    lent: &[&Part],
     own: &mut Vec<Part>,
     is_own: bool,
 ) -> Result<(), AllocError>
-    ensures ok { OnOk result (own.new.items ≡ (if is_own then own.old.items else lent.now)) }
+    ensures ok { OnOk result (own.new.items ≡ (if is_own then own.old.items else parts_behind lent.now)) }
     ensures err { OnErr result (own.new ≡ own.old) }
 {
     if !is_own {
@@ -96,11 +172,11 @@ pub fn own_parts(
 /// The parts that are shown: the own ones, or copies of the lent ones.
 pub fn kept_parts(
     alloc: Global,
-    lent: &[Part],
+    lent: &[&Part],
     own: Vec<Part>,
     is_own: bool,
 ) -> Result<Vec<Part>, AllocError>
-    ensures { IfOk result (λ parts. parts.items ≡ (if is_own then own.items else lent.now)) }
+    ensures { IfOk result (λ parts. parts.items ≡ (if is_own then own.items else parts_behind lent.now)) }
 {
     if is_own {
         Ok(own)

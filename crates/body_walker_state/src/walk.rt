@@ -27,6 +27,7 @@ use crate::instances::InstanceMap;
 use crate::links::LinkList;
 use crate::log::{Log, LogEntry};
 use crate::parts::child_of;
+use crate::view::View;
 use body_walker_values::{
     Stop, below, below_frame, fits, host_of, loaded, may_store, part_in, pop_frame, push_frame,
     put_in_frame, result_number, value_in, with_locals,
@@ -65,20 +66,21 @@ impl<'a> Model for Walk<'a> {
 }
 
 impl<'a> Walk<'a> {
-    /// Before the first step, with so many units. It borrows the image.
+    /// Before the first step, with so many units. It takes no memory: the parts and the links stay where they are until one of
+    /// them changes.
     pub fn new(
         alloc: Global,
         bodies: &'a ModuleBodies<'a>,
-        image: &'a Image,
+        view: &View<'a>,
         budget: u32,
     ) -> Walk<'a>
-        requires { InOrder image.now.parts }
-        ensures { running result ≡ fresh (log_from (core_of bodies.now image.now)) budget }
+        requires { InOrder view.now.parts }
+        ensures { running result ≡ fresh (log_from (core_of bodies.now view.now)) budget }
     {
         Walk {
             bodies,
-            instances: InstanceMap::lent(alloc, image.parts.as_slice()),
-            links: LinkList::lent(alloc, image.links.as_slice()),
+            instances: InstanceMap::lent(alloc, view.parts()),
+            links: LinkList::lent(alloc, view.links()),
             log: Log::none(alloc),
             frames: Vec::new(alloc),
             left: budget,

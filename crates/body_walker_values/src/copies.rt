@@ -7,22 +7,6 @@ use estelle_tree::{IpAddr, Items, Link, Path, Sequence, SequenceMut};
 use pascal_values::{Values, copy};
 use std::alloc::{AllocError, Global};
 
-pub fn copy_parts(alloc: Global, parts: &[Part]) -> Result<Vec<Part>, AllocError>
-    ensures { IfOk result (λ copies. copies.items ≡ parts.now) }
-{
-    let mut copies = Vec::new(alloc);
-    for part in parts {
-        copies.push(copy_part(alloc, part)?)?;
-    }
-    Ok(copies)
-}
-
-fn copy_part(alloc: Global, part: &Part) -> Result<Part, AllocError>
-    ensures { IfOk result (λ copy. copy ≡ part.now) }
-{
-    copy_part_at(alloc, &part.path, part)
-}
-
 /// A copy of an instance at another path.
 pub fn copy_part_at(alloc: Global, path: &Path, part: &Part) -> Result<Part, AllocError>
     ensures { IfOk result (λ copy. copy ≡ record part.now { path = path.now }) }

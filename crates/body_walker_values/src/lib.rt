@@ -29,7 +29,7 @@ mod whole;
 pub use arithmetic::{divided, minus, modulo, negation, plus, signed, times};
 pub use belonging::{are_values_of, may_store};
 pub use comparing::related;
-pub use copies::{copy_address, copy_links, copy_part_at, copy_parts, copy_values, into_vec};
+pub use copies::{copy_address, copy_links, copy_part_at, copy_values, into_vec};
 pub use fitting::fits;
 pub use frames::{add_blanks, part_in, pop_frame, push_frame, result_number, with_locals};
 pub use members::{members_from, one_member};

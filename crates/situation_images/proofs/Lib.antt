@@ -2,3 +2,4 @@ pub mod Parts
 pub mod Found
 pub mod Pending
 pub mod Alone
+pub mod Reading

@@ -1,3 +1,4 @@
 pub mod Instances
 pub mod Starts
 pub mod Putting
+pub mod Reading

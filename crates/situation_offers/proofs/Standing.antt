@@ -1,5 +1,5 @@
 -- The parts of a system and of all below it are those of all its instances.
-use Rattle.std.proofs.Common.{List, [], ◌∷◌, refl, sym, subst, ap, inl, inr}
+use Rattle.std.proofs.Common.{List, [], ◌∷◌, refl, subst, inl, inr}
 use Rattle.std.specs.List.{AllByRecursion}
 use Rattle.module_tree.specs.Trees as trees
 use Rattle.estelle_tree.specs.Paths.{Path, is_inside}
@@ -19,14 +19,13 @@ from_each P (x ∷ xs) f = (f x (inl refl), from_each P xs (λ y h. f y (inr h))
 pub all_parts : (t : trees.Tree Part) (g : Situation) → IsTreeOf t g → (system : Path) → AreAll g system (trees.parts_below t.instances system)
 all_parts t g of system = record {
   paths = parts_lie_below t g of system;
-  each_at = from_each (λ p. IsAt g system p.path p.body) (trees.parts_below t.instances system) at;
+  each_at = from_each (IsAt g system) (trees.parts_below t.instances system) at;
 }
   where
-    at : (p : Part) → Has (trees.parts_below t.instances system) p → IsAt g system p.path p.body
+    at : (p : Part) → Has (trees.parts_below t.instances system) p → IsAt g system p
     at p h =
-        let is = parts_are_of_instances t g of system p (contains_has (trees.parts_below t.instances system) p h) in
         let its = each_has (λ (q : Part). q.path) (trees.parts_below t.instances system) p h in
         record {
           inside = (has_filter (is_inside system) (paths g) p.path (subst (λ ps. Has ps p.path) (parts_lie_below t g of system) its)).1;
-          of_body = (is.0, is.1, ap (λ (q : Part). q.body) (sym is.2));
+          of_instance = parts_are_of_instances t g of system p (contains_has (trees.parts_below t.instances system) p h);
         }

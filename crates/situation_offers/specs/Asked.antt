@@ -1,11 +1,14 @@
 -- What guards come to.
-use Rattle.std.specs.Prelude.{◌≡◌, ℕ, IsTrue, List, ◌++◌, map as each}
+use Rattle.std.specs.Prelude.{◌≡◌, ℕ, Bool, Option, IsTrue, List, ◌++◌, map as each}
 use Rattle.std.specs.List.{AllByRecursion}
 use Rattle.estelle_tree.specs.declared.transition.Wanted.{Wanted}
 use Rattle.estelle_tree.specs.Paths.{Path, is_inside}
 use Rattle.estelle_tree.specs.Timers.{Timers}
 use Rattle.estelle_model.specs.declared.image.Image.{Image}
+use Rattle.estelle_model.specs.declared.image.Interaction.{Interaction}
 use Rattle.estelle_model.specs.declared.image.Part.{Part}
+use Rattle.estelle_model.specs.declared.job.Guard.{Guard}
+use Rattle.estelle_model.specs.Asked.{IsGuard}
 use Rattle.estelle_model.specs.Subject.{Subject}
 use Rattle.estelle_model.specs.Situation.{Situation}
 use Rattle.estelle_model.specs.Attributes.{IsSystem}
@@ -20,7 +23,7 @@ use Rattle.delay_timers.specs.Moments.{AreDifferent}
 use Rattle.transition_select.specs.declared.countings.Counting.{Counting}
 use Rattle.transition_select.specs.Blocks.{at_and_below}
 use Rattle.transition_select.specs.Countings.{AreCountablesOf, IsCounting, AreCountings}
-use Rattle.situation_images.specs.Instances.{IsOfBody}
+use Rattle.situation_images.specs.Instances.{IsPartOf}
 use Rattle.situation_offers.specs.declared.guards.Count.{Count}
 use Rattle.situation_offers.specs.declared.guards.Count.TheVariants as count
 use Rattle.situation_offers.specs.declared.guards.Offering.{Offering}
@@ -36,19 +39,23 @@ pub record MayBeAsked (s : Subject) (shared : Shared) (timers : Timers) (g : Sit
   pub running : timers ≡ g.timers
   pub is_system : IsSystem s g system
 
--- the instance is of the system, and of this body
-pub record IsAt (g : Situation) (system m : Path) (body : ℕ) : Type 0 where
-  pub inside : IsTrue (is_inside system m)
-  pub of_body : IsOfBody g m body
+-- the part is that of an instance of the system
+pub record IsAt (g : Situation) (system : Path) (part : Part) : Type 0 where
+  pub inside : IsTrue (is_inside system part.path)
+  pub of_instance : IsPartOf g part
 
 -- the image shows the private part of the instance
 abbrev pub IsImageOf : Subject → Situation → Path → Image → Type 0
 IsImageOf s g m image = image ≡ image_of (private s g.core m)
 
+-- the guard of a transition of the instance, if this is what it finds first at its queue, and whether a timer runs
+abbrev pub IsAnswer : Subject → ℕ → Situation → Path → ℕ → Option Interaction → Bool → Guard → Type 0
+IsAnswer s budget g m n head timed answer = IsGuard s m (image_of (private s g.core m)) n head timed budget answer
+
 -- these are the parts of all instances of the system, in path order
 pub record AreAll (g : Situation) (system : Path) (parts : List Part) : Type 0 where
   pub paths : each (λ p. p.path) parts ≡ at_and_below g system
-  pub each_at : AllByRecursion (λ p. IsAt g system p.path p.body) parts
+  pub each_at : AllByRecursion (IsAt g system) parts
 
 -- ---- answers
 

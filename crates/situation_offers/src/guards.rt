@@ -1,6 +1,7 @@
 //! What the instances of a system count, by their guards.
 
-ghost use Rattle.std.specs.Prelude.{◌≡◌, ℕ, ◌++◌, option_and_then, IfOk, OnOk, map as each};
+ghost use Rattle.std.specs.Prelude.{◌≡◌, ℕ, ◌++◌, option_and_then, IfSome, IfOk, OnOk, map as each};
+ghost use Rattle.std.specs.Option.{option_copied};
 ghost use Rattle.std.specs.FinMap as map;
 ghost use Rattle.estelle_tree.specs.Paths.{Path as Seen};
 ghost use Rattle.estelle_tree.specs.Timers.{pair};
@@ -12,22 +13,20 @@ ghost use Rattle.estelle_model.specs.Delays.{has_delay, renew};
 ghost use Rattle.estelle_model.specs.Selection.{priority};
 ghost use Rattle.estelle_model.specs.Runs.{IsFirstFault};
 ghost use Rattle.estelle_model_legality.specs.Situations.{IsLegal};
-ghost use Rattle.body_walker_state.specs.InOrder.{InOrder};
-ghost use Rattle.situation_images.specs.Instances.{IsOfBody};
+ghost use Rattle.situation_images.specs.Instances.{IsOfBody, IsPartOf};
 ghost use Rattle.effect_log.specs.Standing.{Stands};
 ghost use Rattle.transition_select.specs.Countings.{AreCountablesOf};
 ghost use Rattle.situation_offers.specs.Guards as spec;
-ghost use Rattle.situation_offers.specs.Asked.{MayBeAsked, IsAt, IsImageOf, AreAll, IsCount, IsCountingOf, IsOffering};
+ghost use Rattle.situation_offers.specs.Asked.{MayBeAsked, IsAt, IsImageOf, IsAnswer, AreAll, IsCount, IsCountingOf, IsOffering};
 
-use body_walker::guard_plain;
+use body_walker::{guard_plain, settled};
 use body_walker_program::Program;
-use body_walker_state::is_in_order;
 use delay_timers::Timers;
 use effect_log::Shared;
-use estelle_model::{Attribute, Guard, Image, Part};
+use estelle_model::{Attribute, Guard, Interaction, Part};
 use estelle_tree::{Path, Wanted};
 use pascal_values::Fault;
-use situation_images::{found_head, image_of};
+use situation_images::{Private, found_head};
 use std::alloc::{AllocError, Global};
 use transition_select::{Countable, Counting};
 
@@ -56,43 +55,72 @@ pub enum Offering {
     },
 }
 
-/// The private part of an instance.
-fn image_in_order(
+/// What is held of an instance's private part, or else that part, read now.
+fn private_of<'s>(
     alloc: Global,
     program: &Program,
-    shared: &Shared,
+    shared: &'s Shared,
     path: &Path,
-) -> Result<Image, AllocError>
-    ensures in_order { IfOk result (λ image. InOrder image.parts) }
-    ensures shown { (g : Situation) → Stands program.now shared.now g → IsLegal program.now g → IfOk result (IsImageOf program.now g path.now) }
+    held: Option<Private<'s>>,
+) -> Result<Private<'s>, AllocError>
+    ensures { (g : Situation) → Stands program.now shared.now g → IsLegal program.now g → IfSome held.entry (IsImageOf program.now g path.now) → IfOk result (IsImageOf program.now g path.now) }
 {
-    let image = image_of(alloc, program, shared, path)?;
-    // The instances of an image stand in path order, so that nothing is refused here.
-    if is_in_order(&image) {
-        Ok(image)
-    } else {
-        Err(AllocError)
+    match held {
+        Some(private) => Ok(private),
+        None => Private::of(alloc, program, shared, path),
     }
 }
 
-/// The guard of a transition of an instance, by its image.
-fn guard_of(
+/// The guard of a transition of an instance, by its private part, which is then held.
+fn evaluated<'s>(
     alloc: Global,
     program: &Program,
-    shared: &Shared,
-    timers: &Timers,
+    shared: &'s Shared,
     path: &Path,
-    body: u32,
-    image: &Image,
+    trans: u32,
+    head: Option<&Interaction>,
+    timed: bool,
+    budget: u32,
+    held: &mut Option<Private<'s>>,
+) -> Result<Guard, AllocError>
+    ensures { (g : Situation) → Stands program.now shared.now g → IsLegal program.now g → IfSome held.old (IsImageOf program.now g path.now) → IfOk result (λ answer. IsAnswer program.now budget g path.now trans (option_copied head.entry) timed answer × IfSome held.new (IsImageOf program.now g path.now)) }
+{
+    let private = private_of(alloc, program, shared, path, held.take())?;
+    let answer = guard_plain(
+        alloc,
+        program,
+        path,
+        &private.view(),
+        trans,
+        head,
+        timed,
+        budget,
+    )?;
+    *held = Some(private);
+    Ok(answer)
+}
+
+/// The guard of a transition of an instance. Its private part is read where something has to be evaluated, once for all transitions.
+fn guard_of<'s>(
+    alloc: Global,
+    program: &Program,
+    shared: &'s Shared,
+    timers: &Timers,
+    part: &Part,
     trans: u32,
     budget: u32,
+    held: &mut Option<Private<'s>>,
 ) -> Result<Guard, AllocError>
-    requires { InOrder image.now.parts }
-    ensures { (g : Situation) (system : Seen) → MayBeAsked program.now shared.now timers.now g system → IsOfBody g path.now body → IsImageOf program.now g path.now image.now → IfOk result (λ answer. answer ≡ guard program.now budget g path.now trans) }
+    ensures { (g : Situation) (system : Seen) → MayBeAsked program.now shared.now timers.now g system → IsPartOf g part.now → IfSome held.old (IsImageOf program.now g part.now.path) → IfOk result (λ answer. (answer ≡ guard program.now budget g part.now.path trans) × IfSome held.new (IsImageOf program.now g part.now.path)) }
 {
-    let head = found_head(alloc, program, shared, path, body, trans)?;
-    let timed = timers.has(path, trans);
-    guard_plain(alloc, program, path, image, trans, head, timed, budget)
+    let head = found_head(alloc, program, shared, &part.path, part.body, trans)?;
+    let timed = timers.has(&part.path, trans);
+    match settled(program, part, trans, head, timed) {
+        Some(answer) => Ok(answer),
+        None => evaluated(
+            alloc, program, shared, &part.path, trans, head, timed, budget, held,
+        ),
+    }
 }
 
 /// The priority of a transition of a body.
@@ -243,21 +271,21 @@ fn count_all(
     program: &Program,
     shared: &Shared,
     timers: &Timers,
-    path: &Path,
-    body: u32,
-    image: &Image,
+    part: &Part,
     now: u64,
     budget: u32,
     wanted: &mut Vec<Wanted>,
 ) -> Result<Count, AllocError>
-    requires { InOrder image.now.parts }
-    ensures { (g : Situation) (system : Seen) → MayBeAsked program.now shared.now timers.now g system → IsAt g system path.now body → IsImageOf program.now g path.now image.now → IfOk result (IsCount program.now budget g system now path.now wanted.old.items wanted.new.items) }
+    ensures { (g : Situation) (system : Seen) → MayBeAsked program.now shared.now timers.now g system → IsAt g system part.now → IfOk result (IsCount program.now budget g system now part.now.path wanted.old.items wanted.new.items) }
 {
+    let path = &part.path;
+    let body = part.body;
+    let mut held = None;
     let mut counted = Vec::new(alloc);
     for index in 0..program.transitions(body) {
         let trans = index + 1;
         let answer = guard_of(
-            alloc, program, shared, timers, path, body, image, trans, budget,
+            alloc, program, shared, timers, part, trans, budget, &mut held,
         )?;
         if let Guard::Faulted(kind) = answer {
             return Ok(Count::Faults { trans, kind });
@@ -269,29 +297,6 @@ fn count_all(
         want_if(alloc, delayed, path, trans, answer, wanted)?;
     }
     Ok(Count::Counts(counted))
-}
-
-/// The same; an image is made only where there are transitions.
-fn count_at(
-    alloc: Global,
-    program: &Program,
-    shared: &Shared,
-    timers: &Timers,
-    path: &Path,
-    body: u32,
-    now: u64,
-    budget: u32,
-    wanted: &mut Vec<Wanted>,
-) -> Result<Count, AllocError>
-    ensures { (g : Situation) (system : Seen) → MayBeAsked program.now shared.now timers.now g system → IsAt g system path.now body → IfOk result (IsCount program.now budget g system now path.now wanted.old.items wanted.new.items) }
-{
-    if program.transitions(body) == 0 {
-        return Ok(Count::Counts(Vec::new(alloc)));
-    }
-    let image = image_in_order(alloc, program, shared, path)?;
-    count_all(
-        alloc, program, shared, timers, path, body, &image, now, budget, wanted,
-    )
 }
 
 /// Whether what the children of an instance of a body select is taken together.
@@ -309,15 +314,14 @@ fn is_of_process(program: &Program, body: u32) -> bool
 fn counting(
     alloc: Global,
     program: &Program,
-    path: &Path,
-    body: u32,
+    part: &Part,
     transitions: Vec<Countable>,
 ) -> Result<Counting, AllocError>
-    ensures { (g : Situation) (system : Seen) (now budget : ℕ) → IsLegal program.now g → IsSystem program.now g system → IsAt g system path.now body → AreCountablesOf program.now budget (renew program.now budget g system now) path.now transitions.items → IfOk result (IsCountingOf program.now budget g system now path.now) }
+    ensures { (g : Situation) (system : Seen) (now budget : ℕ) → IsLegal program.now g → IsSystem program.now g system → IsAt g system part.now → AreCountablesOf program.now budget (renew program.now budget g system now) part.now.path transitions.items → IfOk result (IsCountingOf program.now budget g system now part.now.path) }
 {
     Ok(Counting {
-        path: path.copy(alloc)?,
-        of_process: is_of_process(program, body),
+        path: part.path.copy(alloc)?,
+        of_process: is_of_process(program, part.body),
         transitions,
     })
 }
@@ -348,20 +352,19 @@ fn ask_each(
     let mut counts = Vec::new(alloc);
     let mut wanted = Vec::new(alloc);
     for part in parts {
-        let count = count_at(
+        let count = count_all(
             alloc,
             program,
             shared,
             timers,
-            &part.path,
-            part.body,
+            part,
             now,
             budget,
             &mut wanted,
         )?;
         match count {
             Count::Counts(counted) => {
-                counts.push(counting(alloc, program, &part.path, part.body, counted)?)?;
+                counts.push(counting(alloc, program, part, counted)?)?;
             }
             Count::Faults { trans, kind } => return faulted(alloc, &part.path, trans, kind),
         }
@@ -370,7 +373,9 @@ fn ask_each(
 }
 
 /// Asks each guard of a system, in path order and in the order of transitions, and tells what its instances count
-/// once its timers are renewed at the moment `now`. The timers stay as they are.
+/// once its timers are renewed at the moment `now`. The timers stay as they are. Where no guard of an instance has to be evaluated, only its
+/// own record and the heads of its queues are read; else it takes the time of the instances at and below it and of all links, and the
+/// memory of a reference to each of those instances and of the links that they made, once for all its guards.
 pub fn ask(
     alloc: Global,
     program: &Program,

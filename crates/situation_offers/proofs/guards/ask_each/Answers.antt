@@ -20,7 +20,7 @@ returns-in-Faults c = λ g system of all.
     let xs = c.args.parts.now in
     let k = c.loop-part.part-index in
     let part = c.part-item.result.now in
-    let at : IsAt g system part.path part.body = mapped_at (λ (p : Part). IsAt g system p.path p.body) (λ (r : Bor Part). r.now) xs k c.part-item.result c.loop-part-test.true c.part-item.is all.each_at in
+    let at : IsAt g system part = mapped_at (IsAt g system) (λ (r : Bor Part). r.now) xs k c.part-item.result c.loop-part-test.true c.part-item.is all.each_at in
     let first = subst (IsCount s c.args.budget g system c.args.now part.path _ _) c.in-Faults.is (c.in_ok-count.ensures g system of at) in
     c.faulted.ensures s c.args.budget g system c.args.now
     (first_fault (λ (r : Bor Part). r.now.path) s c.args.budget g system c.args.now xs k c.loop-part.counts.items _ (c.loop-part.invariant g system of all)
@@ -32,7 +32,7 @@ loop-part-preserved c = λ g system of all.
     let xs = c.args.parts.now in
     let k = c.loop-part.part-index in
     let part = c.part-item.result.now in
-    let at : IsAt g system part.path part.body = mapped_at (λ (p : Part). IsAt g system p.path p.body) (λ (r : Bor Part). r.now) xs k c.part-item.result c.loop-part-test.true c.part-item.is all.each_at in
+    let at : IsAt g system part = mapped_at (IsAt g system) (λ (r : Bor Part). r.now) xs k c.part-item.result c.loop-part-test.true c.part-item.is all.each_at in
     let count = subst (IsCount s c.args.budget g system c.args.now part.path _ _) c.in-Counts.is (c.in_ok-count.ensures g system of at) in
     let its = c.in_ok-counting-in-Counts.ensures g system c.args.now c.args.budget of.legal of.is_system at count.0 in
     one_more (λ (r : Bor Part). r.now.path) s c.args.budget g system c.args.now xs k c.loop-part.counts.items _ (c.loop-part.invariant g system of all)
