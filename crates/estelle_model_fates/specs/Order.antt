@@ -113,9 +113,13 @@ NoneIsOvertaken = (s : Subject) → LeadsToStates s → (budget : ℕ) (events :
     → (x : ℕ) (a : IpAddr) → IsInQueue s budget events x a i → (k : ℕ) → IsTakenFrom s budget events k a j → (k' : ℕ) × (k' < k) × HasFate s budget events i (Consumed k')
 
 -- Of two outputs that were put into one queue and never moved, where the later one was consumed, an earlier firing consumed the earlier one.
-abbrev pub FirstInFirstOut : Type 0
-FirstInFirstOut = (s : Subject) → LeadsToStates s → (budget : ℕ) (events : List Event) → IsRun s budget events → (i j : ℕ) → i < j → IsNeverMoved s budget events i → IsNeverMoved s budget events j
+abbrev pub AreFirstInFirstOut : Subject → ℕ → List Event → Type 0
+AreFirstInFirstOut s budget events = (i j : ℕ) → i < j → IsNeverMoved s budget events i → IsNeverMoved s budget events j
     → (a : IpAddr) (x y : ℕ) → IsInQueue s budget events x a i → IsInQueue s budget events y a j → (k : ℕ) → HasFate s budget events j (Consumed k) → (k' : ℕ) × (k' < k) × HasFate s budget events i (Consumed k')
+
+-- so it is in every run
+abbrev pub FirstInFirstOut : Type 0
+FirstInFirstOut = (s : Subject) → LeadsToStates s → (budget : ℕ) (events : List Event) → IsRun s budget events → AreFirstInFirstOut s budget events
 
 -- what is moved comes, in its order, after what waited where it goes
 abbrev pub MovesKeepOrder : Type 0

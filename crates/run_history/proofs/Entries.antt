@@ -15,6 +15,10 @@ use Rattle.run_history.specs.Histories.{event_of, project, fires}
 pub project_more : (es : List Entry) (i : ℕ) (e : Entry) → i < length es → project (take (i + 1) es) ≡ project (take i es) ++ project (get_or es i e ∷ [])
 project_more es i e within = ap project (take_more es i e within) ∙ filter_map-append (λ e. event_of e.what) (take i es) (get_or es i e ∷ [])
 
+-- the events of entries with one more behind them
+pub project_last : (es : List Entry) (e : Entry) → project (es ++ e ∷ []) ≡ project es ++ project (e ∷ [])
+project_last es e = filter_map-append (λ e. event_of e.what) es (e ∷ [])
+
 -- the firings of one more entry
 pub fires_more : (es : List Entry) (e : Entry) → fires (es ++ e ∷ []) ≡ fires es + fires (e ∷ [])
 fires_more es e = ap events.fires (filter_map-append (λ e. event_of e.what) es (e ∷ [])) ∙ sum_by-append (λ e. cond (is_fire e) 1 0) (project es) (project (e ∷ []))

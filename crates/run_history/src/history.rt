@@ -128,6 +128,30 @@ fn events_of(alloc: Global, entries: &[Entry]) -> Result<Items<Event>, AllocErro
     Ok(events)
 }
 
+/// Moves the event of an entry behind the others, where the entry is one.
+fn move_event(events: &mut Items<Event>, entry: Entry) -> Result<(), AllocError>
+    ensures { OnOk result (events.new ≡ events.old ++ spec.project (entry ∷ [])) }
+{
+    match entry.what {
+        What::Event(event) => events.push(event),
+        What::Take { .. } => Ok(()),
+        What::Ended(_) => Ok(()),
+    }
+}
+
+/// The events in order, without the rest. It copies none of them; the memory is that of their list.
+#[tactic(auto, using(crate::proofs::Entries::project_last))]
+pub fn into_run(alloc: Global, history: History) -> Result<Run, AllocError>
+    ensures { IfOk result (λ run. run.events ≡ spec.project history.entries) }
+{
+    let History { entries, fires: _ } = history;
+    let mut events = Items::new(alloc);
+    for entry in entries {
+        move_event(&mut events, entry)?;
+    }
+    Ok(Run { events })
+}
+
 /// The events in order, as copies.
 pub fn project(alloc: Global, history: &History) -> Result<Run, AllocError>
     ensures { IfOk result (λ run. run.events ≡ spec.project history.now.entries) }

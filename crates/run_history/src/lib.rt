@@ -2,7 +2,7 @@
 //!
 //! It stands on `estelle_model`. A `History` is seen as the list of its entries and the number of those for which
 //! there is memory. `project` gives the events alone, and `count_fires` how many of them are firings, in constant
-//! time. Only `reserve` and `project` take memory.
+//! time; `into_run` gives them without copies. Only `reserve`, `project` and `into_run` take memory.
 #![tactic(auto)]
 
 mod copies;
@@ -10,4 +10,4 @@ mod entry;
 mod history;
 
 pub use entry::{Entry, What};
-pub use history::{History, count_fires, project};
+pub use history::{History, count_fires, into_run, project};

@@ -20,3 +20,5 @@ pub mod Settling
 pub mod Computed
 pub mod Committed
 pub mod Stopped
+pub mod Refused
+pub mod Finished

@@ -1,6 +1,8 @@
 -- ---- the history of a run, and its end
 pub mod Runs
--- ---- what a world keeps, and what its steps do
+-- ---- what a caller knows of a world, and what its steps do
+pub mod Known
+-- ---- what a world keeps
 pub mod Worlds
 -- ---- what the functions of this crate tell each other
 pub mod Systems

@@ -14,7 +14,7 @@ use body_walker::Program;
 use estelle_model::{End, Run};
 use estelle_tree::{Names, Spec};
 use outside::{Chooser, Clock};
-use run_history::project;
+use run_history::into_run;
 use std::alloc::{AllocError, Global};
 
 impl<H: Chooser + Drop> Course<'_, H> {
@@ -28,8 +28,9 @@ impl<H: Chooser + Drop> Course<'_, H> {
         ensures stopped { (clock moment : Option ℕ) (first : H) → IsReached H.draw clock first self.entry moment
             → IfOk result (λ r. IsStopped H.draw first clock self.entry.program.now self.entry.limits.budget self.entry.limits.turns r.0.events r.1) }
     {
-        let Some(end) = self.end else { unreachable!() };
-        let run = project(alloc, &self.history)?;
+        let Course { history, end, .. } = self;
+        let Some(end) = end else { unreachable!() };
+        let run = into_run(alloc, history)?;
         Ok((run, end))
     }
 }

@@ -4,6 +4,7 @@ ghost use Rattle.std.specs.Prelude.{◌≡◌, ◌≤◌, ◌*◌, ◌+◌, ◌<
 ghost use Rattle.estelle_model.specs.Delays.{has_delays};
 ghost use Rattle.estelle_model.specs.Runs.{IsRun};
 ghost use Rattle.estelle_model_fates.specs.Fates.{HaveOneFate};
+ghost use Rattle.estelle_model_fates.specs.Order.{AreFirstInFirstOut};
 ghost use Rattle.estelle_model_legality.specs.Instances.{LeadsToStates};
 ghost use Rattle.run_history.specs.Histories.{project};
 
@@ -12,10 +13,11 @@ use crate::course::Course;
 use crate::limits::{Limits, Stepped};
 use body_walker::Program;
 use estelle_model::End;
-use estelle_model_fates::outputs_have_one_fate;
+use estelle_model_fates::{first_in_is_first_out, outputs_have_one_fate};
 use outside::{Chooser, Clock};
 use run_history::History;
 use std::alloc::{AllocError, Global};
+use std::marker::Model;
 
 /// A run of a specification with its chooser and its clock.
 #[derive(Drop)]
@@ -24,8 +26,25 @@ pub struct World<'a, C, H> {
     clock: C,
 }
 
+impl<'a, C, H> Model for World<'a, C, H> {
+    ghost use Rattle.std.specs.Coded.{codes};
+    ghost use Rattle.pascal_values.specs.contracts.value.Value as of_values;
+    ghost use Rattle.estelle_tree.specs.contracts.tree.specification.Spec as of_specs;
+    ghost use Rattle.situation.specs.Known.{Known};
+
+    ghost Value = { Known C H };
+
+    ghost coded = { Prim.hlevel (codes, of_specs.the_row.coded, of_values.the_row.coded, C.code, H.code) };
+
+    ghost use Rattle.situation.specs.Worlds.{IsCourse};
+
+    ghost view = { λ w. record { subject = w.course.program.now; limits = w.course.limits; history = w.course.history; end = w.course.end; time = w.course.time; systems = w.course.systems.items; chooser = w.course.chooser; clock = w.clock } };
+
+    ghost invariant = { λ w. IsCourse w.course };
+}
+
 impl<'a, C: Clock + Drop, H: Chooser + Drop> World<'a, C, H> {
-    ghost use Rattle.situation.specs.Worlds.{IsCourse, IsOfProgram, HasBegun, HasStepped, IsUnchanged};
+    ghost use Rattle.situation.specs.Known.{IsOfRun, IsWithinLimits, IsReachedBy, IsPlannedStep, IsAsBefore};
     ghost use Rattle.situation.specs.Steps.{IsCause};
 
     /// Runs the start. The refusal is want of memory.
@@ -38,9 +57,9 @@ impl<'a, C: Clock + Drop, H: Chooser + Drop> World<'a, C, H> {
     ) -> Result<World<'a, C, H>, C>
         requires leads { LeadsToStates program.now }
         requires room { limits.budget * (limits.turns + 1) < 2 ^ 63 }
-        ensures keeps { IfOk result (λ world. IsCourse world.course) }
-        ensures of { IfOk result (λ world. IsOfProgram program.now limits world.course) }
-        ensures begun { IfOk result (λ world. HasBegun H.draw (C.moment clock) chooser world.course) }
+        ensures keeps { IfOk result IsOfRun }
+        ensures of { IfOk result (IsWithinLimits program.now limits) }
+        ensures begun { IfOk result (IsReachedBy H.draw C.moment (C.moment clock) chooser) }
         ensures unasked { IfOk result (λ world. world.clock ≡ clock) }
         ensures clock { IfErr result (λ refused. refused ≡ clock) }
     {
@@ -53,35 +72,37 @@ impl<'a, C: Clock + Drop, H: Chooser + Drop> World<'a, C, H> {
     /// One step: a selection, a firing, a wait for the clock, or the end. After a refusal, which is want of memory, what is kept is
     /// as before, but the chooser may have been drawn from and the clock been asked.
     pub fn step(&mut self, alloc: Global) -> Result<Stepped, AllocError>
-        requires { IsCourse self.old.course }
-        ensures keeps { IsCourse self.new.course }
-        ensures stepped { IfOk result (HasStepped H.draw (C.moment self.old.clock) (C.moment self.new.clock) self.old.course self.new.course) }
-        ensures refused { OnErr result (IsUnchanged self.old.course self.new.course) }
+        ensures keeps { IsOfRun self.new }
+        ensures stepped { IfOk result (IsPlannedStep H.draw C.moment self.old self.new) }
+        ensures refused { OnErr result (IsAsBefore self.old self.new) }
         ensures told { OnErr result (C.moment self.new.clock ≡ C.moment self.old.clock) }
         ensures later { C.faults self.old.clock ≤ C.faults self.new.clock }
-        ensures cause { IfOk result (IsCause self.old.course.end (C.faults self.old.clock) (C.faults self.new.clock)) }
-        ensures unasked { has_delays self.old.course.program.now ≡ false → self.new.clock ≡ self.old.clock }
+        ensures cause { IfOk result (IsCause self.old.end (C.faults self.old.clock) (C.faults self.new.clock)) }
+        ensures unasked { has_delays self.old.subject ≡ false → self.new.clock ≡ self.old.clock }
     {
         self.course.step(alloc, &mut self.clock)
     }
 
     /// The end, once there is one.
     pub fn end(&self) -> Option<End>
-        ensures { result ≡ self.now.course.end }
+        ensures end { result ≡ self.now.end }
+        ensures keeps { IsOfRun self.now }
     {
         self.course.end
     }
 
     /// The history of a run that has ended, its end, and the clock.
     pub fn finish(self) -> (History, End, C)
-        requires { IsSome self.course.end }
-        ensures run { IsCourse self.entry.course → IsRun self.entry.course.program.now self.entry.course.limits.budget (project result.0.entries) }
-        ensures fates { IsCourse self.entry.course → HaveOneFate self.entry.course.program.now self.entry.course.limits.budget (project result.0.entries) }
-        ensures history { result.0 ≡ self.entry.course.history }
-        ensures end { IfSome self.entry.course.end (λ end. result.1 ≡ end) }
+        requires { IsSome self.end }
+        ensures run { IsRun self.entry.subject self.entry.limits.budget (project result.0.entries) }
+        ensures fates { HaveOneFate self.entry.subject self.entry.limits.budget (project result.0.entries) }
+        ensures order { LeadsToStates self.entry.subject → AreFirstInFirstOut self.entry.subject self.entry.limits.budget (project result.0.entries) }
+        ensures history { result.0 ≡ self.entry.history }
+        ensures end { IfSome self.entry.end (λ end. result.1 ≡ end) }
         ensures clock { result.2 ≡ self.entry.clock }
     {
         outputs_have_one_fate();
+        first_in_is_first_out();
         let World { course, clock } = self;
         let Course { history, end, .. } = course;
         match end {

@@ -2,7 +2,7 @@
 
 use estelle_model::{End, Event, Pair, Run};
 use estelle_tree::{Items, Path, Sequence};
-use run_history::{Entry, History, What, count_fires, project};
+use run_history::{Entry, History, What, count_fires, into_run, project};
 use std::alloc::{AllocError, Global};
 use std::process::Abort;
 use std::test::Fail;
@@ -103,6 +103,14 @@ fn the_events_alone(rt: HostRuntime) -> Result<(), Fail> {
     let alloc = rt.alloc();
     let history = told(alloc)?;
     let run = project(alloc, &history)?;
+    are_events(&rt, &run);
+    Ok(())
+}
+
+#[test]
+fn the_events_moved_out(rt: HostRuntime) -> Result<(), Fail> {
+    let alloc = rt.alloc();
+    let run = into_run(alloc, told(alloc)?)?;
     are_events(&rt, &run);
     Ok(())
 }

@@ -1,6 +1,6 @@
 -- What is judged of a trace: which entry is the first that does not apply, or that all apply.
 use Rattle.std.proofs.Common.{◌≡◌, ℕ, suc, ◌+◌, ◌<◌, ◌≤◌, Bool, true, false, List, [], ◌∷◌, take, length, Option, Some, None, refl, sym, subst, ◌∙◌, arith}
-use Rattle.std.specs.Prelude.{is_some, slice_get}
+use Rattle.std.specs.Prelude.{is_some, slice_get, Result, IfOk}
 use Rattle.pascal_values.specs.declared.fault.Fault as fault
 use Rattle.estelle_model.specs.declared.event.Event.{Event}
 use Rattle.estelle_model.specs.declared.event.End.{End}
@@ -9,7 +9,7 @@ use Rattle.estelle_model.specs.Runs.{IsRun}
 use Rattle.estelle_model.specs.Ends.{Closes}
 use Rattle.trace_check.specs.declared.replay.Replay.{Replay}
 use Rattle.trace_check.specs.Judging.{IsRunTo, IsFirstWrong}
-use Rattle.trace_check.specs.Replays.{IsOpen, IsKept, IsReplay, IsNext, HasJudged, HasBegun}
+use Rattle.trace_check.specs.Replays.{IsOpen, IsKept, IsReplay, IsOf, IsNext, HasJudged, HasBegun}
 use Rattle.trace_check.proofs.Refusing.{wrong_event, wrong_end, run_to}
 use Rattle.trace_check.proofs.Replaying.{none_after}
 
@@ -65,6 +65,13 @@ some_event s budget events r h = by r.events.now (subst (λ (n : ℕ). IsRun r.p
     by : (es : List Event) → IsRun r.program.now r.budget (take 1 es) → 1 ≤ length es
     by [] run = absurd run
     by (x ∷ es) run = omega arith
+
+-- what holds of what is judged holds of the events of which it is
+pub told_of : {A E : Type 0} (P : Subject → ℕ → List Event → Type 0) (r : Result A E) (s : Subject) (budget : ℕ) (events told : List Event) (l : Replay) → IsOf s budget events l → events ≡ told
+    → IfOk r (λ _. P l.program.now l.budget l.events.now) → IfOk r (λ _. P s budget told)
+told_of P r s budget events told l of is h =
+    let whole : ◌≡◌ {A = Subject × ℕ × List Event} (l.program.now, l.budget, l.events.now) (s, budget, told) = (λ j. (of.program j, of.budget_is j, (of.events_are ∙ is) j)) in
+    subst (λ (x : Subject × ℕ × List Event). IfOk r (λ _. P x.0 x.1 x.2)) whole h
 
 -- a list without a first element is empty
 pub empty_if : (es : List Event) → slice_get es 0 ≡ None → es ≡ []

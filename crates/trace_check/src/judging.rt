@@ -3,6 +3,8 @@
 ghost use Rattle.std.specs.Prelude.{◌≡◌, ◌<◌, ◌*◌, ◌^◌, length, IfOk, IfErr};
 ghost use Rattle.estelle_model.specs.Subject.{Subject};
 ghost use Rattle.estelle_model.specs.declared.event.Event.{Event as Seen};
+ghost use Rattle.estelle_model_fates.specs.Fates.{HaveOneFate};
+ghost use Rattle.estelle_model_fates.specs.Order.{AreFirstInFirstOut};
 ghost use Rattle.estelle_model_legality.specs.Instances.{LeadsToStates};
 ghost use Rattle.trace_check.specs.Judging.{IsRunTo, IsRefused};
 ghost use Rattle.trace_check.specs.Replays.{HasBegun};
@@ -12,6 +14,7 @@ use crate::error::JudgeError;
 use crate::replay::Replay;
 use body_walker_program::Program;
 use estelle_model::{End, Run};
+use estelle_model_fates::{first_in_is_first_out, outputs_have_one_fate};
 use std::alloc::Global;
 
 /// Judges the events after the first, and the end.
@@ -20,8 +23,12 @@ fn judge_rest(alloc: Global, mut replay: Replay, count: usize, end: End) -> Resu
     requires all { count ≡ length replay.events.now }
     requires begun { HasBegun replay.program.now replay.budget replay.events.now replay }
     ensures run { IfOk result (λ _. IsRunTo replay.entry.program.now replay.entry.budget replay.entry.events.now end) }
+    ensures fates { IfOk result (λ _. HaveOneFate replay.entry.program.now replay.entry.budget replay.entry.events.now) }
+    ensures order { IfOk result (λ _. LeadsToStates replay.entry.program.now → AreFirstInFirstOut replay.entry.program.now replay.entry.budget replay.entry.events.now) }
     ensures refused { IfErr result (IsRefused replay.entry.program.now replay.entry.budget replay.entry.events.now end) }
 {
+    outputs_have_one_fate();
+    first_in_is_first_out();
     let events = replay.events;
     for index in 1..count {
         if !replay.step(alloc, &events[index])? {
@@ -40,7 +47,7 @@ fn judge_rest(alloc: Global, mut replay: Replay, count: usize, end: End) -> Resu
 }
 
 /// Whether events and an end are those of a run with this budget, whatever its schedule was; or the first entry that does not
-/// apply.
+/// apply. Of those that are, each output has exactly one fate, and interactions of one queue that were never moved leave it in order.
 pub fn judge(
     alloc: Global,
     program: &Program,
@@ -51,6 +58,8 @@ pub fn judge(
     requires leads { LeadsToStates program.now }
     requires counted { length run.now.events < 2 ^ 31 }
     ensures run { IfOk result (λ _. IsRunTo program.now budget run.now.events end) }
+    ensures fates { IfOk result (λ _. HaveOneFate program.now budget run.now.events) }
+    ensures order { IfOk result (λ _. LeadsToStates program.now → AreFirstInFirstOut program.now budget run.now.events) }
     ensures refused { IfErr result (IsRefused program.now budget run.now.events end) }
 {
     let events = run.events.as_slice();

@@ -1,4 +1,5 @@
 use Rattle.std.proofs.Common.{◌≡◌, ◌<◌, ◌≤◌, length, ◌∙◌, arith}
+use Rattle.trace_check.specs.Judging.{IsRunTo}
 use Rattle.trace_check.proofs.Deciding.{is_so, not_so}
 use Rattle.trace_check.proofs.Judged.{event_wrong, end_wrong, all_right, some_event}
 use Rattle.trace_check.proofs.judging.judge_rest.Goals as goal
@@ -18,6 +19,18 @@ returns-then-branch-clause-run c =
     let all = c.requires.all in
     let last : c.loop-index.index ≡ c.args.count = omega arith in
     all_right c.args.replay c.loop-index.replay c.args.end c.args.count known.keeps known.program known.budget known.events (known.count ∙ last) c.requires.all (is_so c.in_ok-may_end.field-0 c.in_ok-may_end.ensures c.if-branch.true)
+
+pub returns-then-branch-clause-fates : goal.returns-then-branch-clause-fates
+returns-then-branch-clause-fates c =
+    let r = c.args.replay in
+    let to : IsRunTo r.program.now r.budget r.events.now c.args.end = returns-then-branch-clause-run c in
+    c.outputs_have_one_fate.ensures.one r.program.now r.budget r.events.now to.run
+
+pub returns-then-branch-clause-order : goal.returns-then-branch-clause-order
+returns-then-branch-clause-order c = λ leads.
+    let r = c.args.replay in
+    let to : IsRunTo r.program.now r.budget r.events.now c.args.end = returns-then-branch-clause-run c in
+    c.first_in_is_first_out.ensures.first r.program.now leads r.budget r.events.now to.run
 
 pub returns-clause-refused : goal.returns-clause-refused
 returns-clause-refused c =

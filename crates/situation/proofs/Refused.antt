@@ -1,0 +1,71 @@
+-- After a refusal the run is as before, and so is its end.
+use Rattle.std.proofs.Common.{◌≡◌, ℕ, ◌+◌, ◌≤◌, List, [], ◌∷◌, ◌++◌, length, Option, Some, None, refl, sym, ap, subst, ◌∙◌, arith}
+use Rattle.std.specs.Prelude.{Result, Ok, Err, OnErr}
+use Rattle.std.proofs.lemmas.List.Elements.{filter_map-append}
+use Rattle.std.proofs.lemmas.List.{length-append}
+use Rattle.estelle_model.specs.declared.event.End.{End}
+use Rattle.run_history.specs.declared.entry.Entry.{Entry}
+use Rattle.run_history.specs.declared.entry.What.{What}
+use Rattle.run_history.specs.declared.entry.What.TheVariants as what
+use Rattle.run_history.specs.Histories.{event_of, project}
+use Rattle.run_history.specs.Tickets.{ticket_of, tickets}
+use Rattle.situation.specs.declared.course.Course.{Course}
+use Rattle.situation.specs.Runs.{ending, AreCounted}
+use Rattle.situation.specs.Worlds.{IsKept, IsCourse, IsUnchanged}
+use Rattle.situation.specs.Known.{Known, IsAsBefore}
+
+-- ---- an end among the entries
+
+-- an entry is an event, or a ticket, or neither
+one : (n : ℕ) (w : What) → length (project (record { by = n; what = w } ∷ [])) + length (tickets (record { by = n; what = w } ∷ [])) ≤ 1
+one n (what.Event e) = omega arith
+one n (what.Take k m t) = omega arith
+one n (what.Ended e) = omega arith
+
+projects : (es fs : List Entry) → length (project (es ++ fs)) ≡ length (project es) + length (project fs)
+projects es fs = ap length (filter_map-append (λ (x : Entry). event_of x.what) es fs) ∙ length-append (project es) (project fs)
+
+takes : (es fs : List Entry) → length (tickets (es ++ fs)) ≡ length (tickets es) + length (tickets fs)
+takes es fs = ap length (filter_map-append (λ (x : Entry). ticket_of x.what) es fs) ∙ length-append (tickets es) (tickets fs)
+
+at_most : (es : List Entry) → length (project es) + length (tickets es) ≤ length es
+at_most [] = omega arith
+at_most (e ∷ es) = omega (arith, one e.by e.what, at_most es, projects (e ∷ []) es, takes (e ∷ []) es)
+
+-- with an end they are not all events and tickets
+none_ended : (es : List Entry) (e : End) → AreCounted (es ++ ending e ∷ []) → ⊥
+none_ended es e h = omega (arith, h, at_most es, projects es (ending e ∷ []), takes es (ending e ∷ []), length-append es (ending e ∷ []))
+
+abbrev last_of : Entry → List Entry → Entry
+last_of x [] = x
+last_of x (y ∷ ys) = last_of y ys
+
+last_is : (x : Entry) (es : List Entry) (y : Entry) → last_of x (es ++ y ∷ []) ≡ y
+last_is x [] y = refl
+last_is x (z ∷ es) y = last_is z es y
+
+one_end : (es fs : List Entry) (e f : End) → es ++ ending e ∷ [] ≡ fs ++ ending f ∷ [] → e ≡ f
+one_end es fs e f same =
+    let whole : ending e ≡ ending f = sym (last_is (ending e) es (ending e)) ∙ ap (last_of (ending e)) same ∙ last_is (ending e) fs (ending f) in
+    let inner : what.Ended e ≡ what.Ended f = ap (λ (x : Entry). x.what) whole in
+    cc
+
+-- ---- refusals
+
+module _ {H : Type 0} where
+  end_as_before : (c n : Course H) → IsCourse c → IsUnchanged c n → n.end ≡ c.end
+  end_as_before c n k u = by c.end n.end k u.keeps
+    where
+      by : (x y : Option End) → IsKept c x → IsKept n y → y ≡ x
+      by None None k l = refl
+      by None (Some f) k l = absurd (none_ended l.before f (subst AreCounted (sym u.entries ∙ l.last) k.going.counted))
+      by (Some e) None k l = absurd (none_ended k.before e (subst AreCounted (u.entries ∙ k.last) l.going.counted))
+      by (Some e) (Some f) k l = ap Some (one_end l.before k.before f e (sym l.last ∙ u.entries ∙ k.last))
+
+  -- what a caller knows of a run
+  abbrev seen : {C : Type 0} → Course H → C → Known C H
+  seen c clock = record { subject = c.program.now; limits = c.limits; history = c.history; end = c.end; time = c.time; systems = c.systems.items; chooser = c.chooser; clock = clock }
+
+  pub as_before : {A E C : Type 0} (r : Result A E) (c n : Course H) (clock clock' : C) → IsCourse c → OnErr r (IsUnchanged c n) → OnErr r (IsAsBefore (seen c clock) (seen n clock'))
+  as_before (Ok a) c n clock clock' k u = tt
+  as_before (Err e) c n clock clock' k u = record { subject = ap (λ p. p.now) u.program; limits = u.limits; entries = u.entries; end = end_as_before c n k u; time = u.time }

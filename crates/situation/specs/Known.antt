@@ -1,0 +1,79 @@
+-- What a caller knows of a world.
+use Rattle.std.specs.Prelude.{◌≡◌, ◌<◌, ℕ, ◌+◌, ◌*◌, ◌^◌, List, length, Option, Some, None}
+use Rattle.estelle_model.specs.declared.event.End.{End}
+use Rattle.estelle_model.specs.declared.event.End.TheVariants.{Clock}
+use Rattle.estelle_model.specs.Subject.{Subject}
+use Rattle.estelle_model.specs.Choosers.{Draw}
+use Rattle.estelle_model_legality.specs.Instances.{LeadsToStates}
+use Rattle.run_history.specs.Histories.{History, fires}
+use Rattle.run_history.specs.Tickets.{tickets}
+use Rattle.situation_steps.specs.declared.systems.System.{System}
+use Rattle.situation_steps.specs.declared.systems.Time.{Time}
+use Rattle.situation.specs.declared.limits.Limits.{Limits}
+use Rattle.situation.specs.declared.limits.Stepped.{Stepped}
+use Rattle.situation.specs.declared.limits.Stepped.TheVariants as stepped
+use Rattle.situation.specs.Runs.{IsGoing, IsClosed, AreReached}
+use Rattle.situation.specs.Worlds.{work}
+
+-- a run of a specification as far as it came, with its chooser and its clock
+pub record Known (C H : Type 0) : Type 0 where
+  pub subject : Subject
+  pub limits : Limits
+  pub history : History
+  pub end : Option End
+  pub time : Time
+  -- all systems, in path order
+  pub systems : List System
+  pub chooser : H
+  pub clock : C
+
+module _ {C H : Type 0} where
+  -- the run goes on: bodies lead to states of their own, no count comes to its end, and each firing was taken under a ticket
+  pub record IsUnended (w : Known C H) : Type 0 where
+    pub leads : LeadsToStates w.subject
+    pub room : w.limits.budget * (w.limits.turns + 1) < 2 ^ 63
+    pub going : IsGoing w.subject w.limits.budget w.limits.turns w.history.entries w.time w.systems
+    pub taken : length (tickets w.history.entries) ≡ fires w.history.entries
+
+  abbrev pub IsKnownBy : Known C H → Option End → Type 0
+  IsKnownBy w None = IsUnended w
+  IsKnownBy w (Some e) = IsClosed w.subject w.limits.budget w.limits.turns w.history.entries w.time.waited e
+
+  -- its history is that of a run that goes on, or that ended so
+  abbrev pub IsOfRun : Known C H → Type 0
+  IsOfRun w = IsKnownBy w w.end
+
+  -- it is of this specification, within these limits
+  pub record IsWithinLimits (s : Subject) (limits : Limits) (w : Known C H) : Type 0 where
+    pub subject : w.subject ≡ s
+    pub same : w.limits ≡ limits
+
+  -- from this chooser and a clock that tells the first moment, or none, the planned steps lead to it
+  abbrev pub IsReachedBy : Draw H → (C → Option ℕ) → Option ℕ → H → Known C H → Type 0
+  IsReachedBy draw moment clock first w = AreReached draw w.subject w.limits.budget w.limits.turns clock first w.history.entries w.chooser w.time (moment w.clock)
+
+  -- how many steps there can be before it ends
+  abbrev pub left_to_do : Known C H → ℕ
+  left_to_do w = work w.limits.turns (fires w.history.entries) w.systems w.time.may_wait w.end
+
+  -- a step that is not the end leaves less to do
+  abbrev pub LeavesLess : Known C H → Known C H → Stepped → Type 0
+  LeavesLess before after (stepped.Ended e) = after.end ≡ Some e
+  LeavesLess before after did = left_to_do after < left_to_do before
+
+  -- a step is the planned one
+  pub record IsPlannedStep (draw : Draw H) (moment : C → Option ℕ) (before after : Known C H) (did : Stepped) : Type 0 where
+    pub subject : after.subject ≡ before.subject
+    pub limits : after.limits ≡ before.limits
+    pub reached : (clock : Option ℕ) (first : H) → IsReachedBy draw moment clock first before → IsReachedBy draw moment clock first after
+    pub leaves : LeavesLess before after did
+    -- it has ended by the clock only if it says so
+    pub ends : after.end ≡ Some Clock → did ≡ stepped.Ended Clock
+
+  -- after a refusal the run is as before
+  pub record IsAsBefore (before after : Known C H) : Type 0 where
+    pub subject : after.subject ≡ before.subject
+    pub limits : after.limits ≡ before.limits
+    pub entries : after.history.entries ≡ before.history.entries
+    pub end : after.end ≡ before.end
+    pub time : after.time ≡ before.time
