@@ -1,5 +1,5 @@
 -- ---- lists
-mod Lists
+pub mod Lists
 -- ---- what the names in use mean
 mod Uses
 mod Scopes
@@ -13,14 +13,14 @@ mod FineSpecification
 mod Walk
 mod Bodies
 -- ---- what is declared at a place
-mod Declared
+pub mod Declared
 mod Ways
 mod Leads
 -- ---- the declarations of what spells tokens
 mod Fit
 mod FitTypes
 mod FitSpecification
-mod FitBodies
+pub mod FitBodies
 -- ---- together
 mod Root
 mod Accepted

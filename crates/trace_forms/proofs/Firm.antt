@@ -1,6 +1,6 @@
--- Types that are firm: the bounds of their ordinal types are integers, their enumerations have few values, and no record is empty. Types that are bounded too can be read.
+-- Types that are firm: the bounds of their ordinal types are integers, and of their host types, their enumerations have few values, and no record is empty. Types that are bounded too can be read.
 use Rattle.std.proofs.Common.{◌≡◌, ◌∙◌, ℕ, zero, suc, ◌<◌, Bool, true, false, List, [], ◌∷◌, length, ℤ, pos, negsuc, Result, Ok, Err, Option, Some, None, refl, sym, ap, subst, arith, cond}
-use Rattle.std.specs.Prelude.{◌^◌, ◌-◌, ◌≤ℤ◌, ◌-ℤ◌}
+use Rattle.std.specs.Prelude.{◌^◌, ◌-◌, ◌≤ℤ◌, ◌-ℤ◌, nat_abs}
 use Rattle.std.specs.List.{AllByRecursion}
 use Rattle.std.proofs.lemmas.Bool.Decides.{nat_tests}
 use Rattle.std.proofs.lemmas.Int.{ints}
@@ -22,7 +22,7 @@ use Rattle.estelle_model.specs.Types.{ordinal_of, ordinal_at, whole, least, grea
 use Rattle.estelle_model.specs.Operators.{◌>>>◌, int_at, an_int, signed}
 use Rattle.estelle_model.specs.Constants.{by_sign}
 use Rattle.estelle_model.specs.Denoted.{bound_at}
-use Rattle.trace_forms.specs.Types.{IsOrdinalReadable, IsTypeFormed, NestsWithin, IsReadableType, IsInHost, IsTypeBounded, BoundedWithin, IsBoundedType}
+use Rattle.trace_forms.specs.Types.{IsOrdinalReadable, IsTypeFormed, NestsWithin, IsReadableType, IsTypeBounded, BoundedWithin, IsBoundedType}
 
 -- ---- firm types
 
@@ -31,8 +31,15 @@ abbrev pub IsSmall : Host → Type 0
 IsSmall (host.Enumeration last) = last < 2 ^ 32
 IsSmall _ = Unit {0}
 
+-- the last ordinal of a type of characters or of an enumeration is one that its values can have
+abbrev pub IsLast : Host → ℤ → Type 0
+IsLast host.Integer n = Unit {0}
+IsLast host.Boolean n = Unit {0}
+IsLast host.Char n = nat_abs n < 256
+IsLast (host.Enumeration last) n = nat_abs n < 2 ^ 32
+
 abbrev pub IsFirmLayer : (Denoter → Type 0) → Denoter-F Denoter → Type 0
-IsFirmLayer IsPart (Denoter-F.Ordinal h low high) = IsSmall h × (is_integer low ≡ true) × (is_integer high ≡ true)
+IsFirmLayer IsPart (Denoter-F.Ordinal h low high) = IsSmall h × (is_integer low ≡ true) × (is_integer high ≡ true) × IsLast h high
 IsFirmLayer IsPart (Denoter-F.Set h low high) = Unit {0}
 IsFirmLayer IsPart (Denoter-F.Array low high item) = IsPart item
 IsFirmLayer IsPart (Denoter-F.Fields fields) = (0 < length fields) × AllByRecursion IsPart fields
@@ -45,9 +52,9 @@ FirmTo (suc n) t = IsFirmLayer (FirmTo n) (out-Denoter t)
 abbrev pub Firm : Denoter → Type 0
 Firm t = (n : ℕ) → FirmTo n t
 
-pub firm_ordinal : (h : Host) (low high : ℤ) → IsSmall h → is_integer low ≡ true → is_integer high ≡ true → Firm (denoter.Ordinal h low high)
-firm_ordinal h low high s a b zero = tt
-firm_ordinal h low high s a b (suc n) = subst (IsFirmLayer (FirmTo n)) (sym (denoter.outs-Ordinal h low high)) (s, a, b)
+pub firm_ordinal : (h : Host) (low high : ℤ) → IsSmall h → is_integer low ≡ true → is_integer high ≡ true → IsLast h high → Firm (denoter.Ordinal h low high)
+firm_ordinal h low high s a b l zero = tt
+firm_ordinal h low high s a b l (suc n) = subst (IsFirmLayer (FirmTo n)) (sym (denoter.outs-Ordinal h low high)) (s, a, b, l)
 
 pub firm_set : (h : Host) (low high : ℤ) → Firm (denoter.Set h low high)
 firm_set h low high zero = tt
@@ -75,10 +82,10 @@ number_in (pos n) h = let a = h.1 in natural_in n (omega (arith, ints, a))
 number_in (negsuc n) h = let a = h.0 in absurd (omega (arith, ints, a))
 
 pub whole_firm : (h : Host) → IsSmall h → Firm (whole h)
-whole_firm host.Integer s = firm_ordinal host.Integer (least host.Integer) (greatest host.Integer) s refl refl
-whole_firm host.Boolean s = firm_ordinal host.Boolean (least host.Boolean) (greatest host.Boolean) s refl refl
-whole_firm host.Char s = firm_ordinal host.Char (least host.Char) (greatest host.Char) s refl refl
-whole_firm (host.Enumeration last) s = firm_ordinal (host.Enumeration last) (pos 0) (pos last) s refl (natural_in last (omega (arith, s)))
+whole_firm host.Integer s = firm_ordinal host.Integer (least host.Integer) (greatest host.Integer) s refl refl tt
+whole_firm host.Boolean s = firm_ordinal host.Boolean (least host.Boolean) (greatest host.Boolean) s refl refl tt
+whole_firm host.Char s = firm_ordinal host.Char (least host.Char) (greatest host.Char) s refl refl (omega arith)
+whole_firm (host.Enumeration last) s = firm_ordinal (host.Enumeration last) (pos 0) (pos last) s refl (natural_in last (omega (arith, s))) s
 
 -- ---- constants
 
@@ -124,10 +131,96 @@ pub bound_firm : (r : Result Value Fault) → ResultFirm r → is_integer (bound
 bound_firm (Ok v) h = h
 bound_firm (Err e) h = refl
 
+-- ---- constants of a host
+
+-- a character, by its code
+abbrev pub IsCharacter : Value-F Value → Type 0
+IsCharacter (Value-F.Char n) = n < 256
+IsCharacter _ = ⊥
+
+-- a value of an enumeration, by its ordinal
+abbrev pub IsListed : Value-F Value → Type 0
+IsListed (Value-F.Enum n) = n < 2 ^ 32
+IsListed _ = ⊥
+
+-- a constant of type char is a character, and one of an enumeration is one of few
+abbrev pub IsOfHost : Host → Value-F Value → Type 0
+IsOfHost host.Integer l = Unit {0}
+IsOfHost host.Boolean l = Unit {0}
+IsOfHost host.Char l = IsCharacter l
+IsOfHost (host.Enumeration last) l = IsListed l
+
+-- what is no value is of every type
+abbrev pub ResultOf : Host → Result Value Fault → Type 0
+ResultOf h (Ok v) = IsOfHost h (out-Value v)
+ResultOf h (Err e) = Unit {0}
+
+-- a character is of type char
+pub char_of : (n : ℕ) → n < 256 → IsCharacter (out-Value (value.Char n))
+char_of n h = subst IsCharacter (sym (value.outs-Char n)) h
+
+-- a value of an enumeration is of its type
+pub enum_of : (n : ℕ) → n < 2 ^ 32 → IsListed (out-Value (value.Enum n))
+enum_of n h = subst IsListed (sym (value.outs-Enum n)) h
+
+-- of integers nothing is asked
+pub any_integer : (r : Result Value Fault) → ResultOf host.Integer r
+any_integer (Ok v) = tt
+any_integer (Err e) = tt
+
+-- nor of truth values
+any_boolean : (r : Result Value Fault) → ResultOf host.Boolean r
+any_boolean (Ok v) = tt
+any_boolean (Err e) = tt
+
+-- what is made of an integer alone is of no host of characters and of no enumeration
+from_int : (h : Host) (f : ℤ → Result Value Fault) (l : Value-F Value) → IsOfHost h l → ResultOf h (int_at l >>> f)
+from_int host.Integer f l o = any_integer (int_at l >>> f)
+from_int host.Boolean f l o = any_boolean (int_at l >>> f)
+from_int host.Char f (Value-F.Char n) o = tt
+from_int host.Char f l o = absurd o
+from_int (host.Enumeration last) f (Value-F.Enum n) o = tt
+from_int (host.Enumeration last) f l o = absurd o
+
+-- a plus sign keeps an integer, and gives nothing of another value
+plus_of : (h : Host) (l : Value-F Value) → IsOfHost h l → ResultOf h (an_int (int_at l))
+plus_of host.Integer l o = any_integer (an_int (int_at l))
+plus_of host.Boolean l o = any_boolean (an_int (int_at l))
+plus_of host.Char (Value-F.Char n) o = tt
+plus_of host.Char l o = absurd o
+plus_of (host.Enumeration last) (Value-F.Enum n) o = tt
+plus_of (host.Enumeration last) l o = absurd o
+
+-- a sign changes no host
+pub sign_of : (h : Host) (s : Option Sign) (v : Value) → IsOfHost h (out-Value v) → ResultOf h (by_sign s v)
+unfolding signed
+sign_of h None v o = o
+sign_of h (Some sign.Plus) v o = plus_of h (out-Value v) o
+sign_of h (Some sign.Minus) v o = from_int h (λ n. an_int (difference_of (pos 0) n)) (out-Value v) o
+
+-- the ordinal of a character
+character_last : (l : Value-F Value) → IsCharacter l → nat_abs (bound_at (ordinal_at l)) < 256
+character_last (Value-F.Char n) o = o
+character_last l o = absurd o
+
+-- the ordinal of a value of an enumeration
+listed_last : (l : Value-F Value) → IsListed l → nat_abs (bound_at (ordinal_at l)) < 2 ^ 32
+listed_last (Value-F.Enum n) o = o
+listed_last l o = absurd o
+
+-- a greater bound of the host type is a last ordinal
+pub last_of : (h : Host) (r : Result Value Fault) → ResultOf h r → IsLast h (bound_at (r >>> ordinal_of))
+last_of host.Integer r o = tt
+last_of host.Boolean r o = tt
+last_of host.Char (Ok v) o = character_last (out-Value v) o
+last_of host.Char (Err e) o = omega arith
+last_of (host.Enumeration last) (Ok v) o = listed_last (out-Value v) o
+last_of (host.Enumeration last) (Err e) o = omega arith
+
 -- ---- meanings
 
 abbrev pub MeaningFirm : Meaning → Type 0
-MeaningFirm (Constant v h) = IsSmall h × BoundFirm v
+MeaningFirm (Constant v h) = IsSmall h × BoundFirm v × IsOfHost h (out-Value v)
 MeaningFirm (TypeName t) = Firm t
 MeaningFirm (Interaction kind) = AllByRecursion Firm kind.parameters
 MeaningFirm _ = Unit {0}
@@ -137,11 +230,11 @@ MeaningFirm _ = Unit {0}
 low_in : (low high n : ℤ) → is_integer low ≡ true → is_integer high ≡ true → is_between low high n ≡ true → is_integer n ≡ true
 low_in low high n a b e = grind (arith, ints, nat_tests)
 
-ordinal_readable : (h : Host) (low high : ℤ) → IsSmall h → is_integer low ≡ true → is_integer high ≡ true → IsInHost h high → IsOrdinalReadable h low high
+ordinal_readable : (h : Host) (low high : ℤ) → IsSmall h → is_integer low ≡ true → is_integer high ≡ true → IsLast h high → IsOrdinalReadable h low high
 ordinal_readable host.Integer low high s a b u = λ n e. low_in low high n a b e
 ordinal_readable host.Boolean low high s a b u = tt
 ordinal_readable host.Char low high s a b u = u
-ordinal_readable (host.Enumeration last) low high s a b u = omega (arith, s, u)
+ordinal_readable (host.Enumeration last) low high s a b u = u
 
 module _ (P Q R : Denoter → Type 0) (each : (t : Denoter) → P t → Q t → R t) where
   all_parts : (ts : List Denoter) → AllByRecursion P ts → AllByRecursion Q ts → AllByRecursion R ts
@@ -149,7 +242,7 @@ module _ (P Q R : Denoter → Type 0) (each : (t : Denoter) → P t → Q t → 
   all_parts (t ∷ ts) h k = (each t h.0 k.0, all_parts ts h.1 k.1)
 
   formed : (l : Denoter-F Denoter) → IsFirmLayer P l → IsTypeBounded Q l → IsTypeFormed R l
-  formed (Denoter-F.Ordinal h low high) f b = ordinal_readable h low high f.0 f.1 f.2 b
+  formed (Denoter-F.Ordinal h low high) f b = ordinal_readable h low high f.0 f.1 f.2 f.3
   formed (Denoter-F.Set h low high) f b = tt
   formed (Denoter-F.Array low high item) f b = (b.0, each item f b.1)
   formed (Denoter-F.Fields fields) f b = (f.0, all_parts fields f.1 b)

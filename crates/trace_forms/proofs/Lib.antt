@@ -16,11 +16,17 @@ mod Acts
 -- ---- events and runs
 mod Firings
 mod Runs
+-- ---- what the rules know of constants
+mod Environments
+mod ConstantKinds
+mod Partners
+mod PartnersSpelled
 -- ---- what spells tokens
 mod Passes
 mod Holds
 mod SpelledStatements
 mod Declared
+mod Kept
 mod SpelledTypes
 mod Spelled
 -- ---- together

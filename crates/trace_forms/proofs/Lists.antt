@@ -1,5 +1,5 @@
 -- What holds of each element of a list, and what is one of its elements.
-use Rattle.std.proofs.Common.{◌≡◌, ℕ, zero, suc, Bool, true, false, ◌&&◌, List, [], ◌∷◌, ◌++◌, map, Some, refl, ap, subst, cond, inl, inr}
+use Rattle.std.proofs.Common.{◌≡◌, ℕ, zero, suc, Bool, true, false, ◌&&◌, List, [], ◌∷◌, ◌++◌, map, Some, refl, ap, sym, subst, cond, inl, inr}
 use Rattle.std.specs.Prelude.{filter, flat_map, slice_get}
 use Rattle.std.specs.List.{AllByRecursion, list_all}
 use Rattle.scope_rules.specs.NameRules.{IsOne}
@@ -11,6 +11,16 @@ module _ {A : Type 0} (P : A → Type 0) where
   pub all_append : (xs ys : List A) → AllByRecursion P xs → AllByRecursion P ys → AllByRecursion P (xs ++ ys)
   all_append [] ys h k = k
   all_append (x ∷ xs) ys h k = (h.0, all_append xs ys h.1 k)
+
+  -- what holds of all holds of the first ones
+  pub all_front : (xs ys : List A) → AllByRecursion P (xs ++ ys) → AllByRecursion P xs
+  all_front [] ys h = tt
+  all_front (x ∷ xs) ys h = (h.0, all_front xs ys h.1)
+
+  -- and of the last ones
+  pub all_back : (xs ys : List A) → AllByRecursion P (xs ++ ys) → AllByRecursion P ys
+  all_back [] ys h = h
+  all_back (x ∷ xs) ys h = all_back xs ys h.1
 
   pub all_filter : (test : A → Bool) (xs : List A) → AllByRecursion P xs → AllByRecursion P (filter test xs)
   all_filter test [] h = tt
@@ -47,6 +57,17 @@ all_tests f [] = refl
 all_tests f (x ∷ xs) = ap (λ b. f x && b) (all_tests f xs)
 
 -- ---- one element
+
+-- what holds of all holds of one of them
+pub one_of_all : {A : Type 0} (P : A → Type 0) (xs : List A) (x : A) → AllByRecursion P xs → IsOne x xs → P x
+one_of_all P [] x h o = absurd o
+one_of_all P (y ∷ xs) x h (inl e) = subst P (sym e) h.0
+one_of_all P (y ∷ xs) x h (inr o) = one_of_all P xs x h.1 o
+
+-- what holds of each one holds of all
+pub all_ones : {A : Type 0} (P : A → Type 0) (xs : List A) → ((x : A) → IsOne x xs → P x) → AllByRecursion P xs
+all_ones P [] h = tt
+all_ones P (x ∷ xs) h = (h x (inl refl), all_ones P xs (λ y o. h y (inr o)))
 
 pub one_front : {A : Type 0} (x : A) (xs ys : List A) → IsOne x xs → IsOne x (xs ++ ys)
 one_front x [] ys h = absurd h

@@ -1,6 +1,6 @@
 -- The bodies of a specification that spells tokens: their blocks and routines are told, and a rule speaks of the transitions of each.
 use Rattle.std.proofs.Common.{◌≡◌, ℕ, zero, suc, ◌≤◌, Bool, true, List, [], ◌∷◌, ◌++◌, length, map, Option, Some, None, refl, sym, subst, inl}
-use Rattle.std.specs.Prelude.{◌^◌, flat_map}
+use Rattle.std.specs.Prelude.{◌^◌, flat_map, option_to_list}
 use Rattle.std.specs.List.{AllByRecursion}
 use Rattle.estelle_tree.specs.declared.kind.Kind.{Kind}
 use Rattle.estelle_tree.specs.declared.kind.Kind.TheVariants as k
@@ -22,6 +22,7 @@ use Rattle.estelle_tree.specs.declared.tree.specification.SysAttr.TheVariants as
 use Rattle.estelle_tree.specs.declared.tree.specification.Disc.TheVariants as disc
 use Rattle.estelle_tree.specs.declared.tree.specification.Head.TheVariants as head
 use Rattle.estelle_tree.specs.declared.tree.specification.StatesetDef.{StatesetDef}
+use Rattle.estelle_tree.specs.declared.tree.specification.Init.{Init}
 use Rattle.estelle_tree.specs.declared.tree.specification.Trans.{Trans}
 use Rattle.estelle_tree.specs.declared.tree.specification.Body.{Body, out-Body}
 use Rattle.estelle_tree.specs.declared.tree.specification.Parts.{Parts, out-Parts}
@@ -30,11 +31,12 @@ use Rattle.estelle_tree.specs.declared.tree.specification.Decl.TheOpen.{Decl-F}
 use Rattle.estelle_tree.specs.declared.tree.specification.Spec.{Spec}
 use Rattle.estelle_tree.specs.Input.{Input, input}
 use Rattle.estelle_tree.specs.Spans.{DeclLayer, TransBodyLayer}
-use Rattle.estelle_tree.specs.Spelling.{Spelling}
-use Rattle.estelle_tree.specs.Declarations.{IsFormal, AreFormals, IsStatementPart, IsResult, IsRoutine}
+use Rattle.estelle_tree.specs.Spelling.{Spelling, Chain}
+use Rattle.estelle_tree.specs.Declarations.{IsBlockDecl, IsFormal, AreFormals, IsStatementPart, IsResult, IsRoutine}
 use Rattle.estelle_tree.specs.Clauses.{IsLabel, IsAnyDom, IsNextState, IsBlock, IsDelayHigh, IsClause, way_of, MoreGroups, AreGroups, TransBodyLayerOf, TransBodyOf, GroupOf, GroupWithin, clause_kinds}
 use Rattle.estelle_tree.specs.Specification.{IsSysAttr, IsAttr, IsDisc, IsQueue, IsHead, AreParams, IsParams, MayBeParams, IsInter, AreInters, IsChannel, IsIpDecl, AreModvars, IsStateset, IsHeader, IsInit, IsTrans, BodyOf, DeclLayerOf, DeclOf, PartsOf, PartsBelow}
 use Rattle.estelle_tree.specs.Spells.{Spells, max_nesting}
+use Rattle.estelle_model.specs.Denoted.{typing, section}
 use Rattle.estelle_model.specs.Bodies.{Contribution, BodyAlone, bodies, default_of, Way, behind as behind_clause, ways, trans_body_layer, group_layer, clauses, clauses_layer, clause_group_layer, stateset_declares}
 use Rattle.body_table.specs.Ways.{group_ways, group_clauses}
 use Rattle.body_table.specs.Contributions.{names_at, names_of, bodies_at, bodies_of, brought_of}
@@ -42,6 +44,13 @@ use Rattle.body_table.specs.Standings as stand
 use Rattle.body_table.specs.Standings.{standing, inner, inner_of}
 use Rattle.body_table.proofs.BodyEquations.{parts_is, body_is}
 use Rattle.scope_rules.specs.NameRules.{IsOne}
+use Rattle.type_rules.specs.declared.sites.PlacedSite.{PlacedSite}
+use Rattle.type_rules.specs.Meanings.{Env}
+use Rattle.type_rules.specs.TypeSites.{ordinal_sites}
+use Rattle.type_rules.specs.StatementSites.{stmts as stmts_sites}
+use Rattle.type_rules.specs.SpecificationSites as sites
+use Rattle.type_rules.specs.SpecificationSites.{Part, PlacedPart}
+use Rattle.type_rules.proofs.SpecificationEquations as ruled
 use Rattle.tree_visits.specs.Visit.{Around, Begins}
 use Rattle.tree_visits.specs.Visits as visiting
 use Rattle.tree_visits.specs.Visits.{Visits, visit_of, in_body, in_specification, init_nodes, trans, routines_in, visits}
@@ -50,7 +59,8 @@ use Rattle.trace_forms.proofs.Named.{named_stmts}
 use Rattle.trace_forms.proofs.Passes.{Less, less_same, less_more, less_takes, less_flag, name_less, AllLess, maybe, chain, behind, ended, enclosed, joined, several, separated, lines, may_be_lines, name, names, const_less, expr_less, all_at}
 use Rattle.trace_forms.proofs.Holds.{Holds, AllHold, hold_less, hold_end, hold_both, hold_as, always, hold_chain, hold_behind, hold_optional, hold_enclosed, hold_separated, hold_lines, hold_may_be_lines}
 use Rattle.trace_forms.proofs.SpelledStatements.{Good, stmts_good}
-use Rattle.trace_forms.proofs.Declared.{AllSay, BodyTold, BlockTold, DefinitionsTold, OrdinalFirm, ClauseFirm, VarsTold, consts_say, type_defs_say, vars_say, routine_says, channel_says, header_says, stateset_says}
+use Rattle.trace_forms.proofs.Kept.{Kept, PlacedKept, kept_front, kept_back, placed_front, placed_back, not_placed, each_kept, parts_kept}
+use Rattle.trace_forms.proofs.Declared.{AllSay, BodyTold, BlockTold, DefinitionTold, DefinitionsTold, TypingTold, SectionTold, OrdinalFirm, ClauseFirm, VarsTold, consts_say, type_defs_say, vars_say, routine_says, channel_says, header_says, stateset_says}
 use Rattle.trace_forms.proofs.SpelledTypes.{ordinal_holds, const_def_holds, type_def_holds, vars_hold, definition_holds}
 use Rattle.trace_forms.proofs.Lists.{all_append, one_front, one_back}
 
@@ -68,7 +78,7 @@ formals_less fs i j h = enclosed (separated k.Semicolon formal_less) fs.formals 
 label_less : AllLess IsLabel
 label_less l i j h = less_more (less_takes h.word) (less_more (name_less h.name) (less_takes h.colon))
 
-module _ (room : ℕ) where
+module _ (env : Env) (room : ℕ) where
   part_holds : AllHold (λ ss. named_stmts ss ≡ true) (IsStatementPart room)
   part_holds ss i j h =
       let e = h.stmts in
@@ -78,15 +88,24 @@ module _ (room : ℕ) where
   result_less form.Procedure i j h = less_same h
   result_less (form.Function x) i j h = behind name x i j h
 
-  routine_holds : AllHold (λ r. DefinitionsTold r.decls × (named_stmts r.body ≡ true)) (IsRoutine room)
-  routine_holds r i j h = hold_less
+  -- definitions one after another, where no rule on types is broken
+  definitions_hold : AllHold (λ ds. Kept ((sites.all_of (map sites.block_decl_part ds)).sites env) → DefinitionsTold env ds) (Chain (IsBlockDecl room))
+  definitions_hold ds i j h = hold_as (parts_kept env (DefinitionTold env) sites.block_decl_part ds) (hold_chain (definition_holds env room) ds i j h)
+
+  routine_holds : AllHold (λ r. (at : ℕ) → Kept ((sites.routine at r).sites env) → DefinitionsTold env r.decls × (named_stmts r.body ≡ true)) (IsRoutine room)
+  routine_holds r i j h =
+      let A = flat_map sites.var_formals (sites.formals_of r.formals) in
+      let B = sites.result_sites env r.form in
+      let C = (sites.all_of (map sites.block_decl_part r.decls)).sites env in
+      let D = stmts_sites env r.body in
+      hold_as (λ p at kept. (p.0 (kept_front C D (kept_back B (C ++ D) (kept_back A (B ++ (C ++ D)) kept))), p.1)) (hold_less
       (less_more (behind name r.name i h.after_name h.name) (less_more (maybe formals_less r.formals h.after_name h.after_formals h.formals)
       (less_more (result_less r.form h.after_formals h.after_result h.result) (less_takes h.semicolon))))
-      (hold_both (hold_chain (definition_holds room) r.decls h.after_head h.after_decls h.decls) (part_holds r.body h.after_decls j h.body))
+      (hold_both (definitions_hold r.decls h.after_head h.after_decls h.decls) (part_holds r.body h.after_decls j h.body)))
 
-  block_holds : AllHold BlockTold (IsBlock room)
-  block_holds b i j h = hold_as (λ p. (p.1, p.0)) (hold_less (maybe label_less b.label i h.after_label h.label)
-      (hold_both (hold_end (hold_chain (definition_holds room) b.decls h.after_label h.after_decls h.decls) (maybe label_less b.late_label h.after_decls h.after_late h.late_label))
+  block_holds : AllHold (λ b. Kept ((sites.block b).sites env) → BlockTold env b) (IsBlock room)
+  block_holds b i j h = hold_as (λ p kept. (p.1, p.0 (kept_front ((sites.all_of (map sites.block_decl_part b.decls)).sites env) (stmts_sites env b.body) kept))) (hold_less (maybe label_less b.label i h.after_label h.label)
+      (hold_both (hold_end (definitions_hold b.decls h.after_label h.after_decls h.decls) (maybe label_less b.late_label h.after_decls h.after_late h.late_label))
       (part_holds b.body h.after_late j h.body)))
 
   next_less : AllLess IsNextState
@@ -97,33 +116,33 @@ module _ (room : ℕ) where
   high_less (delay_high.Expr e) i j h = expr_less room e i j h
   high_less delay_high.Star i j h = less_takes h
 
-  domain_holds : AllHold (λ d. OrdinalFirm d.domain) IsAnyDom
-  domain_holds d i j h = hold_less (less_more (names d.names i h.parts.mid h.parts.first) (less_takes h.parts.mark)) (ordinal_holds d.domain h.parts.at j h.parts.second)
+  domain_holds : AllHold (λ d. Kept (ordinal_sites env d.domain) → OrdinalFirm env d.domain) IsAnyDom
+  domain_holds d i j h = hold_less (less_more (names d.names i h.parts.mid h.parts.first) (less_takes h.parts.mark)) (ordinal_holds env d.domain h.parts.at j h.parts.second)
 
-  clause_holds : AllHold ClauseFirm (IsClause room)
-  clause_holds (clause.From states span) i j h = always tt (behind names states i j h.0)
-  clause_holds (clause.To state span) i j h = always tt (behind next_less state i j h.0)
-  clause_holds (clause.When ip x params span) i j h = let w = h.0 in always tt (less_more (less_takes w.word) (less_more (joined name name ip x w.at w.mid w.names) (maybe (enclosed names) params w.mid j w.params)))
-  clause_holds (clause.Provided e span) i j h = always tt (behind (expr_less room) e i j h.0)
-  clause_holds (clause.Priority c span) i j h = always tt (behind const_less c i j h.0)
-  clause_holds (clause.Any domains span) i j h = hold_enclosed (hold_separated k.Semicolon domain_holds) domains i j h.0
+  clause_holds : AllHold (λ c. Kept ((sites.clause_part c).sites env) → ClauseFirm env c) (IsClause room)
+  clause_holds (clause.From states span) i j h = always (λ kept. tt) (behind names states i j h.0)
+  clause_holds (clause.To state span) i j h = always (λ kept. tt) (behind next_less state i j h.0)
+  clause_holds (clause.When ip x params span) i j h = let w = h.0 in always (λ kept. tt) (less_more (less_takes w.word) (less_more (joined name name ip x w.at w.mid w.names) (maybe (enclosed names) params w.mid j w.params)))
+  clause_holds (clause.Provided e span) i j h = always (λ kept. tt) (behind (expr_less room) e i j h.0)
+  clause_holds (clause.Priority c span) i j h = always (λ kept. tt) (behind const_less c i j h.0)
+  clause_holds (clause.Any domains span) i j h = hold_as (each_kept (λ d. OrdinalFirm env d.domain) (λ d. ordinal_sites env d.domain) domains) (hold_enclosed (hold_separated k.Semicolon domain_holds) domains i j h.0)
   clause_holds (clause.Delay low high span) i j h =
       let w = h.0 in
-      always tt (less_more (less_takes w.word) (less_more (less_takes w.opens) (less_more (expr_less room low w.after w.mid w.low) (less_more (maybe (behind high_less) high w.mid w.last w.high) (less_takes w.closes)))))
+      always (λ kept. tt) (less_more (less_takes w.word) (less_more (less_takes w.opens) (less_more (expr_less room low w.after w.mid w.low) (less_more (maybe (behind high_less) high w.mid w.last w.high) (less_takes w.closes)))))
 
   -- ---- the ways to the blocks
 
   abbrev WaysTold : List Way → Type 0
-  WaysTold = AllByRecursion (λ (w : Way). BlockTold w.block)
+  WaysTold = AllByRecursion (λ (w : Way). BlockTold env w.block)
 
   abbrev ClausesFirm : List Clause → Type 0
-  ClausesFirm = AllByRecursion ClauseFirm
+  ClausesFirm = AllByRecursion (ClauseFirm env)
 
   abbrev TransTold : TransBody → Type 0
-  TransTold x = ClausesFirm (clauses x) × WaysTold (ways x)
+  TransTold x = Kept ((sites.trans_body x).sites env) → ClausesFirm (clauses x) × WaysTold (ways x)
 
   abbrev GroupTold : Group → Type 0
-  GroupTold g = ClausesFirm (group_clauses g) × WaysTold (group_ways g)
+  GroupTold g = Kept ((sites.group g).sites env) → ClausesFirm (group_clauses g) × WaysTold (group_ways g)
 
   ways_out : (x : TransBody) → ways x ≡ trans_body_layer (map-TransBody TransBody Group (List Way) (List Way) ways group_ways (out-TransBody x))
   unfolding ways group_ways
@@ -145,11 +164,14 @@ module _ (room : ℕ) where
   behind_told c [] h = tt
   behind_told c (w ∷ ws) h = (h.0, behind_told c ws h.1)
 
-  groups_told : (gs : List Group) → AllByRecursion GroupTold gs → ClausesFirm (flat_map (λ cs. cs) (map group_clauses gs)) × WaysTold (flat_map (λ ws. ws) (map group_ways gs))
-  groups_told [] h = (tt, tt)
-  groups_told (g ∷ gs) h =
-      let more = groups_told gs h.1 in
-      (all_append ClauseFirm (group_clauses g) (flat_map (λ cs. cs) (map group_clauses gs)) h.0.0 more.0, all_append (λ (w : Way). BlockTold w.block) (group_ways g) (flat_map (λ ws. ws) (map group_ways gs)) h.0.1 more.1)
+  groups_told : (gs : List Group) → AllByRecursion GroupTold gs → Kept ((sites.all_of (map sites.group gs)).sites env) → ClausesFirm (flat_map (λ cs. cs) (map group_clauses gs)) × WaysTold (flat_map (λ ws. ws) (map group_ways gs))
+  groups_told [] h kept = (tt, tt)
+  groups_told (g ∷ gs) h kept =
+      let A = (sites.group g).sites env in
+      let B = (sites.all_of (map sites.group gs)).sites env in
+      let first = h.0 (kept_front A B kept) in
+      let more = groups_told gs h.1 (kept_back A B kept) in
+      (all_append (ClauseFirm env) (group_clauses g) (flat_map (λ cs. cs) (map group_clauses gs)) first.0 more.0, all_append (λ (w : Way). BlockTold env w.block) (group_ways g) (flat_map (λ ws. ws) (map group_ways gs)) first.1 more.1)
 
   module _ (G : List Kind → Spelling Group) (holds : (way : List Kind) → AllHold GroupTold (G way)) where
     more_hold : (way : List Kind) (before : Group) → AllHold (AllByRecursion GroupTold) (MoreGroups room G way before)
@@ -161,18 +183,24 @@ module _ (room : ℕ) where
     groups_hold way (g ∷ gs) i j h = hold_both (holds way g i h.0 h.1) (more_hold way g gs h.0 j h.2)
 
     layer_holds : (way : List Kind) (l : TransBodyLayer) (i j : Input) → TransBodyLayerOf room G way l i j
-        → Holds i j (ClausesFirm (clauses_layer (map-TransBody TransBody Group (List Clause) (List Clause) clauses group_clauses l)) × WaysTold (trans_body_layer (map-TransBody TransBody Group (List Way) (List Way) ways group_ways l)))
-    layer_holds way (TransBody-F.Block b) i j h = hold_as (λ p. (tt, (p, tt))) (block_holds b i j h)
+        → Holds i j (Kept ((sites.trans_body_layer (map-TransBody TransBody Group Part Part sites.trans_body sites.group l)).sites env) → ClausesFirm (clauses_layer (map-TransBody TransBody Group (List Clause) (List Clause) clauses group_clauses l)) × WaysTold (trans_body_layer (map-TransBody TransBody Group (List Way) (List Way) ways group_ways l)))
+    layer_holds way (TransBody-F.Block b) i j h = hold_as (λ p kept. (tt, (p kept, tt))) (block_holds b i j h)
     layer_holds way (TransBody-F.Groups gs span) i j h = hold_as (groups_told gs) (groups_hold way gs i j h.0)
 
     trans_body_holds : (way : List Kind) → AllHold TransTold (TransBodyOf room G way)
-    trans_body_holds way x i j h = hold_as (λ p. (subst ClausesFirm (sym (clauses_out x)) p.0, subst WaysTold (sym (ways_out x)) p.1)) (layer_holds way (out-TransBody x) i j h)
+    trans_body_holds way x i j h = hold_as (λ p kept. let q = p (subst (λ (y : Part). Kept (y.sites env)) (ruled.trans_body_is x) kept) in (subst ClausesFirm (sym (clauses_out x)) q.0, subst WaysTold (sym (ways_out x)) q.1)) (layer_holds way (out-TransBody x) i j h)
 
     group_of_holds : (way : List Kind) → AllHold GroupTold (GroupOf room G way)
     group_of_holds way g i j h =
         let c = (out-Group g).clause in
         let b = (out-Group g).body in
-        hold_as (λ p. (subst ClausesFirm (sym (group_clauses_out g)) (p.0, p.1.0), subst WaysTold (sym (group_out g)) (behind_told c (ways b) p.1.1)))
+        let A = (sites.clause_part c).sites env in
+        let B = (sites.trans_body b).sites env in
+        hold_as (λ p kept0.
+        let kept : Kept (A ++ B) = subst (λ (y : Part). Kept (y.sites env)) (ruled.group_is g) kept0 in
+        let first = p.0 (kept_front A B kept) in
+        let more = p.1 (kept_back A B kept) in
+        (subst ClausesFirm (sym (group_clauses_out g)) (first, more.0), subst WaysTold (sym (group_out g)) (behind_told c (ways b) more.1)))
         (hold_both (clause_holds c i h.mid h.clause) (trans_body_holds (way_of way g) b h.mid j h.body))
 
   group_within_holds : (n : ℕ) (way : List Kind) → AllHold GroupTold (GroupWithin room n way)
@@ -182,7 +210,7 @@ module _ (room : ℕ) where
   trans_holds : AllHold (λ t. TransTold t.body) (IsTrans room)
   trans_holds t i j h = hold_behind (trans_body_holds (GroupWithin room (length clause_kinds)) (group_within_holds (length clause_kinds)) []) t.body i j h.body
 
-  init_holds : AllHold (λ x. BlockTold x.block) (IsInit room)
+  init_holds : AllHold (λ x. Kept ((sites.block x.block).sites env) → BlockTold env x.block) (IsInit room)
   init_holds x i j h = hold_less (less_more (less_takes h.word) (maybe (behind name) x.to h.at h.mid h.to)) (block_holds x.block h.mid j h.block)
 
 -- ---- channels and headers
@@ -236,11 +264,11 @@ head_less : AllLess IsHead
 head_less (head.Default d span) i j h = enclosed queue_less d i j h.0
 head_less (head.Timescale unit span) i j h = enclosed name unit i j h.0
 
-header_holds : (room : ℕ) → AllHold (λ x. VarsTold x.exports) (IsHeader room)
-header_holds room x i j h = hold_less
+header_holds : (env : Env) (room : ℕ) → AllHold (λ x. Kept ((sites.header x).sites env) → VarsTold env x.exports) (IsHeader room)
+header_holds env room x i j h = hold_as (parts_kept env (λ x. SectionTold env (section x)) sites.var_decl x.exports) (hold_less
     (less_more (behind name x.name i h.after_name h.name) (less_more (maybe attr_less x.attr h.after_name h.after_attr h.attr) (less_more (may_be_params_less x.params h.after_attr h.after_params h.params)
     (less_more (less_takes h.semicolon) (may_be_lines k.Ip ip_decl_less x.ips h.after_head h.after_ips h.ips)))))
-    (hold_end (hold_may_be_lines k.Export (vars_hold room) x.exports h.after_ips h.after_exports h.exports) (less_more (less_takes h.ends) (less_takes h.last)))
+    (hold_end (hold_may_be_lines k.Export (vars_hold env room) x.exports h.after_ips h.after_exports h.exports) (less_more (less_takes h.ends) (less_takes h.last))))
 
 -- ---- bodies
 
@@ -258,24 +286,25 @@ visited_back : (vs ws : Visits) (bs : List BodyAlone) → AllByRecursion (IsVisi
 visited_back vs ws [] h = tt
 visited_back vs ws (b ∷ bs) h = (record { around = h.0.around; routines = h.0.routines; is_one = one_back _ vs ws h.0.is_one }, visited_back vs ws bs h.1)
 
-module _ (by_default : Bool) where
+module _ (env : Env) (by_default : Bool) where
   -- what is told of the parts of a body
   record PartsTold (p : Parts) : Type 0 where
-    told : (title header : Option Name) → AllByRecursion BodyTold (standing by_default title header p ∷ inner_of by_default p)
+    told : (at : ℕ) → PlacedKept ((sites.parts p).sites env at) → (title header : Option Name) → AllByRecursion (BodyTold env) (standing by_default title header p ∷ inner_of by_default p)
     seen : (title header : Option Name) (a : Around) → AllByRecursion (IsVisited (visiting.parts p a)) (standing by_default title header p ∷ inner_of by_default p)
 
   record DeclTold (d : Decl) : Type 0 where
-    names : AllSay (names_of by_default d)
-    inside : AllByRecursion BodyTold (flat_map (stand.body by_default) (bodies_of d))
+    names : (at : ℕ) → PlacedKept ((sites.decl d).sites env at) → AllSay env (names_of by_default d)
+    inside : (at : ℕ) → PlacedKept ((sites.decl d).sites env at) → AllByRecursion (BodyTold env) (flat_map (stand.body by_default) (bodies_of d))
     seen : (a : Around) → AllByRecursion (IsVisited ((visiting.decl d).visits a)) (flat_map (stand.body by_default) (bodies_of d))
 
   module _ (room : ℕ) (P : Spelling Parts) (all : AllHold PartsTold P) where
-    abbrev LayerTold : DeclLayer → Type 0
-    LayerTold l = AllSay (names_at by_default l) × AllByRecursion BodyTold (flat_map (stand.body by_default) (bodies_at l))
+    -- where rules speak of a declaration
+    abbrev layer_sites : DeclLayer → ℕ → List PlacedSite
+    layer_sites l at = (sites.decl_layer (map-Decl Decl Body Parts PlacedPart PlacedPart PlacedPart sites.decl sites.body sites.parts l)).sites env at
 
-    statesets_say : (xs : List StatesetDef) → AllSay (map stateset_declares xs)
+    statesets_say : (xs : List StatesetDef) → AllSay env (map stateset_declares xs)
     statesets_say [] = tt
-    statesets_say (x ∷ xs) = (stateset_says x, statesets_say xs)
+    statesets_say (x ∷ xs) = (stateset_says env x, statesets_say xs)
 
     body_holds : AllHold (λ b. PartsTold (out-Body b).parts) (BodyOf room P)
     body_holds b i j h = let o = out-Body b in hold_less
@@ -286,23 +315,44 @@ module _ (by_default : Bool) where
     abbrev BodiesTold : DeclLayer → Type 0
     BodiesTold l = AllByRecursion (λ b. PartsTold (out-Body b).parts) (bodies_at l)
 
-    layer_told : (l : DeclLayer) (i j : Input) → DeclLayerOf room P l i j → Holds i j (AllSay (names_at by_default l) × BodiesTold l)
-    layer_told (Decl-F.Const defs span) i j h = hold_as (λ p. (consts_say defs p, tt)) (hold_behind (hold_lines const_def_holds) defs i j h.0)
-    layer_told (Decl-F.Types defs span) i j h = hold_as (λ p. (type_defs_say defs p, tt)) (hold_behind (hold_lines (type_def_holds room)) defs i j h.0)
-    layer_told (Decl-F.Channel c) i j h = always (channel_says c, tt) (channel_less c i j h)
-    layer_told (Decl-F.Header x) i j h = hold_as (λ p. (header_says by_default x p, tt)) (header_holds room x i j h)
-    layer_told (Decl-F.Body b) i j h = hold_as (λ p. (tt, (p, tt))) (body_holds b i j h)
-    layer_told (Decl-F.Ip ips span) i j h = always (tt, tt) (behind (lines ip_decl_less) ips i j h.0)
-    layer_told (Decl-F.Modvar ms span) i j h = always (tt, tt) (behind (lines modvars_less) ms i j h.0)
-    layer_told (Decl-F.Var vars span) i j h = hold_as (λ p. (vars_say vars p, tt)) (hold_behind (hold_lines (vars_hold room)) vars i j h.0)
-    layer_told (Decl-F.State states span) i j h = always (tt, tt) (enclosed names states i j h.0)
-    layer_told (Decl-F.Stateset sets span) i j h = always (statesets_say sets, tt) (behind (lines stateset_less) sets i j h.0)
-    layer_told (Decl-F.Routine r) i j h = hold_as (λ p. (routine_says r p.1 p.0, tt)) (routine_holds room r i j h)
+    -- what a declaration that the rules do not refuse says is told
+    abbrev SaysKept : DeclLayer → Type 0
+    SaysKept l = (at : ℕ) → PlacedKept (layer_sites l at) → AllSay env (names_at by_default l)
 
-    bodies_told : (bs : List Body) → AllByRecursion (λ b. PartsTold (out-Body b).parts) bs → AllByRecursion BodyTold (flat_map (stand.body by_default) bs)
-    bodies_told [] h = tt
-    bodies_told (b ∷ bs) h = all_append BodyTold (stand.body by_default b) (flat_map (stand.body by_default) bs)
-        (subst (AllByRecursion BodyTold) (sym (body_is by_default b)) (h.0.told (Some (out-Body b).name) (Some (out-Body b).header))) (bodies_told bs h.1)
+    layer_told : (l : DeclLayer) (i j : Input) → DeclLayerOf room P l i j → Holds i j (SaysKept l × BodiesTold l)
+    layer_told (Decl-F.Const defs span) i j h = hold_as (λ p. (λ at kept. consts_say env defs p, tt)) (hold_behind (hold_lines const_def_holds) defs i j h.0)
+    layer_told (Decl-F.Types defs span) i j h =
+        hold_as (λ p. (λ at kept. type_defs_say env defs (parts_kept env (λ d. TypingTold env (typing d.type_expr)) sites.type_def defs p (not_placed (sites.in_body at) _ kept)), tt)) (hold_behind (hold_lines (type_def_holds env room)) defs i j h.0)
+    layer_told (Decl-F.Channel c) i j h = always (λ at kept. channel_says env c, tt) (channel_less c i j h)
+    layer_told (Decl-F.Header x) i j h = hold_as (λ p. (λ at kept. header_says env by_default x (p (not_placed (sites.in_body at) _ kept)), tt)) (header_holds env room x i j h)
+    layer_told (Decl-F.Body b) i j h = hold_as (λ p. (λ at kept. tt, (p, tt))) (body_holds b i j h)
+    layer_told (Decl-F.Ip ips span) i j h = always (λ at kept. tt, tt) (behind (lines ip_decl_less) ips i j h.0)
+    layer_told (Decl-F.Modvar ms span) i j h = always (λ at kept. tt, tt) (behind (lines modvars_less) ms i j h.0)
+    layer_told (Decl-F.Var vars span) i j h =
+        hold_as (λ p. (λ at kept. vars_say env vars (parts_kept env (λ x. SectionTold env (section x)) sites.var_decl vars p (not_placed (sites.in_body at) _ kept)), tt)) (hold_behind (hold_lines (vars_hold env room)) vars i j h.0)
+    layer_told (Decl-F.State states span) i j h = always (λ at kept. tt, tt) (enclosed names states i j h.0)
+    layer_told (Decl-F.Stateset sets span) i j h = always (λ at kept. statesets_say sets, tt) (behind (lines stateset_less) sets i j h.0)
+    layer_told (Decl-F.Routine r) i j h = hold_as (λ p. (λ at kept. let q = p at (not_placed (sites.in_routine at r) _ kept) in routine_says env r q.1 q.0, tt)) (routine_holds env room r i j h)
+
+    -- a body in which no rule on types is broken
+    body_told : (b : Body) (at : ℕ) → PartsTold (out-Body b).parts → PlacedKept ((sites.body b).sites env at) → AllByRecursion (BodyTold env) (stand.body by_default b)
+    body_told b at p kept =
+        let o = out-Body b in
+        subst (AllByRecursion (BodyTold env)) (sym (body_is by_default b)) (p.told o.span.start (subst PlacedKept (ruled.body_sites b env at) kept) (Some o.name) (Some o.header))
+
+    -- the bodies in a declaration
+    inside_told : (l : DeclLayer) → BodiesTold l → (at : ℕ) → PlacedKept (layer_sites l at) → AllByRecursion (BodyTold env) (flat_map (stand.body by_default) (bodies_at l))
+    inside_told (Decl-F.Body b) h at kept = all_append (BodyTold env) (stand.body by_default b) [] (body_told b at h.0 kept) tt
+    inside_told (Decl-F.Const defs span) h at kept = tt
+    inside_told (Decl-F.Types defs span) h at kept = tt
+    inside_told (Decl-F.Channel c) h at kept = tt
+    inside_told (Decl-F.Header x) h at kept = tt
+    inside_told (Decl-F.Ip ips span) h at kept = tt
+    inside_told (Decl-F.Modvar ms span) h at kept = tt
+    inside_told (Decl-F.Var vars span) h at kept = tt
+    inside_told (Decl-F.State states span) h at kept = tt
+    inside_told (Decl-F.Stateset sets span) h at kept = tt
+    inside_told (Decl-F.Routine r) h at kept = tt
 
     body_seen : (b : Body) (a : Around) → PartsTold (out-Body b).parts → AllByRecursion (IsVisited (visiting.body b a)) (stand.body by_default b)
     body_seen b a p =
@@ -326,18 +376,28 @@ module _ (by_default : Bool) where
 
     decl_told : AllHold DeclTold (DeclOf room P)
     decl_told d i j h = hold_as (λ t. record {
-      names = t.0;
-      inside = bodies_told (bodies_of d) t.1;
+      names = λ at kept. t.0 at (subst (λ (p : PlacedPart). PlacedKept (p.sites env at)) (ruled.decl_is d) kept);
+      inside = λ at kept. inside_told (out-Decl d) t.1 at (subst (λ (p : PlacedPart). PlacedKept (p.sites env at)) (ruled.decl_is d) kept);
       seen = λ a. subst (λ (x : visiting.Declaring). AllByRecursion (IsVisited (x.visits a)) (flat_map (stand.body by_default) (bodies_of d))) (sym (visited.decl_is d)) (layer_seen (out-Decl d) t.1 a);
     }) (layer_told (out-Decl d) i j h)
 
-    brought_told : (ds : List Decl) → AllByRecursion DeclTold ds → AllByRecursion (λ (c : Contribution). AllSay c.names) (map (brought_of by_default) ds)
-    brought_told [] h = tt
-    brought_told (d ∷ ds) h = (h.0.names, brought_told ds h.1)
+    -- where rules speak of declarations one after another
+    abbrev decls_sites : List Decl → ℕ → List PlacedSite
+    decls_sites ds at = flat_map (λ d. (sites.decl d).sites env at) ds
 
-    inner_told : (ds : List Decl) → AllByRecursion DeclTold ds → AllByRecursion BodyTold (inner by_default ds)
-    inner_told [] h = tt
-    inner_told (d ∷ ds) h = all_append BodyTold (flat_map (stand.body by_default) (bodies_of d)) (inner by_default ds) h.0.inside (inner_told ds h.1)
+    brought_told : (ds : List Decl) → AllByRecursion DeclTold ds → (at : ℕ) → PlacedKept (decls_sites ds at) → AllByRecursion (λ (c : Contribution). AllSay env c.names) (map (brought_of by_default) ds)
+    brought_told [] h at kept = tt
+    brought_told (d ∷ ds) h at kept =
+        let A = (sites.decl d).sites env at in
+        let B = decls_sites ds at in
+        (h.0.names at (placed_front A B kept), brought_told ds h.1 at (placed_back A B kept))
+
+    inner_told : (ds : List Decl) → AllByRecursion DeclTold ds → (at : ℕ) → PlacedKept (decls_sites ds at) → AllByRecursion (BodyTold env) (inner by_default ds)
+    inner_told [] h at kept = tt
+    inner_told (d ∷ ds) h at kept =
+        let A = (sites.decl d).sites env at in
+        let B = decls_sites ds at in
+        all_append (BodyTold env) (flat_map (stand.body by_default) (bodies_of d)) (inner by_default ds) (h.0.inside at (placed_front A B kept)) (inner_told ds h.1 at (placed_back A B kept))
 
     inner_seen : (ds : List Decl) (a : Around) → AllByRecursion DeclTold ds → AllByRecursion (IsVisited (flat_map (λ d. (visiting.decl d).visits a) ds)) (inner by_default ds)
     inner_seen [] a h = tt
@@ -347,13 +407,29 @@ module _ (by_default : Bool) where
         all_append (IsVisited (vs ++ ws)) (flat_map (stand.body by_default) (bodies_of d)) (inner by_default ds)
         (visited_front vs ws (flat_map (stand.body by_default) (bodies_of d)) (h.0.seen a)) (visited_back vs ws (inner by_default ds) (inner_seen ds a h.1))
 
-    ways_told : (ts : List Trans) → AllByRecursion (λ t. TransTold room t.body) ts → WaysTold room (flat_map (λ t. ways t.body) ts)
-    ways_told [] h = tt
-    ways_told (t ∷ ts) h = all_append (λ (w : Way). BlockTold w.block) (ways t.body) (flat_map (λ t. ways t.body) ts) h.0.1 (ways_told ts h.1)
+    -- where rules speak of transitions one after another
+    abbrev all_trans_sites : List Trans → ℕ → List PlacedSite
+    all_trans_sites ts at = flat_map (λ t. sites.placed (sites.in_body at) ((sites.trans_body t.body).sites env)) ts
 
-    clauses_firm : (ts : List Trans) → AllByRecursion (λ t. TransTold room t.body) ts → ClausesFirm room (flat_map (λ t. clauses t.body) ts)
-    clauses_firm [] h = tt
-    clauses_firm (t ∷ ts) h = all_append ClauseFirm (clauses t.body) (flat_map (λ t. clauses t.body) ts) h.0.0 (clauses_firm ts h.1)
+    -- what is told of their clauses and blocks
+    abbrev AllTransTold : List Trans → Type 0
+    AllTransTold ts = ClausesFirm env room (flat_map (λ t. clauses t.body) ts) × WaysTold env room (flat_map (λ t. ways t.body) ts)
+
+    all_trans_told : (ts : List Trans) → AllByRecursion (λ t. TransTold env room t.body) ts → (at : ℕ) → PlacedKept (all_trans_sites ts at) → AllTransTold ts
+    all_trans_told [] h at kept = (tt, tt)
+    all_trans_told (t ∷ ts) h at kept =
+        let S = (sites.trans_body t.body).sites env in
+        let A = sites.placed (sites.in_body at) S in
+        let B = all_trans_sites ts at in
+        let first = h.0 (not_placed (sites.in_body at) S (placed_front A B kept)) in
+        let more = all_trans_told ts h.1 at (placed_back A B kept) in (
+          all_append (ClauseFirm env) (clauses t.body) (flat_map (λ t. clauses t.body) ts) first.0 more.0,
+          all_append (λ (w : Way). BlockTold env w.block) (ways t.body) (flat_map (λ t. ways t.body) ts) first.1 more.1,
+        )
+
+    init_told : (o : Option Init) → AllByRecursion (λ (x : Init). Kept ((sites.block x.block).sites env) → BlockTold env x.block) (option_to_list o) → Kept ((sites.init_part o).sites env) → AllByRecursion (λ (x : Init). BlockTold env x.block) (option_to_list o)
+    init_told None h kept = tt
+    init_told (Some x) h kept = (h.0 kept, tt)
 
     first_seen : (p : Parts) (title header : Option Name) (a : Around) → IsVisited (visiting.standing a (Begins (routines_in (out-Parts p).decls) (out-Parts p).trans ∷ [])) (standing by_default title header p)
     unfolding visiting.standing
@@ -374,10 +450,19 @@ module _ (by_default : Bool) where
     parts_of_told p i j h =
         let o = out-Parts p in
         hold_as (λ t. record {
-          told = λ title header. (record { brought = brought_told o.decls t.0; init = t.1.0; clauses = clauses_firm o.trans t.1.1; blocks = ways_told o.trans t.1.1 }, inner_told o.decls t.0);
+          told = λ at kept0 title header.
+              let A = decls_sites o.decls at in
+              let S = (sites.init_part o.init).sites env in
+              let B = sites.placed (sites.in_body at) S in
+              let C = all_trans_sites o.trans at in
+              let kept : PlacedKept (A ++ (B ++ C)) = subst PlacedKept (ruled.parts_sites p env at) kept0 in
+              let more : PlacedKept (B ++ C) = placed_back A (B ++ C) kept in
+              let first : PlacedKept A = placed_front A (B ++ C) kept in
+              let trans = all_trans_told o.trans t.1.1 at (placed_back B C more) in
+              (record { brought = brought_told o.decls t.0 at first; init = init_told o.init t.1.0 (not_placed (sites.in_body at) S (placed_front B C more)); clauses = trans.0; blocks = trans.1 }, inner_told o.decls t.0 at first);
           seen = parts_seen p t.0;
         })
-        (hold_both (hold_chain decl_told o.decls i h.after_decls h.decls) (hold_both (hold_optional (init_holds room) o.init h.after_decls h.after_init h.init) (hold_chain (trans_holds room) o.trans h.after_init j h.trans)))
+        (hold_both (hold_chain decl_told o.decls i h.after_decls h.decls) (hold_both (hold_optional (init_holds env room) o.init h.after_decls h.after_init h.init) (hold_chain (trans_holds env room) o.trans h.after_init j h.trans)))
 
   below_told : (room : ℕ) → AllHold PartsTold (PartsBelow room)
   below_told zero p i j h = absurd h
@@ -385,18 +470,18 @@ module _ (by_default : Bool) where
 
 -- ---- whole specifications
 
-pub record SpecTold (spec : Spec) : Type 0 where
-  pub told : AllByRecursion BodyTold (bodies spec)
+pub record SpecTold (env : Env) (spec : Spec) : Type 0 where
+  pub told : AllByRecursion (BodyTold env) (bodies spec)
   pub seen : AllByRecursion (IsVisited (visits spec)) (bodies spec)
 
-pub spelled_told : (spec : Spec) (tokens : List Placed) → Spells spec tokens → length tokens ≤ 2 ^ 32 → SpecTold spec
+pub spelled_told : (env : Env) (spec : Spec) (tokens : List Placed) → Spells spec tokens → length tokens ≤ 2 ^ 32 → PlacedKept ((sites.parts spec.parts).sites env spec.span.start) → SpecTold env spec
 unfolding visits
-spelled_told spec tokens spells few =
+spelled_told env spec tokens spells few kept =
     let h = spells.whole in
     let d = default_of spec.heads in
     let before = less_more (behind name spec.name (input tokens 0) h.after_name h.name) (less_more (maybe sys_attr_less spec.attr h.after_name h.after_attr h.attr) (less_more (less_takes h.semicolon) (chain head_less spec.heads h.after_head h.after_heads h.heads.heads))) in
-    let p = (below_told d (suc max_nesting) spec.parts h.after_heads h.after_parts h.parts).told (before.pass (all_at tokens spells.forms, few)) in
+    let p = (below_told env d (suc max_nesting) spec.parts h.after_heads h.after_parts h.parts).told (before.pass (all_at tokens spells.forms, few)) in
     record {
-      told = subst (AllByRecursion BodyTold) (sym (parts_is d spec.parts)) (p.told None None);
+      told = subst (AllByRecursion (BodyTold env)) (sym (parts_is d spec.parts)) (p.told spec.span.start kept None None);
       seen = subst (AllByRecursion (IsVisited (visiting.parts spec.parts (in_specification spec.attr spec.span)))) (sym (parts_is d spec.parts)) (p.seen None None (in_specification spec.attr spec.span));
     }

@@ -23,13 +23,13 @@ use Rattle.trace_forms.specs.Types.{IsReadableType, IsBoundedType}
 abbrev pub HasReadableParameters : Subject → Type 0
 HasReadableParameters s = (x : Name) (kind : InteractionKind) → meant s x ≡ Interaction kind → AllByRecursion IsReadableType kind.parameters
 
--- the types of the parameters of each interaction are bounded: arrays and records nest at most 200 deep, no array is empty, and the bounds of ordinal types are of their host types
+-- the types of the parameters of each interaction are bounded: arrays and records nest at most 200 deep, and no array is empty
 abbrev pub HasBoundedParameters : Subject → Type 0
 HasBoundedParameters s = (x : Name) (kind : InteractionKind) → meant s x ≡ Interaction kind → AllByRecursion IsBoundedType kind.parameters
 
--- Where a specification spells tokens whose spans follow one another within 2^32 bytes, and the types of the parameters of each interaction are bounded, their values can be read.
+-- Where a specification spells tokens whose spans follow one another within 2^32 bytes, and breaks no rule, with the names that the rules say, and the types of the parameters of each interaction are bounded, their values can be read.
 abbrev pub ParametersAreReadable : Type 0
-ParametersAreReadable = (spec : Spec) (names : List Use) (tokens : List Placed) (rest : ℕ) → Spells spec tokens → FollowOneAnother 0 tokens rest → rest ≤ 2 ^ 32
+ParametersAreReadable = (spec : Spec) (names : List Use) (tokens : List Placed) (rest : ℕ) → Spells spec tokens → FollowOneAnother 0 tokens rest → rest ≤ 2 ^ 32 → names ≡ names_of spec → KeepsRules spec
     → HasBoundedParameters (record { specification = spec; names = names }) → HasReadableParameters (record { specification = spec; names = names })
 
 -- In every run of a specification that spells tokens whose spans follow one another within 2^32 bytes, and that breaks no rule, with the names that the rules say, where the types of the parameters of each interaction are bounded, and where births and outputs can be numbered with 64 bits.

@@ -1,5 +1,5 @@
 -- Types whose values can be read in a trace.
-use Rattle.std.specs.Prelude.{ℕ, zero, suc, ◌<◌, ◌≤◌, ◌^◌, IsTrue, length, nat_abs, ℤ}
+use Rattle.std.specs.Prelude.{ℕ, zero, suc, ◌<◌, ◌^◌, IsTrue, length, nat_abs, ℤ}
 use Rattle.std.specs.List.{AllByRecursion}
 use Rattle.pascal_values.specs.Integers.{is_between, is_integer}
 use Rattle.pascal_values.specs.Shapes.{item_count}
@@ -33,16 +33,9 @@ IsReadableType t = NestsWithin 200 t
 
 -- ---- bounded types
 
--- an ordinal is no greater than those of its host type
-abbrev pub IsInHost : Host → ℤ → Type 0
-IsInHost host.Integer n = Unit {0}
-IsInHost host.Boolean n = Unit {0}
-IsInHost host.Char n = nat_abs n < 256
-IsInHost (host.Enumeration last) n = nat_abs n ≤ last
-
--- no array is empty, and the bounds of ordinal types are of their host types, where `IsPart` says it of the parts
+-- no array is empty, where `IsPart` says it of the parts
 abbrev pub IsTypeBounded : (Denoter → Type 0) → Denoter-F Denoter → Type 0
-IsTypeBounded IsPart (Denoter-F.Ordinal h low high) = IsInHost h high
+IsTypeBounded IsPart (Denoter-F.Ordinal h low high) = Unit {0}
 IsTypeBounded IsPart (Denoter-F.Set h low high) = Unit {0}
 IsTypeBounded IsPart (Denoter-F.Array low high item) = (0 < item_count low high) × IsPart item
 IsTypeBounded IsPart (Denoter-F.Fields fields) = AllByRecursion IsPart fields
@@ -52,6 +45,6 @@ abbrev pub BoundedWithin : ℕ → Denoter → Type 0
 BoundedWithin zero t = IsTypeBounded (λ _. ⊥) (out-Denoter t)
 BoundedWithin (suc depth) t = IsTypeBounded (BoundedWithin depth) (out-Denoter t)
 
--- a type that nests at most 200 deep, with no empty array, whose bounds are of their host types
+-- a type that nests at most 200 deep, with no empty array
 abbrev pub IsBoundedType : Denoter → Type 0
 IsBoundedType t = BoundedWithin 200 t

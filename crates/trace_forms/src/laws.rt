@@ -2,7 +2,7 @@
 
 ghost use Rattle.trace_forms.specs.Laws.{ParametersAreReadable, RunsHaveForm};
 
-/// The values of the parameters of the interactions of a specification that was read can be read, where their types are bounded.
+/// The values of the parameters of the interactions of an accepted specification can be read, where their types are bounded.
 pub fn parameters_are_readable()
     ensures { ParametersAreReadable }
 {}
