@@ -1,6 +1,6 @@
 -- The numbers of what is asked for lie in their ranges.
-use Rattle.std.proofs.Common.{◌≡◌, ℕ, zero, suc, ◌≤◌, ◌<◌, ◌+◌, ◌*◌, ◌^◌, Bool, true, false, List, [], ◌∷◌, Option, Some, None, refl, sym, subst, arith}
-use Rattle.std.specs.Prelude.{◌&&◌, nat_le, if◌then◌else◌, IfSome, codes, map, option_and_then}
+use Rattle.std.proofs.Common.{◌≡◌, ℕ, ◌≤◌, ◌<◌, ◌+◌, ◌*◌, ◌^◌, Bool, true, false, List, [], ◌∷◌, Option, Some, None, refl, sym, subst, arith}
+use Rattle.std.specs.Prelude.{◌&&◌, nat_le, if◌then◌else◌, IfSome, codes, map, option_map, option_and_then}
 use Rattle.std.proofs.lemmas.Bool.Decides.{nat_tests}
 use Rattle.std.proofs.Math.Nat.{mul-le-mul_left}
 use Rattle.std.specs.Str.Parse.{digits_value}
@@ -8,9 +8,8 @@ use Rattle.estelle_words.specs.Words.{Text, Pair, meaning, command_of, pairs_of,
 use Rattle.estelle_words.specs.declared.command.Settings.{Settings}
 use Rattle.estelle_words.specs.declared.command.Command.{Command}
 use Rattle.estelle_words.specs.declared.command.Command.TheVariants as command
-use Rattle.situation.specs.declared.limits.Limits.{Limits}
 use Rattle.estelle_cli.specs.declared.task.Task.{Task}
-use Rattle.estelle_cli.specs.Tasks.{IsInRange, run_by, task_by, task_of, limits_of, asked}
+use Rattle.estelle_cli.specs.Tasks.{IsInRange, task_by, task_of, asked}
 
 -- a step after which there is nothing where this one gives nothing
 infixl 10 ◌>>=◌
@@ -77,22 +76,18 @@ meant (word ∷ rest) = go (command_of word) (pairs_of (map word_of rest))
 
 -- ---- tasks
 
-run_ranged : (seed : Option ℕ) (workers : ℕ) (limits : Limits) → (limits.turns ≤ 1000000) × (limits.budget ≤ 100000000) → IfSome (run_by seed workers limits) IsInRange
-run_ranged seed zero limits h = h
-run_ranged seed (suc n) limits h = tt
-
-task_ranged : (c : Command) (set : Settings) → HasRange set → IfSome (task_by c set) IsInRange
-task_ranged command.Run set h = run_ranged set.seed set.workers (limits_of set) (h.turns, h.budget)
+task_ranged : (c : Command) (set : Settings) → HasRange set → IsInRange (task_by c set)
+task_ranged command.Run set h = (h.turns, h.budget)
 task_ranged command.Check set h = tt
 task_ranged command.Show set h = tt
-task_ranged command.Replay set h = tt
+task_ranged command.Replay set h = h.budget
 task_ranged command.Make set h = h.stations
-task_ranged command.Trial set h = tt
+task_ranged command.Trial set h = (h.stations, (h.turns, h.budget))
 
 asked_ranged : (words : List Text) → IfSome (asked words) IsInRange
 asked_ranged words = go (meaning words) (meant words)
   where
-    go : (o : Option Settings) → IfSome o HasRange → IfSome (o >>= task_of) IsInRange
+    go : (o : Option Settings) → IfSome o HasRange → IfSome (option_map task_of o) IsInRange
     go None h = tt
     go (Some set) h = task_ranged set.command set h
 
@@ -106,3 +101,9 @@ pub has_room : (budget turns : ℕ) → turns ≤ 1000000 → budget ≤ 1000000
 has_room budget turns h k =
     let most : budget * (turns + 1) ≤ budget * 1000001 = mul-le-mul_left budget (omega (arith, h)) in
     omega (arith, most, k)
+
+-- and how many outputs its counts can tell
+pub has_room_for_outputs : (budget turns outputs : ℕ) → turns ≤ 1000000 → budget ≤ 100000000 → outputs ≤ budget * (turns + 2) → outputs < 2 ^ 64
+has_room_for_outputs budget turns outputs h k few =
+    let most : budget * (turns + 2) ≤ budget * 1000002 = mul-le-mul_left budget (omega (arith, h)) in
+    omega (arith, most, k, few)

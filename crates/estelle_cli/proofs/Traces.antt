@@ -1,5 +1,5 @@
--- What was executed and written is the trace of a run of the input.
-use Rattle.std.proofs.Common.{◌≡◌, ℕ, List, Option, ap, subst}
+-- What was executed and written is the trace of a run of the input, or the counts of a run of the ring.
+use Rattle.std.proofs.Common.{◌≡◌, ℕ, List, Option, Some, ap, subst}
 use Rattle.std.specs.Prelude.{IfSome}
 use Rattle.estelle_model.specs.declared.event.Event.{Event}
 use Rattle.estelle_model.specs.declared.event.End.{End}
@@ -9,14 +9,23 @@ use Rattle.spec_accept.specs.declared.checked.Checked.{Checked}
 use Rattle.situation.specs.declared.limits.Limits.{Limits}
 use Rattle.outside.specs.Choices.{any_drawn}
 use Rattle.situation.specs.Runs.{subject as with_names, IsStopped}
-use Rattle.estelle_cli.specs.Input.{Reads}
-use Rattle.estelle_cli.specs.Answers.{subject, chooser_by, IsTrace}
+use Rattle.estelle_cli.specs.declared.contents.Contents.TheVariants.{Alone}
+use Rattle.estelle_cli.specs.Input.{subject, Reads}
+use Rattle.spec_maker.specs.Ring.{IsRing}
+use Rattle.run_counts.specs.Counts.{counts_line}
+use Rattle.estelle_cli.specs.Answers.{chooser_by, IsTrace, IsTried}
 
-pub stopped_trace : (limits : Limits) (seed clock : Option ℕ) (left : Option (List ℕ)) (checked : Checked) (events : List Event) (e : End) (written : List ℕ) → IfSome left (λ bytes. Reads bytes checked.spec)
+-- an accepted specification's run is that of the specification
+of_it : (limits : Limits) (seed clock : Option ℕ) (checked : Checked) (events : List Event) (e : End)
+    → IsStopped any_drawn (chooser_by seed) clock (with_names checked.spec checked.names) limits.budget limits.turns events e → IsStopped any_drawn (chooser_by seed) clock (subject checked.spec) limits.budget limits.turns events e
+of_it limits seed clock checked events e stopped =
+    let same : with_names checked.spec checked.names ≡ subject checked.spec = ap (λ us. record { specification = checked.spec; names = us }) checked.named in
+    subst (λ (s : Subject). IsStopped any_drawn (chooser_by seed) clock s limits.budget limits.turns events e) same stopped
+
+pub stopped_trace : (limits : Limits) (seed clock : Option ℕ) (left : Option (List ℕ)) (checked : Checked) (events : List Event) (e : End) (written : List ℕ) → IfSome left (λ bytes. Reads Alone bytes checked.spec)
     → IsStopped any_drawn (chooser_by seed) clock (with_names checked.spec checked.names) limits.budget limits.turns events e → written ≡ text events e → IsTrace limits seed clock left e written
 stopped_trace limits seed clock left checked events e written reads stopped lines =
-    let same : with_names checked.spec checked.names ≡ subject checked.spec = ap (λ us. record { specification = checked.spec; names = us }) checked.named in
-    let stops : IsStopped any_drawn (chooser_by seed) clock (subject checked.spec) limits.budget limits.turns events e = subst (λ (s : Subject). IsStopped any_drawn (chooser_by seed) clock s limits.budget limits.turns events e) same stopped in
+    let stops = of_it limits seed clock checked events e stopped in
     record {
       specification = checked.spec;
       events = events;
@@ -26,3 +35,14 @@ stopped_trace limits seed clock left checked events e written reads stopped line
       scheduled = stops.scheduled;
       lines = lines;
     }
+
+pub stopped_tried : (n : ℕ) (limits : Limits) (seed : Option ℕ) (checked : Checked) (events : List Event) (e : End) (written : List ℕ) → IsRing n checked.spec
+    → IsStopped any_drawn (chooser_by seed) (Some 0) (with_names checked.spec checked.names) limits.budget limits.turns events e → written ≡ counts_line events e → IsTried n limits seed written
+stopped_tried n limits seed checked events e written ring stopped line = record {
+  specification = checked.spec;
+  made = ring;
+  events = events;
+  e = e;
+  stopped = of_it limits seed (Some 0) checked events e stopped;
+  line = line;
+}

@@ -11,21 +11,21 @@ use Rattle.pascal_values.specs.declared.fault.Fault.{Fault}
 use Rattle.estelle_tree.specs.declared.tree.specification.Spec.{Spec}
 use Rattle.estelle_printer.specs.Canonical.{IsCanonicalText}
 use Rattle.spec_maker.specs.Ring.{ring, IsRing}
-use Rattle.scope_rules.specs.NameRules.{names_of}
 use Rattle.estelle_model.specs.declared.event.Event.{Event}
 use Rattle.estelle_model.specs.declared.event.End.{End}
 use Rattle.estelle_model.specs.declared.event.End.TheVariants as end
-use Rattle.estelle_model.specs.Subject.{Subject}
 use Rattle.estelle_model.specs.Runs.{IsRun}
 use Rattle.estelle_model.specs.Ends.{Stops}
 use Rattle.estelle_model.specs.Schedule.{IsScheduled}
 use Rattle.estelle_model.specs.Trace.{text, kind_text, line_end}
 use Rattle.situation.specs.declared.limits.Limits.{Limits}
+use Rattle.situation.specs.Runs.{IsStopped}
+use Rattle.run_counts.specs.Counts.{counts_line}
 use Rattle.estelle_cli.specs.declared.outcome.Place.{Place}
 use Rattle.estelle_cli.specs.declared.outcome.Refusal.{Refusal}
-use Rattle.estelle_cli.specs.declared.outcome.Refusal.TheVariants.{TooLong, Bytes, TextAfterEnd, Syntax, Rule}
+use Rattle.estelle_cli.specs.declared.outcome.Refusal.TheVariants.{TooLong, Bytes, TextAfterEnd, Syntax, Rule, BadTraceLine, NotARun}
 use Rattle.estelle_cli.specs.declared.task.Task.{Task}
-use Rattle.estelle_cli.specs.declared.task.Task.TheVariants.{Run, Check, Show, Make}
+use Rattle.estelle_cli.specs.declared.task.Task.TheVariants.{Run, Check, Show, Replay, Make, Trial}
 use Rattle.estelle_cli.specs.declared.outcome.Outcome.{Outcome}
 use Rattle.estelle_cli.specs.declared.outcome.Outcome.TheVariants as outcome
 use Rattle.estelle_cli.specs.declared.outcome.Status.{Status}
@@ -34,8 +34,9 @@ use Rattle.estelle_cli.specs.declared.outcome.Close.{Close}
 use Rattle.estelle_cli.specs.declared.outcome.Close.TheVariants as close
 use Rattle.estelle_cli.specs.declared.outcome.Stop.{Stop}
 use Rattle.estelle_cli.specs.declared.outcome.Stop.TheVariants as stop
-use Rattle.estelle_cli.specs.Tasks.{ReadsInput}
-use Rattle.estelle_cli.specs.Input.{Reads, Refuses, HasStopped}
+use Rattle.estelle_cli.specs.declared.contents.Contents.TheVariants.{Alone}
+use Rattle.estelle_cli.specs.Tasks.{ReadsInput, contents_of}
+use Rattle.estelle_cli.specs.Input.{subject, Reads, Replays, Refuses, HasStopped}
 
 -- ---- what is written to out
 
@@ -43,9 +44,9 @@ use Rattle.estelle_cli.specs.Input.{Reads, Refuses, HasStopped}
 abbrev pub accepted_line : List ℕ
 accepted_line = codes "accepted" ++ line_end
 
--- the specification, with what its names mean
-abbrev pub subject : Spec → Subject
-subject spec = record { specification = spec; names = names_of spec }
+-- what `replay` writes of so many events
+abbrev pub replayed_line : ℕ → List ℕ
+replayed_line count = codes "accepted " ++ (decimal count ++ line_end)
 
 -- the chooser of a seed, or the one that takes the first candidate each time
 abbrev pub chooser_by : Option ℕ → AnyChooser
@@ -58,7 +59,7 @@ chooser_by (Some seed) = Seeded (seeded seed)
 pub record IsTrace (limits : Limits) (seed clock : Option ℕ) (left : Option (List ℕ)) (e : End) (written : List ℕ) : Type 0 where
   pub specification : Spec
   pub events : List Event
-  pub input : IfSome left (λ bytes. Reads bytes specification)
+  pub input : IfSome left (λ bytes. Reads Alone bytes specification)
   pub run : IsRun (subject specification) limits.budget events
   pub stops : Stops (subject specification) limits.budget limits.turns events e
   pub scheduled : IsScheduled any_drawn (subject specification) limits.budget limits.turns clock (chooser_by seed) events e
@@ -80,13 +81,19 @@ EndsWith close.ByClock e = e ≡ end.Clock
 -- the specification that the input spells keeps all rules
 pub record IsAccepted (left : Option (List ℕ)) : Type 0 where
   pub specification : Spec
-  pub input : IfSome left (λ bytes. Reads bytes specification)
+  pub input : IfSome left (λ bytes. Reads Alone bytes specification)
 
 -- the text is the canonical one of such a specification
 pub record IsShown (left : Option (List ℕ)) (written : List ℕ) : Type 0 where
   pub specification : Spec
-  pub input : IfSome left (λ bytes. Reads bytes specification)
+  pub input : IfSome left (λ bytes. Reads Alone bytes specification)
   pub canonical : IsCanonicalText specification written
+
+-- the input is a specification that keeps all rules, with the trace of a run of it, and the line tells how many events that has
+pub record IsReplayed (budget : ℕ) (left : Option (List ℕ)) (written : List ℕ) : Type 0 where
+  pub count : ℕ
+  pub input : IfSome left (λ bytes. Replays budget bytes count)
+  pub line : written ≡ replayed_line count
 
 -- the text is the canonical one of the ring of so many stations
 pub record IsMade (n : ℕ) (written : List ℕ) : Type 0 where
@@ -94,12 +101,24 @@ pub record IsMade (n : ℕ) (written : List ℕ) : Type 0 where
   pub made : IsRing n specification
   pub text : written ≡ ring n
 
+-- The text tells of the counts and the end of a run of that ring: of the one that the schedule chooses by the seed, or by taking the first
+-- candidate each time, and by a clock that stands at 0 before.
+pub record IsTried (n : ℕ) (limits : Limits) (seed : Option ℕ) (written : List ℕ) : Type 0 where
+  pub specification : Spec
+  pub made : IsRing n specification
+  pub events : List Event
+  pub e : End
+  pub stopped : IsStopped any_drawn (chooser_by seed) (Some 0) (subject specification) limits.budget limits.turns events e
+  pub line : written ≡ counts_line events e
+
 -- what a task writes, of an input where it reads one, by a clock that tells this moment, or none; and how it was done
 abbrev pub IsOutput : Task → Option ℕ → Option (List ℕ) → Close → List ℕ → Type 0
 IsOutput (Run limits seed) clock left c written = (e : End) × EndsWith c e × IsTrace limits seed clock left e written
 IsOutput Check clock left c written = (c ≡ close.Well) × IsAccepted left × (written ≡ accepted_line)
 IsOutput Show clock left c written = (c ≡ close.Well) × IsShown left written
+IsOutput (Replay budget) clock left c written = (c ≡ close.Well) × IsReplayed budget left written
 IsOutput (Make n) clock left c written = (c ≡ close.Well) × IsMade n written
+IsOutput (Trial n limits seed) clock left c written = (c ≡ close.Well) × IsTried n limits seed written
 
 -- out has grown by just that
 pub record Writes (task : Task) (clock : Option ℕ) (left : Option (List ℕ)) (c : Close) (held held' : Option (List ℕ)) : Type 0 where
@@ -137,6 +156,8 @@ refusal_line (Bytes p) = line (codes "bytes " ++ place_text p)
 refusal_line (TextAfterEnd p) = line (codes "text after end " ++ place_text p)
 refusal_line (Syntax p) = line (codes "syntax " ++ place_text p)
 refusal_line (Rule number p) = line (codes "rule " ++ (decimal number ++ (codes " " ++ place_text p)))
+refusal_line (BadTraceLine number) = line (codes "bad trace line " ++ decimal number)
+refusal_line (NotARun entry) = line (codes "not a run: entry " ++ decimal entry)
 
 abbrev pub read_fault_line : List ℕ
 read_fault_line = line (codes "read fault")
@@ -231,7 +252,8 @@ MayBeUsage status.PascalFault = ⊥
 -- why a task was not done: without an input that is want of memory alone
 abbrev pub HasFailed : Task → Option (List ℕ) → ℕ → ℕ → Stop → Type 0
 HasFailed (Make n) left before now e = e ≡ stop.Memory
-HasFailed task left before now e = HasStopped left before now e
+HasFailed (Trial n limits seed) left before now e = e ≡ stop.Memory
+HasFailed task left before now e = HasStopped (contents_of task) left before now e
 
 -- how the writing of an output came out
 abbrev pub Emits : List ℕ → Close → Option (List ℕ) → Option (List ℕ) → ℕ → ℕ → Outcome → Type 0
@@ -262,7 +284,7 @@ Explains task left left' reads reads' held held' writes writes' clock asks asks'
 Explains task left left' reads reads' held held' writes writes' clock asks asks' outcome.ClockFault =
     Writes task clock left close.ByClock held held' × (ReadsInput task → IsAtEnd left') × Rose asks asks'
 Explains task left left' reads reads' held held' writes writes' clock asks asks' (outcome.Refused refusal words) =
-    IfSome left (Refuses refusal) × (words ≡ refusal_line refusal) × IsQuiet held held' writes writes' × ReadsInput task
+    IfSome left (Refuses (contents_of task) refusal) × (words ≡ refusal_line refusal) × IsQuiet held held' writes writes' × ReadsInput task
 Explains task left left' reads reads' held held' writes writes' clock asks asks' outcome.ReadFault =
     Rose reads reads' × IsQuiet held held' writes writes' × ReadsInput task
 Explains task left left' reads reads' held held' writes writes' clock asks asks' outcome.WriteFault =

@@ -1,54 +1,78 @@
--- What the words of the command line ask for, as far as it is built.
-use Rattle.std.specs.Prelude.{ℕ, zero, suc, ◌≤◌, ⊤, List, Option, Some, None, option_and_then}
+-- What the words of the command line ask for.
+use Rattle.std.specs.Prelude.{ℕ, ◌≤◌, ⊤, List, Option, option_map}
 use Rattle.estelle_words.specs.Words.{meaning}
 use Rattle.estelle_words.specs.declared.command.Settings.{Settings}
 use Rattle.estelle_words.specs.declared.command.Command.{Command}
 use Rattle.estelle_words.specs.declared.command.Command.TheVariants as command
 use Rattle.situation.specs.declared.limits.Limits.{Limits}
+use Rattle.estelle_cli.specs.declared.contents.Contents.{Contents}
+use Rattle.estelle_cli.specs.declared.contents.Contents.TheVariants.{Alone, Traced}
 use Rattle.estelle_cli.specs.declared.task.Task.{Task}
-use Rattle.estelle_cli.specs.declared.task.Task.TheVariants.{Run, Check, Show, Make}
+use Rattle.estelle_cli.specs.declared.task.Task.TheVariants.{Run, Check, Show, Replay, Make, Trial}
 
 abbrev pub limits_of : Settings → Limits
 limits_of set = record { turns = set.turns; budget = set.budget }
 
--- a run without workers is built
-abbrev pub run_by : Option ℕ → ℕ → Limits → Option Task
-run_by seed zero limits = Some (Run limits seed)
-run_by seed (suc n) limits = None
+-- a run goes on one thread, whatever the number of workers
+abbrev pub task_by : Command → Settings → Task
+task_by command.Run set = Run (limits_of set) set.seed
+task_by command.Check set = Check
+task_by command.Show set = Show
+task_by command.Replay set = Replay set.budget
+task_by command.Make set = Make set.stations
+task_by command.Trial set = Trial set.stations (limits_of set) set.seed
 
-abbrev pub task_by : Command → Settings → Option Task
-task_by command.Run set = run_by set.seed set.workers (limits_of set)
-task_by command.Check set = Some Check
-task_by command.Show set = Some Show
-task_by command.Replay set = None
-task_by command.Make set = Some (Make set.stations)
-task_by command.Trial set = None
-
--- the task that settings stand for, if it is built
-abbrev pub task_of : Settings → Option Task
+-- the task that settings stand for
+abbrev pub task_of : Settings → Task
 task_of set = task_by set.command set
 
--- what the words ask for, where they have a meaning and it is built
+-- what the words ask for, where they have a meaning
 abbrev pub asked : List (List ℕ) → Option Task
-asked words = option_and_then task_of (meaning words)
+asked words = option_map task_of (meaning words)
 
 -- it is done with the input
 abbrev pub ReadsInput : Task → Type 0
 ReadsInput (Run limits seed) = ⊤
 ReadsInput Check = ⊤
 ReadsInput Show = ⊤
+ReadsInput (Replay budget) = ⊤
 ReadsInput (Make n) = ⊥
+ReadsInput (Trial n limits seed) = ⊥
 
--- something is run for it
-abbrev pub Runs : Task → Type 0
-Runs (Run limits seed) = ⊤
-Runs Check = ⊥
-Runs Show = ⊥
-Runs (Make n) = ⊥
+-- what its input is to be
+abbrev pub contents_of : Task → Contents
+contents_of (Run limits seed) = Alone
+contents_of Check = Alone
+contents_of Show = Alone
+contents_of (Replay budget) = Traced budget
+contents_of (Make n) = Alone
+contents_of (Trial n limits seed) = Alone
 
--- a run has up to 1,000,000 firings of up to 100,000,000 units each, and a ring has 2 to 200 stations
+-- the clock may be asked for it
+abbrev pub AsksClock : Task → Type 0
+AsksClock (Run limits seed) = ⊤
+AsksClock Check = ⊥
+AsksClock Show = ⊥
+AsksClock (Replay budget) = ⊥
+AsksClock (Make n) = ⊥
+AsksClock (Trial n limits seed) = ⊥
+
+-- a firing has up to 100,000,000 units
+abbrev pub IsBudget : ℕ → Type 0
+IsBudget budget = budget ≤ 100000000
+
+-- and a run up to 1,000,000 firings
+abbrev pub AreLimits : Limits → Type 0
+AreLimits limits = (limits.turns ≤ 1000000) × IsBudget limits.budget
+
+-- a ring has 2 to 200 stations
+abbrev pub AreStations : ℕ → Type 0
+AreStations n = (2 ≤ n) × (n ≤ 200)
+
 abbrev pub IsInRange : Task → Type 0
-IsInRange (Run limits seed) = (limits.turns ≤ 1000000) × (limits.budget ≤ 100000000)
+IsInRange (Run limits seed) = AreLimits limits
 IsInRange Check = ⊤
 IsInRange Show = ⊤
-IsInRange (Make n) = (2 ≤ n) × (n ≤ 200)
+IsInRange (Replay budget) = IsBudget budget
+IsInRange (Make n) = AreStations n
+IsInRange (Trial n limits seed) = AreStations n × AreLimits limits

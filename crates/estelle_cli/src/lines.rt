@@ -45,7 +45,28 @@ pub fn refusal_line(alloc: Global, refusal: Refusal) -> Result<Text, AllocError>
             put(&mut out, b" ")?;
             put_place(alloc, &mut out, place)?;
         }
+        Refusal::BadTraceLine(line) => {
+            put(&mut out, b"estelle: bad trace line ")?;
+            put_number(alloc, &mut out, u64::from(line))?;
+            put(&mut out, b"\n")?;
+        }
+        Refusal::NotARun(entry) => {
+            put(&mut out, b"estelle: not a run: entry ")?;
+            put_number(alloc, &mut out, u64::from(entry))?;
+            put(&mut out, b"\n")?;
+        }
     }
+    Ok(Text::of(out))
+}
+
+/// The line of a trace of so many events that is that of a run.
+pub fn replayed_line(alloc: Global, count: u32) -> Result<Text, AllocError>
+    ensures { IfOk result (λ line. line ≡ answers.replayed_line count) }
+{
+    let mut out = Vec::new(alloc);
+    put(&mut out, b"accepted ")?;
+    put_number(alloc, &mut out, u64::from(count))?;
+    put(&mut out, b"\n")?;
     Ok(Text::of(out))
 }
 

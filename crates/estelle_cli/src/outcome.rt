@@ -27,9 +27,13 @@ pub enum Refusal {
     Syntax(Place),
     /// This is the least rule that is broken, and the first node that breaks it begins there.
     Rule { number: u8, place: Place },
+    /// What stands behind the specification is no trace; this is its first bad line.
+    BadTraceLine(u32),
+    /// The trace is that of no run of the specification; this is the first entry that does not apply.
+    NotARun(u32),
 }
 
-/// Why an input was not read as a specification, or a specification not run.
+/// Why an input was not read as what it is to be, or a specification not run.
 #[derive(Clone, Copy, Debug, PartialEq, Eq)]
 pub enum Stop {
     Refused(Refusal),

@@ -3,33 +3,32 @@
 ghost use Rattle.std.specs.Prelude.{◌≡◌, ◌≤◌, ◌+◌, List, Option, ℕ, Some, IfSome, IsSomeAnd, IsNone, IfOk, OnOk, IfErr};
 ghost use Rattle.std.specs.Io.KnownBytes.{IsAtEnd};
 ghost use Rattle.outside.specs.Counts.{Rose};
-ghost use Rattle.outside.specs.Choices.{any_drawn};
 ghost use Rattle.pascal_values.specs.declared.fault.Fault.{Fault};
-ghost use Rattle.estelle_tree.specs.declared.tree.specification.Spec.{Spec};
 ghost use Rattle.estelle_model.specs.declared.event.End.TheVariants.{Clock as ByClock};
-ghost use Rattle.estelle_model_legality.specs.Instances.{LeadsToStates};
 ghost use Rattle.estelle_words.specs.Words.{texts};
+ghost use Rattle.estelle_cli.specs.declared.contents.Contents.TheVariants.{Alone, Traced};
 ghost use Rattle.estelle_cli.specs.declared.outcome.Refusal.{Refusal};
 ghost use Rattle.estelle_cli.specs.declared.outcome.Close.TheVariants as close;
 ghost use Rattle.estelle_cli.specs.declared.task.Task.TheVariants as task;
 ghost use Rattle.estelle_cli.specs.declared.outcome.Stop.TheVariants as stop;
-ghost use Rattle.estelle_cli.specs.Tasks.{asked, ReadsInput, Runs, IsInRange};
-ghost use Rattle.estelle_cli.specs.Input.{Reads, Refuses, TakesAtMost, HasStopped, input_limit};
-ghost use Rattle.estelle_cli.specs.Answers.{chooser_by, accepted_line, IsTrace, EndsWith, IsAccepted, IsShown, IsMade, IsOutput, Writes, WritesPrefix, IsQuiet, Reports, usage_line, refusal_line, read_fault_line, write_fault_line, clock_fault_line, memory_line, fault_line, IsFinished, HasNoOutput, MayRefuse, MayFinish, MayBeUsage, NeedsInput, HasFailed, Emits, IsRefusedOr, Explains};
-ghost use Rattle.situation.specs.Runs.{subject, IsStopped};
+ghost use Rattle.estelle_cli.specs.Tasks.{asked, ReadsInput, contents_of, AsksClock, AreLimits, AreStations, IsInRange};
+ghost use Rattle.estelle_cli.specs.Input.{IsInput, Refuses, TakesAtMost, HasStopped, input_limit};
+ghost use Rattle.estelle_cli.specs.Answers.{accepted_line, IsTrace, EndsWith, IsAccepted, IsShown, IsReplayed, IsMade, IsOutput, Writes, WritesPrefix, IsQuiet, Reports, usage_line, refusal_line, read_fault_line, write_fault_line, clock_fault_line, memory_line, fault_line, IsFinished, HasNoOutput, MayRefuse, MayFinish, MayBeUsage, NeedsInput, HasFailed, Emits, IsRefusedOr, Explains};
 
 use crate::input::load;
-use crate::lines::{fault_line, refusal_line};
+use crate::lines::{fault_line, refusal_line, replayed_line};
 use crate::outcome::{Close, Outcome, Refusal, Status, Stop};
+use crate::replay::load_replay;
+use crate::running::executed;
 use crate::task::{Task, asked};
-use estelle_model::{End, Run};
+use crate::trial::tried;
+use estelle_model::End;
 use estelle_printer::spell;
 use estelle_tree::Text;
-use outside::{AnyChooser, Clock, FirstChooser, SeedChooser, Sink, Source, write_all};
-use situation::{Limits, execute};
-use spec_accept::Checked;
+use outside::{Clock, Sink, Source, write_all};
+use situation::Limits;
 use spec_maker::make;
-use std::alloc::{AllocError, Global};
+use std::alloc::Global;
 use trace_text::{put, write};
 
 /// Hands err the line. A fault of err changes nothing else.
@@ -37,40 +36,6 @@ fn report<E: Sink>(err: &mut E, line: &[u8])
     ensures { Reports (E.held err.old) (E.held err.new) (E.faults err.old) (E.faults err.new) line.now }
 {
     let _ = write_all(err, line);
-}
-
-/// The chooser of a run.
-fn chooser_by(seed: Option<u64>) -> AnyChooser
-    ensures { result ≡ chooser_by seed }
-{
-    match seed {
-        None => AnyChooser::First(FirstChooser),
-        Some(seed) => AnyChooser::Seeded(SeedChooser::new(seed)),
-    }
-}
-
-/// Runs an accepted specification to its end.
-fn executed<C: Clock>(
-    alloc: Global,
-    checked: &Checked,
-    limits: Limits,
-    seed: Option<u64>,
-    clock: &mut C,
-) -> Result<(Run, End), AllocError>
-    requires leads { LeadsToStates (subject checked.now.spec checked.now.names) }
-    requires range { IsInRange (task.Run limits seed) }
-    ensures stopped { IfOk result (λ r. IsStopped any_drawn (chooser_by seed) (C.moment clock.old) (subject checked.now.spec checked.now.names) limits.budget limits.turns r.0.events r.1) }
-    ensures cause { IfOk result (λ r. r.1 ≡ ByClock → Rose (C.faults clock.old) (C.faults clock.new)) }
-    ensures later { C.faults clock.old ≤ C.faults clock.new }
-{
-    execute(
-        alloc,
-        &checked.spec,
-        &checked.names,
-        limits,
-        clock,
-        chooser_by(seed),
-    )
 }
 
 /// Reads and runs the input, and gives the trace and its end.
@@ -81,13 +46,13 @@ fn traced<S: Source, C: Clock>(
     source: &mut S,
     clock: &mut C,
 ) -> Result<(Text, End), Stop>
-    requires { IsInRange (task.Run limits seed) }
+    requires { AreLimits limits }
     ensures trace { IfOk result (λ x. IsTrace limits seed (C.moment clock.old) (S.left source.old) x.1 x.0) }
     ensures by_clock { IfOk result (λ x. x.1 ≡ ByClock → Rose (C.faults clock.old) (C.faults clock.new)) }
     ensures later { C.faults clock.old ≤ C.faults clock.new }
     ensures end { OnOk result (IsAtEnd (S.left source.new)) }
-    ensures stops { TakesAtMost (input_limit + 1) (S.left source.old) (S.left source.new) }
-    ensures cause { IfErr result (HasStopped (S.left source.old) (S.faults source.old) (S.faults source.new)) }
+    ensures stops { TakesAtMost (input_limit Alone + 1) (S.left source.old) (S.left source.new) }
+    ensures cause { IfErr result (HasStopped Alone (S.left source.old) (S.faults source.old) (S.faults source.new)) }
 {
     let checked = load(alloc, source)?;
     let (run, end) = executed(alloc, &checked, limits, seed, clock)?;
@@ -114,13 +79,13 @@ fn ran<S: Source, C: Clock>(
     source: &mut S,
     clock: &mut C,
 ) -> Result<(Text, Close), Stop>
-    requires { IsInRange (task.Run limits seed) }
+    requires { AreLimits limits }
     ensures output { IfOk result (λ x. IsOutput (task.Run limits seed) (C.moment clock.old) (S.left source.old) x.1 x.0) }
     ensures by_clock { IfOk result (λ x. x.1 ≡ close.ByClock → Rose (C.faults clock.old) (C.faults clock.new)) }
     ensures later { C.faults clock.old ≤ C.faults clock.new }
     ensures end { OnOk result (IsAtEnd (S.left source.new)) }
-    ensures stops { TakesAtMost (input_limit + 1) (S.left source.old) (S.left source.new) }
-    ensures cause { IfErr result (HasStopped (S.left source.old) (S.faults source.old) (S.faults source.new)) }
+    ensures stops { TakesAtMost (input_limit Alone + 1) (S.left source.old) (S.left source.new) }
+    ensures cause { IfErr result (HasStopped Alone (S.left source.old) (S.faults source.old) (S.faults source.new)) }
 {
     let (text, end) = traced(alloc, limits, seed, source, clock)?;
     Ok((text, close_by(end)))
@@ -132,8 +97,8 @@ fn accepted<S: Source>(alloc: Global, source: &mut S) -> Result<(Text, Close), S
     ensures accepted { IfOk result (λ x. IsAccepted (S.left source.old)) }
     ensures text { IfOk result (λ x. x.0 ≡ accepted_line) }
     ensures end { OnOk result (IsAtEnd (S.left source.new)) }
-    ensures stops { TakesAtMost (input_limit + 1) (S.left source.old) (S.left source.new) }
-    ensures cause { IfErr result (HasStopped (S.left source.old) (S.faults source.old) (S.faults source.new)) }
+    ensures stops { TakesAtMost (input_limit Alone + 1) (S.left source.old) (S.left source.new) }
+    ensures cause { IfErr result (HasStopped Alone (S.left source.old) (S.faults source.old) (S.faults source.new)) }
 {
     let _checked = load(alloc, source)?;
     let mut line = Vec::new(alloc);
@@ -146,17 +111,30 @@ fn shown<S: Source>(alloc: Global, source: &mut S) -> Result<(Text, Close), Stop
     ensures close { IfOk result (λ x. x.1 ≡ close.Well) }
     ensures text { IfOk result (λ x. IsShown (S.left source.old) x.0) }
     ensures end { OnOk result (IsAtEnd (S.left source.new)) }
-    ensures stops { TakesAtMost (input_limit + 1) (S.left source.old) (S.left source.new) }
-    ensures cause { IfErr result (HasStopped (S.left source.old) (S.faults source.old) (S.faults source.new)) }
+    ensures stops { TakesAtMost (input_limit Alone + 1) (S.left source.old) (S.left source.new) }
+    ensures cause { IfErr result (HasStopped Alone (S.left source.old) (S.faults source.old) (S.faults source.new)) }
 {
     let checked = load(alloc, source)?;
     let text = spell(alloc, &checked.spec)?;
     Ok((text, Close::Well))
 }
 
+/// Reads the input as a specification with a trace, and tells how many events that has.
+fn replayed<S: Source>(alloc: Global, budget: u32, source: &mut S) -> Result<(Text, Close), Stop>
+    ensures close { IfOk result (λ x. x.1 ≡ close.Well) }
+    ensures text { IfOk result (λ x. IsReplayed budget (S.left source.old) x.0) }
+    ensures end { OnOk result (IsAtEnd (S.left source.new)) }
+    ensures stops { TakesAtMost (input_limit (Traced budget) + 1) (S.left source.old) (S.left source.new) }
+    ensures cause { IfErr result (HasStopped (Traced budget) (S.left source.old) (S.faults source.old) (S.faults source.new)) }
+{
+    let count = load_replay(alloc, budget, source)?;
+    let text = replayed_line(alloc, count)?;
+    Ok((text, Close::Well))
+}
+
 /// Gives the canonical text of the ring of n stations.
 fn made(alloc: Global, n: u32) -> Result<(Text, Close), Stop>
-    requires { IsInRange (task.Make n) }
+    requires { AreStations n }
     ensures close { IfOk result (λ x. x.1 ≡ close.Well) }
     ensures text { IfOk result (λ x. IsMade n x.0) }
     ensures cause { IfErr result (λ e. e ≡ stop.Memory) }
@@ -177,9 +155,9 @@ fn output<S: Source, C: Clock>(
     ensures output { IfOk result (λ x. IsOutput task (C.moment clock.old) (S.left source.old) x.1 x.0) }
     ensures by_clock { IfOk result (λ x. x.1 ≡ close.ByClock → Rose (C.faults clock.old) (C.faults clock.new)) }
     ensures later { C.faults clock.old ≤ C.faults clock.new }
-    ensures unasked { (Runs task → ⊥) → clock.new ≡ clock.old }
+    ensures unasked { (AsksClock task → ⊥) → clock.new ≡ clock.old }
     ensures end { OnOk result (ReadsInput task → IsAtEnd (S.left source.new)) }
-    ensures stops { TakesAtMost (input_limit + 1) (S.left source.old) (S.left source.new) }
+    ensures stops { TakesAtMost (input_limit (contents_of task) + 1) (S.left source.old) (S.left source.new) }
     ensures idle { (ReadsInput task → ⊥) → source.new ≡ source.old }
     ensures cause { IfErr result (HasFailed task (S.left source.old) (S.faults source.old) (S.faults source.new)) }
 {
@@ -187,7 +165,13 @@ fn output<S: Source, C: Clock>(
         Task::Run { limits, seed } => ran(alloc, limits, seed, source, clock),
         Task::Check => accepted(alloc, source),
         Task::Show => shown(alloc, source),
+        Task::Replay { budget } => replayed(alloc, budget, source),
         Task::Make(n) => made(alloc, n),
+        Task::Trial {
+            stations,
+            limits,
+            seed,
+        } => tried(alloc, stations, limits, seed),
     }
 }
 
@@ -227,8 +211,8 @@ fn perform<S: Source, K: Sink, C: Clock>(
         (K.held out.old) (K.held out.new) (K.faults out.old) (K.faults out.new)
         (C.moment clock.old) (C.faults clock.old) (C.faults clock.new) result }
     ensures later { C.faults clock.old ≤ C.faults clock.new }
-    ensures unasked { (Runs task → ⊥) → clock.new ≡ clock.old }
-    ensures stops { TakesAtMost (input_limit + 1) (S.left source.old) (S.left source.new) }
+    ensures unasked { (AsksClock task → ⊥) → clock.new ≡ clock.old }
+    ensures stops { TakesAtMost (input_limit (contents_of task) + 1) (S.left source.old) (S.left source.new) }
     ensures idle { (ReadsInput task → ⊥) → source.new ≡ source.old }
 {
     match output(alloc, task, source, clock) {
@@ -240,8 +224,9 @@ fn perform<S: Source, K: Sink, C: Clock>(
 }
 
 /// The program on one thread. It does what the words ask for with the specification that the source has left: it runs it and
-/// writes the trace of its run to out, or judges its rules and writes `accepted` or its canonical text. Or it makes a ring, reads
-/// nothing, and writes the ring's canonical text. It writes at most one line to err. It returns on every input.
+/// writes the trace of its run to out, or judges its rules and writes `accepted` or its canonical text, or judges the trace that
+/// stands behind it and writes how many events it has. Or it makes a ring, reads nothing, and writes the ring's canonical text, or
+/// runs it and writes the counts and the end of its run. It writes at most one line to err. It returns on every input.
 pub fn estelle_plain<S: Source, K: Sink, E: Sink, C: Clock>(
     alloc: Global,
     words: &[&str],
@@ -253,7 +238,9 @@ pub fn estelle_plain<S: Source, K: Sink, E: Sink, C: Clock>(
     // Status 0: what was written is what the words ask for. For `run` that is the trace of a run of the specification that the
     // source had left, from its initial situation on, which ended deadlocked or at the limit of firings, and which is scheduled by
     // the seed of the words and by what the clock told; for `check` it is the line `accepted`, and for `show` the canonical text,
-    // of a specification that keeps all rules; for `make` it is the canonical text of the ring.
+    // of a specification that keeps all rules; for `replay` it is the line `accepted N`, of such a specification with the trace of
+    // a run of it that has N events and may end so; for `make` it is the canonical text of the ring; and for `trial` it is the line
+    // of the counts and the end of the run of the ring that is scheduled by the seed of the words.
     ensures done { result.0 ≡ Status.Done → IfSome (asked (texts words.now))
         (λ task. Writes task (C.moment clock) (S.left source.old) close.Well (K.held out.old) (K.held out.new)) }
     ensures done_line { result.0 ≡ Status.Done → err.new ≡ err.old }
@@ -276,7 +263,7 @@ pub fn estelle_plain<S: Source, K: Sink, E: Sink, C: Clock>(
     ensures reads_nothing { IsSomeAnd (asked (texts words.now)) (λ task. ReadsInput task → ⊥) → source.new ≡ source.old }
     ensures needs_input { NeedsInput result.0 → IsSomeAnd (asked (texts words.now)) ReadsInput }
 
-    // Status 2: the words ask for nothing that is built, and nothing was read.
+    // Status 2: the words ask for nothing, and nothing was read.
     ensures usage { result.0 ≡ Status.Usage → IsNone (asked (texts words.now)) }
     ensures no_usage { IsNone (asked (texts words.now)) → MayBeUsage result.0 }
     ensures usage_line { result.0 ≡ Status.Usage
@@ -284,11 +271,14 @@ pub fn estelle_plain<S: Source, K: Sink, E: Sink, C: Clock>(
     ensures usage_reads_nothing { IsNone (asked (texts words.now)) → source.new ≡ source.old }
 
     // Status 1: the input is too long, or has a byte with which no token begins, or text behind `end.`, or no
-    // specification spells its tokens, or that breaks a static rule; and such an input is refused.
-    ensures refused { result.0 ≡ Status.Refused → (refusal : Refusal) × IfSome (S.left source.old) (Refuses refusal)
+    // specification spells its tokens, or that breaks a static rule, or what is to be a trace behind it is none, or is that of no
+    // run of it; and such an input is refused.
+    ensures refused { result.0 ≡ Status.Refused → (refusal : Refusal)
+        × IfSome (asked (texts words.now)) (λ task. IfSome (S.left source.old) (Refuses (contents_of task) refusal))
         × Reports (E.held err.old) (E.held err.new) (E.faults err.old) (E.faults err.new) (refusal_line refusal) }
-    ensures refuses { (refusal : Refusal) (input : List ℕ) → IsSomeAnd (asked (texts words.now)) ReadsInput
-        → S.left source.old ≡ Some input → Refuses refusal input → MayRefuse result.0 }
+    ensures refuses { (refusal : Refusal) (input : List ℕ)
+        → IsSomeAnd (asked (texts words.now)) (λ task. ReadsInput task × Refuses (contents_of task) refusal input)
+        → S.left source.old ≡ Some input → MayRefuse result.0 }
 
     // Status 3: the source has failed.
     ensures read_fault { result.0 ≡ Status.ReadFault → Rose (S.faults source.old) (S.faults source.new) }
@@ -309,21 +299,23 @@ pub fn estelle_plain<S: Source, K: Sink, E: Sink, C: Clock>(
     // Without an output nothing is written to out.
     ensures quiet { HasNoOutput result.0 → IsQuiet (K.held out.old) (K.held out.new) (K.faults out.old) (K.faults out.new) }
 
-    // Where neither the source nor out nor the clock fails, the task is done with a specification that keeps all rules, or without
-    // an input, unless memory runs out.
-    ensures complete { (input : List ℕ) (t : Spec) → IsSomeAnd (asked (texts words.now)) ReadsInput
-        → S.left source.old ≡ Some input → Reads input t → (Rose (S.faults source.old) (S.faults source.new) → ⊥)
+    // Where neither the source nor out nor the clock fails, the task is done with a specification that keeps all rules, for `replay`
+    // with the trace of a run of it, or without an input, unless memory runs out.
+    ensures complete { (input : List ℕ)
+        → IsSomeAnd (asked (texts words.now)) (λ task. ReadsInput task × IsInput (contents_of task) input)
+        → S.left source.old ≡ Some input → (Rose (S.faults source.old) (S.faults source.new) → ⊥)
         → (Rose (K.faults out.old) (K.faults out.new) → ⊥) → (Rose (C.faults clock) (C.faults result.1) → ⊥) → MayFinish result.0 }
     ensures complete_alone { IsSomeAnd (asked (texts words.now)) (λ task. ReadsInput task → ⊥)
         → (Rose (K.faults out.old) (K.faults out.new) → ⊥) → MayFinish result.0 }
 
     // No more than one byte beyond the limit is read.
-    ensures stops { TakesAtMost (input_limit + 1) (S.left source.old) (S.left source.new) }
+    ensures stops { IfSome (asked (texts words.now))
+        (λ task. TakesAtMost (input_limit (contents_of task) + 1) (S.left source.old) (S.left source.new)) }
 
     // The clock's count of faults never falls, and the clock is asked for a run alone.
     ensures clock_later { C.faults clock ≤ C.faults result.1 }
     ensures unasked { IsNone (asked (texts words.now)) → result.1 ≡ clock }
-    ensures unasked_alone { IsSomeAnd (asked (texts words.now)) (λ task. Runs task → ⊥) → result.1 ≡ clock }
+    ensures unasked_alone { IsSomeAnd (asked (texts words.now)) (λ task. AsksClock task → ⊥) → result.1 ≡ clock }
 {
     let mut clock = clock;
     let task = match asked(alloc, words) {

@@ -18,6 +18,8 @@ mod memory;
 #[cfg(test)]
 mod pascal;
 #[cfg(test)]
+mod replaying;
+#[cfg(test)]
 mod rows;
 #[cfg(test)]
 mod systems;
@@ -27,3 +29,5 @@ mod time;
 mod trace_reading;
 #[cfg(test)]
 mod traces;
+#[cfg(test)]
+mod trials;

@@ -2,6 +2,7 @@
 
 use crate::calls::{ALL_STEADY, Answer, Device, Devices, STEADY, call, run};
 use crate::pascal::answer_of;
+use crate::systems::text_of;
 use crate::traces::{
     COUNTER_TRACE, DEADLOCK, OVERFLOW_TRACE, OVERFLOWING, TURNS, filled, is_trace,
 };
@@ -172,8 +173,8 @@ const ROWS: [Row; 13] = [
     ),
 ];
 
-/// Words that have no meaning, and words whose meaning is not built.
-const MEANINGLESS: [&[&str]; 15] = [
+/// Words that have no meaning.
+const MEANINGLESS: [&[&str]; 14] = [
     &[],
     &[""],
     &["Run"],
@@ -182,9 +183,8 @@ const MEANINGLESS: [&[&str]; 15] = [
     &["run", "run"],
     &["run", "--turns=1", "--turns", "2"],
     &["check", "--turns=1"],
-    &["run", "--workers=2"],
-    &["replay"],
-    &["trial", "--stations=2"],
+    &["replay", "--turns=1"],
+    &["trial"],
     // A ring has 2 to 200 stations, and how many must be said.
     &["make"],
     &["make", "--stations=1"],
@@ -193,7 +193,7 @@ const MEANINGLESS: [&[&str]; 15] = [
 ];
 
 /// Words that ask for something, and what.
-const ASKING: [(&[&str], Task); 7] = [
+const ASKING: [(&[&str], Task); 10] = [
     (
         &["run"],
         Task::Run {
@@ -224,8 +224,31 @@ const ASKING: [(&[&str], Task); 7] = [
             seed: Some(18446744073709551615),
         },
     ),
+    // On one thread there are no workers.
+    (
+        &["run", "--workers=2"],
+        Task::Run {
+            limits: Limits {
+                turns: 10_000,
+                budget: 1_000_000,
+            },
+            seed: None,
+        },
+    ),
     (&["check"], Task::Check),
     (&["show"], Task::Show),
+    (&["replay", "--budget=9"], Task::Replay { budget: 9 }),
+    (
+        &["trial", "--stations=3", "--turns=5", "--seed=1"],
+        Task::Trial {
+            stations: 3,
+            limits: Limits {
+                turns: 5,
+                budget: 1_000_000,
+            },
+            seed: Some(1),
+        },
+    ),
     (&["make", "--stations=2"], Task::Make(2)),
     (&["make", "--stations", "200"], Task::Make(200)),
 ];
@@ -350,6 +373,29 @@ const SPOILED: [(&str, &str, &str); 5] = [
     ("n < 3", "3", "rule 40 6:24"),
 ];
 
+/// Texts of several modules or transitions that are spoiled: the name of the worked one; what is replaced, by what, and the line on err
+/// behind `estelle: `.
+const SPOILED_MORE: [(&str, &str, &str, &str); 3] = [
+    (
+        "shared_queue",
+        "hub systemprocess; ip p, q: c(b) common queue",
+        "hub systemprocess; ip p, q: c(a)",
+        "rule 22 11:12",
+    ),
+    (
+        "shared_queue",
+        "when q.m begin",
+        "when q.m delay(1) begin",
+        "rule 30 11:16",
+    ),
+    (
+        "counter",
+        "provided n < 3",
+        "any i: 1..4097 do provided n < 3",
+        "rule 33 1:1",
+    ),
+];
+
 /// The commands that read a specification.
 const READING: [[&str; 1]; 3] = [["run"], ["check"], ["show"]];
 
@@ -373,6 +419,25 @@ fn spoiled_counters(rt: HostRuntime) -> Result<(), Fail> {
                 row.2
             );
         }
+    }
+    Ok(())
+}
+
+/// Whether a worked text that is spoiled is refused with its reason.
+fn is_refused_too(
+    alloc: Global,
+    row: &(&'static str, &str, &str, &str),
+) -> Result<bool, AllocError> {
+    let (name, old, new, reason) = row;
+    let text = text_of(name).replace(alloc, *old, new)?;
+    let answer = call(alloc, &["check"], ALL_STEADY, text.as_bytes())?;
+    Ok(answer.refuses(reason))
+}
+
+#[test]
+fn spoiled_systems(rt: HostRuntime) -> Result<(), Fail> {
+    for row in &SPOILED_MORE {
+        assert!(rt; is_refused_too(rt.alloc(), row)?, "{}", row.3);
     }
     Ok(())
 }
@@ -494,6 +559,37 @@ fn is_done(alloc: Global, block: &str, line: &str, status: Status) -> Result<boo
 fn budgets(rt: HostRuntime) -> Result<(), Fail> {
     for (block, line, status) in &UNITS {
         assert!(rt; is_done(rt.alloc(), block, line, *status)?, "{block}");
+    }
+    Ok(())
+}
+
+/// The counter behind a comment, so many bytes in all.
+fn commented(alloc: Global, length: usize) -> Result<Vec<u8>, AllocError> {
+    let mut text = filled(alloc, "{", length.saturating_sub(COUNTER.len() + 2))?;
+    text.extend_from_slice(b"}\n".as_slice())?;
+    text.extend_from_slice(COUNTER.as_bytes())?;
+    Ok(text)
+}
+
+/// How long the counter is with a comment before it, and what err then holds.
+const COMMENTED: [(usize, &str); 2] = [(1_048_576, ""), (1_048_577, TOO_LONG)];
+
+/// Whether it is accepted or refused by its length.
+fn is_judged(alloc: Global, row: &(usize, &str)) -> Result<bool, AllocError> {
+    let (length, err) = row;
+    let input = commented(alloc, *length)?;
+    let answer = call(alloc, &["check"], ALL_STEADY, &input)?;
+    if err.is_empty() {
+        return Ok(answer.is(Status::Done, "accepted\n", ""));
+    }
+    Ok(answer.is(Status::Refused, "", err))
+}
+
+// A comment counts in the length.
+#[test]
+fn commented_lengths(rt: HostRuntime) -> Result<(), Fail> {
+    for row in &COMMENTED {
+        assert!(rt; is_judged(rt.alloc(), row)?, "{}", row.0);
     }
     Ok(())
 }

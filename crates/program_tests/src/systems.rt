@@ -40,7 +40,7 @@ end.
 ";
 
 /// The children of an activity go one at a time.
-const TWO_ACTIVITIES: &str = "specification pair systemactivity;
+pub(crate) const TWO_ACTIVITIES: &str = "specification pair systemactivity;
 module cell activity; end;
 body b for cell;
 state off, on;

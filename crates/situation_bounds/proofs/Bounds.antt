@@ -16,7 +16,8 @@ use Rattle.estelle_model_legality.specs.Instances.{LeadsToStates}
 use Rattle.situation_steps.specs.declared.systems.System.{System}
 use Rattle.situation_steps.specs.Systems.{systems_of}
 use Rattle.situation_steps.proofs.Going.{last-push, fires-push, situation-push}
-use Rattle.situation_bounds.specs.Bounds.{selections, waits_in, SelectionsAreBounded, WaitsAreBounded}
+use Rattle.run_counts.specs.Counts.{selections}
+use Rattle.situation_bounds.specs.Bounds.{waits_in, SelectionsAreBounded, WaitsAreBounded}
 use Rattle.situation_bounds.proofs.Before.{IsBefore, run_before}
 use Rattle.situation_bounds.proofs.Counts.{bound_stays}
 use Rattle.situation_bounds.proofs.Known.{awaiting, IsKnown, selections-push}

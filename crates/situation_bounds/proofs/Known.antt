@@ -7,7 +7,7 @@ use Rattle.estelle_model.specs.Ends.{fires}
 use Rattle.estelle_model_legality.proofs.Lists.{count_append}
 use Rattle.situation_steps.specs.declared.systems.System.{System}
 use Rattle.situation_steps.specs.UnderWay.{IsUnderWay}
-use Rattle.situation_bounds.specs.Bounds.{is_selection, selections}
+use Rattle.run_counts.specs.Counts.{is_select, selections}
 
 -- how many systems await a selection
 abbrev pub awaiting : List System → ℕ
@@ -23,5 +23,5 @@ pub record IsKnown (s : Subject) (budget : ℕ) (events : List Event) (known wai
   -- and where the clock may be waited for, it may once more
   pub has_waited : waits + cond may_wait 1 0 ≤ fires events + 1
 
-pub selections-push : (es : List Event) (e : Event) → selections (es ++ e ∷ []) ≡ selections es + cond (is_selection e) 1 0
-selections-push es e = count_append Event is_selection es e
+pub selections-push : (es : List Event) (e : Event) → selections (es ++ e ∷ []) ≡ selections es + cond (is_select e) 1 0
+selections-push es e = count_append Event is_select es e

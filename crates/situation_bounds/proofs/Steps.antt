@@ -33,7 +33,7 @@ use Rattle.situation_steps.proofs.Selections.{selections_go_on}
 use Rattle.situation_steps.proofs.Fired.{firings_go_on}
 use Rattle.situation_steps.proofs.Waiting.{timers_are_waited_for, waits_go_on}
 use Rattle.situation_steps.proofs.Dead.{dead_ends}
-use Rattle.situation_bounds.specs.Bounds.{selections}
+use Rattle.run_counts.specs.Counts.{selections}
 use Rattle.situation_bounds.proofs.Answered.{start_put, fire_put}
 use Rattle.situation_bounds.proofs.Counts.{count_set, bound_stays, bound_grows}
 use Rattle.situation_bounds.proofs.Due.{kept_first_due, none_kept_due}

@@ -1,7 +1,6 @@
 -- How often a scheduled run selects and waits for the clock: its firings bound both.
-use Rattle.std.specs.Prelude.{ℕ, suc, ◌+◌, ◌*◌, ◌≤◌, Bool, true, false, List, length, count_by, Option}
+use Rattle.std.specs.Prelude.{ℕ, suc, ◌+◌, ◌*◌, ◌≤◌, List, length, Option}
 use Rattle.estelle_model.specs.declared.event.Event.{Event}
-use Rattle.estelle_model.specs.declared.event.Event.TheVariants.{Select}
 use Rattle.estelle_model.specs.Subject.{Subject}
 use Rattle.estelle_model.specs.Choosers.{Draw}
 use Rattle.estelle_model.specs.Runs.{IsRun, situation}
@@ -9,15 +8,7 @@ use Rattle.estelle_model.specs.Ends.{fires}
 use Rattle.estelle_model.specs.Schedule.{Kept, Reaches, begins, goes_on, waits}
 use Rattle.estelle_model_legality.specs.Instances.{LeadsToStates}
 use Rattle.situation_steps.specs.Systems.{systems_of}
-
--- a system selects
-abbrev pub is_selection : Event → Bool
-is_selection (Select system now takes) = true
-is_selection _ = false
-
--- how many selections there were
-abbrev pub selections : List Event → ℕ
-selections = count_by is_selection
+use Rattle.run_counts.specs.Counts.{selections}
 
 -- how often the clock was waited for
 abbrev pub waits_in : {C : Type 0} {draw : Draw C} {s : Subject} {budget turns : ℕ} {clock : Option ℕ} {chooser : C} {events : List Event} {kept : Kept C} → Reaches draw s budget turns clock chooser events kept → ℕ

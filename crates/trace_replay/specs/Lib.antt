@@ -1,0 +1,2 @@
+-- ---- what is judged
+pub mod Replayed
