@@ -1,6 +1,6 @@
-//! The units that firings and guards have.
+//! The units that firings and guards have, and runs by another chooser.
 
-ghost use Rattle.std.specs.Prelude.{IfSome};
+ghost use Rattle.std.specs.Prelude.{ℕ, ◌-◌, IfSome};
 ghost use Rattle.estelle_tree.specs.Lexed.{FollowOneAnother};
 ghost use Rattle.estelle_tree.specs.Spells.{Spells};
 ghost use Rattle.estelle_model_legality.specs.Instances.{LeadsToStates};
@@ -11,13 +11,14 @@ use estelle_lexer::Tokens;
 use estelle_model::{End, Event, Run};
 use estelle_parser::parse;
 use estelle_tree::{Sequence, Spec};
-use outside::{FirstChooser, VirtualClock};
+use outside::{Chooser, FirstChooser, VirtualClock};
 use pascal_values::Fault;
 use situation::{Limits, execute};
 use spec_accept::{Checked, accept};
 use std::alloc::Global;
 use std::test::Fail;
-use test_texts::{counter_with, tokens_of};
+use test_texts::{WORKED, counter_with, tokens_of};
+use trace_text::write;
 
 /// A function that is true and takes so many units and one more.
 const SPIN: &str = "function spin(k: integer): boolean;
@@ -108,7 +109,7 @@ fn accepted_of(alloc: Global, found: &Tokens, spec: Spec) -> Option<Checked>
     }
 }
 
-fn accepted(alloc: Global, text: &[u8]) -> Option<Checked>
+pub(crate) fn accepted(alloc: Global, text: &[u8]) -> Option<Checked>
     ensures { IfSome result (λ checked. LeadsToStates (subject checked.spec checked.names)) }
 {
     let found = tokens_of(alloc, text)?;
@@ -118,8 +119,20 @@ fn accepted(alloc: Global, text: &[u8]) -> Option<Checked>
     }
 }
 
-/// The run of a text, where each firing and each guard has 5 units.
-fn run_of(alloc: Global, text: &[u8]) -> Option<(Run, End)> {
+/// The chooser that picks the last candidate each time.
+#[derive(Clone, Copy)]
+struct LastChooser;
+
+impl Chooser for LastChooser {
+    ghost draw = { λ chooser n. (n - 1, chooser) };
+
+    fn pick(&mut self, n: u64) -> u64 {
+        n - 1
+    }
+}
+
+/// The run of a text by a chooser, where each firing and each guard has 5 units.
+fn run_of<H: Chooser + Drop>(alloc: Global, text: &[u8], chooser: H) -> Option<(Run, End)> {
     let checked = accepted(alloc, text)?;
     let limits = Limits {
         turns: 10_000,
@@ -132,7 +145,7 @@ fn run_of(alloc: Global, text: &[u8]) -> Option<(Run, End)> {
         &checked.names,
         limits,
         &mut clock,
-        FirstChooser,
+        chooser,
     )
     .ok()
 }
@@ -149,12 +162,42 @@ fn firings(events: &[Event]) -> usize {
 fn budgets(rt: HostRuntime) -> Result<(), Fail> {
     for (declared, guard, block, fires, end) in &BUDGETS {
         let text = counter_with(rt.alloc(), declared, guard, block)?;
-        let answer = run_of(rt.alloc(), text.as_bytes());
+        let answer = run_of(rt.alloc(), text.as_bytes(), FirstChooser);
         assert!(rt; answer.is_some(), "{guard}: {block}");
         if let Some((run, found)) = answer {
             assert_eq!(rt; firings(run.events.items()), *fires, "{guard}: {block}");
             assert_eq!(rt; found, *end, "{guard}: {block}");
         }
     }
+    Ok(())
+}
+
+/// Whether this is the trace of a run that ends so.
+pub(crate) fn is_trace(alloc: Global, run: &Run, end: End, trace: &str) -> bool {
+    match write(alloc, run, end) {
+        Ok(text) => text.items() == trace.as_bytes(),
+        Err(_) => false,
+    }
+}
+
+/// The two children are selected together, and the second one fires first.
+const SECOND_GOES_FIRST: &str = "estelle trace 1
+start
+select / now 0 takes /1:1 /2:1
+fire /2 1
+fire /1 1
+select / now 0 takes -
+end deadlock
+";
+
+// Of two pending firings the chooser picks the last one.
+#[test]
+fn last_candidates(rt: HostRuntime) -> Result<(), Fail> {
+    let worked = &WORKED[1];
+    assert_eq!(rt; worked.name, "two_cells");
+    let answer = run_of(rt.alloc(), worked.text.as_bytes(), LastChooser);
+    assert!(rt;
+        matches!(&answer, Some((run, end)) if is_trace(rt.alloc(), run, *end, SECOND_GOES_FIRST))
+    );
     Ok(())
 }
