@@ -4,34 +4,19 @@
 #
 # usage: bench/run.sh [PROGRAM]
 #
-# PROGRAM is what `rt run` builds in crates/estelle_tool. A run has at most 10,000 firings, and each firing at most
-# 1,000,000 units (a loop's turn or a call takes one). GNU time is wanted, as /usr/bin/time.
-
-set -eu
-top=$(cd "$(dirname "$0")/.." && pwd)
-program=${1:-$top/crates/estelle_tool/out/estelle_tool}
-
-if [ ! -x "$program" ]; then
-    echo "bench: no program $program: call rt run in crates/estelle_tool first" >&2
-    exit 1
-fi
-folder=$(mktemp -d)
-trap 'rm -rf "$folder"' EXIT
-failed=0
+# PROGRAM is what `rt run` builds in crates/estelle_tool. The runs have the limits that hold where none is said: 10,000 firings of
+# 1,000,000 units each.
+# shellcheck source=bench/measure.sh
+. "$(dirname "$0")/measure.sh"
 
 # ---- one run
 
 # The program on the input, which is to fire so often and to end with this status.
 measure() {
-    status=0
-    /usr/bin/time -f '%U %S %M' -o "$folder/time" "$program" run <"$folder/input" >"$folder/out" 2>"$folder/err" || status=$?
-    read -r user system memory <<END
-$(tail -n 1 "$folder/time")
-END
-    seconds=$(awk "BEGIN { printf \"%.2f\", $user + $system }")
+    run_times 1 run
     each=-
     [ "$2" -eq 0 ] || each=$(awk "BEGIN { printf \"%.1f\", $seconds * 1000000 / $2 }")
-    printf '%-44s %9d %9d %8s %12s %9d %7d\n' "$1" "$(wc -c <"$folder/input")" "$(wc -c <"$folder/out")" \
+    printf '%-44s %9d %9d %8.2f %12s %9d %7d\n' "$1" "$(wc -c <"$folder/input")" "$(wc -c <"$folder/out")" \
         "$seconds" "$each" "$memory" "$status"
     fires=$(grep -c '^fire' "$folder/out") || true
     if [ "$fires" -ne "$2" ] || [ "$status" -ne "$3" ]; then
