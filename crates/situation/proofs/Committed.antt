@@ -133,6 +133,7 @@ module _ {H : Type 0} where
                   (failed_reached s o.leads b t es c.time c.systems.items o.going none_due below p is_pending (c.tickets + 1) next_is kind draw first_chooser c.chooser picked moment clock first r);
             };
             leaves = less_ended ((t - fires es) * (2 * length c.systems.items + 3) + ((if c.time.may_wait then length c.systems.items + 1 else 0) + count_by (λ (x : System). x.awaits) c.systems.items)) (left_to_do before) start;
+            adds = (c.tickets + 1, p, kind, e);
             ends = λ clocked. absurd (no_clock kind clocked);
           }
 
@@ -175,6 +176,7 @@ module _ {H : Type 0} where
                   (fired_reached s o.leads b t es c.time c.systems.items o.going none_due below p is_pending (c.tickets + 1) next_is computed.job computed.is_for done computed.answers image effects is draw first_chooser c.chooser picked moment clock first r);
             };
             leaves = less_fired (fires n.history.entries) (fires es) t c.time.may_wait c.systems.items n.systems.items (left_to_do (with_firing c m n)) (left_to_do before) count below many after start;
+            adds = (c.tickets + 1, p, a.outs, a.drops, e);
             ends = λ clocked. absurd (not_by_clock c.end opened.unended clocked);
           }
 

@@ -108,6 +108,7 @@ module _ {H : Type 0} where
     keeps = h.keeps;
     goes_on = record { program = h.goes_on.program; limits = h.goes_on.limits; reached = h.goes_on.reached };
     leaves = h.leaves;
+    adds = h.adds;
     ends = h.ends;
   }
 

@@ -54,6 +54,7 @@ module _ {H : Type 0} where
           (reached_end draw c.program.now c.limits.budget c.limits.turns clock first c.history.entries c.chooser c.time moment e r);
     };
     leaves = refl;
+    adds = tt;
     ends = λ is. ap (says e) is;
   }
 
@@ -79,6 +80,7 @@ module _ {H : Type 0} where
           reached = λ clock begun r. subst (λ (xs : List Entry). AreReached draw s b t clock begun xs c.chooser c.time moment) (sym entries_are) (h.reached clock begun c.chooser moment r);
         };
         leaves = refl;
+        adds = tt;
         ends = λ is. ap (says (Faulted kind)) is;
       }
 

@@ -1,6 +1,6 @@
--- After a refusal the run is as before, and so is its end.
+-- A step as a caller sees it; after a refusal the run is as before, and so is its end.
 use Rattle.std.proofs.Common.{◌≡◌, ℕ, ◌+◌, ◌≤◌, List, [], ◌∷◌, ◌++◌, length, Option, Some, None, refl, sym, ap, subst, ◌∙◌, arith}
-use Rattle.std.specs.Prelude.{Result, Ok, Err, OnErr}
+use Rattle.std.specs.Prelude.{Result, Ok, Err, IfOk, OnErr}
 use Rattle.std.proofs.lemmas.List.Elements.{filter_map-append}
 use Rattle.std.proofs.lemmas.List.{length-append}
 use Rattle.estelle_model.specs.declared.event.End.{End}
@@ -9,10 +9,13 @@ use Rattle.run_history.specs.declared.entry.What.{What}
 use Rattle.run_history.specs.declared.entry.What.TheVariants as what
 use Rattle.run_history.specs.Histories.{event_of, project}
 use Rattle.run_history.specs.Tickets.{ticket_of, tickets}
+use Rattle.estelle_model.specs.Choosers.{Draw}
 use Rattle.situation.specs.declared.course.Course.{Course}
+use Rattle.situation.specs.declared.limits.Stepped.{Stepped}
+use Rattle.situation.specs.declared.limits.Stepped.TheVariants as did
 use Rattle.situation.specs.Runs.{ending, AreCounted}
-use Rattle.situation.specs.Worlds.{IsKept, IsCourse, IsUnchanged}
-use Rattle.situation.specs.Known.{Known, IsAsBefore}
+use Rattle.situation.specs.Worlds.{IsKept, IsCourse, IsUnchanged, HasStepped, Leaves}
+use Rattle.situation.specs.Known.{Known, IsAsBefore, IsPlannedStep, LeavesLess}
 
 -- ---- an end among the entries
 
@@ -69,3 +72,24 @@ module _ {H : Type 0} where
   pub as_before : {A E C : Type 0} (r : Result A E) (c n : Course H) (clock clock' : C) → IsCourse c → OnErr r (IsUnchanged c n) → OnErr r (IsAsBefore (seen c clock) (seen n clock'))
   as_before (Ok a) c n clock clock' k u = tt
   as_before (Err e) c n clock clock' k u = record { subject = ap (λ p. p.now) u.program; limits = u.limits; entries = u.entries; end = end_as_before c n k u; time = u.time }
+
+  -- ---- steps
+
+  leaves_so : {C : Type 0} (c n : Course H) (clock clock' : C) (d : Stepped) → Leaves c n d → LeavesLess (seen c clock) (seen n clock') d
+  leaves_so c n clock clock' did.Selected h = h
+  leaves_so c n clock clock' did.Waited h = h
+  leaves_so c n clock clock' did.Fired h = h
+  leaves_so c n clock clock' did.Faulted h = h
+  leaves_so c n clock clock' (did.Ended e) h = h
+
+  pub planned : {E C : Type 0} (draw : Draw H) (moment : C → Option ℕ) (r : Result Stepped E) (c n : Course H) (clock clock' : C) → IfOk r (HasStepped draw (moment clock) (moment clock') c n)
+      → IfOk r (IsPlannedStep draw moment (seen c clock) (seen n clock'))
+  planned draw moment (Ok d) c n clock clock' h = record {
+    subject = ap (λ p. p.now) h.goes_on.program;
+    limits = h.goes_on.limits;
+    reached = h.goes_on.reached;
+    leaves = leaves_so c n clock clock' d h.leaves;
+    adds = h.adds;
+    ends = h.ends;
+  }
+  planned draw moment (Err e) c n clock clock' h = tt

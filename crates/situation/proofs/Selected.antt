@@ -117,5 +117,6 @@ module _ {H : Type 0} where
         };
         leaves = less_selected (fires n.history.entries) (fires es) t c.time.may_wait c.systems.items n.systems.items at x (length takes) (left_to_do new) (left_to_do c) fired due.first.1.there
             (and_left x.awaits (nat_eq x.pending 0) due.first.1.due) systems_are (left_open new opened.unended) (left_open c opened.unended);
+        adds = (x.path, moment, takes, entries_are);
         ends = λ clocked. let wrong : None ≡ Some Clock = sym opened.unended ∙ clocked in absurd (cc);
       }

@@ -10,7 +10,7 @@ use Rattle.situation.specs.declared.limits.Stepped.{Stepped}
 use Rattle.situation.specs.declared.limits.Stepped.TheVariants as did
 use Rattle.situation.specs.declared.course.Course.{Course}
 use Rattle.situation.specs.Runs.{IsGoing, IsClosed, AreReached}
-use Rattle.situation.specs.Worlds.{Holds, IsOpenCourse, IsKept, IsCourse, HasStepped, IsUnchanged, Leaves, work, left_to_do}
+use Rattle.situation.specs.Worlds.{Holds, IsOpenCourse, IsKept, IsCourse, HasStepped, IsUnchanged, Adds, Leaves, work, left_to_do}
 use Rattle.situation.specs.Steps.{GoesOn}
 use Rattle.situation.proofs.Ended.{says}
 
@@ -21,6 +21,7 @@ module _ {H : Type 0} where
     keeps = h;
     goes_on = record { program = refl; limits = refl; reached = λ clock first r. r };
     leaves = is;
+    adds = tt;
     ends = λ clocked. ap (says e) (sym is ∙ clocked);
   }
 
@@ -64,6 +65,7 @@ module _ {H : Type 0} where
       reached = λ clock first r. s.goes_on.reached clock first (subst (λ (es : List Entry). AreReached draw c.program.now c.limits.budget c.limits.turns clock first es c.chooser c.time moment) (sym same) r);
     };
     leaves = leaves_so (with_history c h) c n d (ap (λ (es : List Entry). work c.limits.turns (fires es) c.systems.items c.time.may_wait c.end) same) s.leaves;
+    adds = subst (λ (es : List Entry). Adds es n.history.entries d) same s.adds;
     ends = s.ends;
   }
 

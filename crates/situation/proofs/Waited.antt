@@ -79,5 +79,6 @@ module _ {H : Type 0} where
               (λ known is_told. still_told known told after moment is_told moved);
         };
         leaves = less_waited (fires es) t c.systems.items n.systems.items (left_to_do new) (left_to_do c) systems_are (left_open new opened.unended) once;
+        adds = refl;
         ends = λ clocked. let wrong : None ≡ Some Clock = sym opened.unended ∙ clocked in absurd (cc);
       }

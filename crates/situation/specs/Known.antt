@@ -13,7 +13,7 @@ use Rattle.situation.specs.declared.limits.Limits.{Limits}
 use Rattle.situation.specs.declared.limits.Stepped.{Stepped}
 use Rattle.situation.specs.declared.limits.Stepped.TheVariants as stepped
 use Rattle.situation.specs.Runs.{IsGoing, IsClosed, AreReached}
-use Rattle.situation.specs.Worlds.{work}
+use Rattle.situation.specs.Worlds.{Adds, work}
 
 -- a run of a specification as far as it came, with its chooser and its clock
 pub record Known (C H : Type 0) : Type 0 where
@@ -67,6 +67,8 @@ module _ {C H : Type 0} where
     pub limits : after.limits ≡ before.limits
     pub reached : (clock : Option ℕ) (first : H) → IsReachedBy draw moment clock first before → IsReachedBy draw moment clock first after
     pub leaves : LeavesLess before after did
+    -- and it adds what it tells
+    pub adds : Adds before.history.entries after.history.entries did
     -- it has ended by the clock only if it says so
     pub ends : after.end ≡ Some Clock → did ≡ stepped.Ended Clock
 

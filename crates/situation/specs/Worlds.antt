@@ -1,9 +1,13 @@
 -- What a world keeps of a run.
-use Rattle.std.specs.Prelude.{◌≡◌, ◌<◌, ℕ, ◌+◌, ◌-◌, ◌*◌, ◌^◌, Bool, if◌then◌else◌, List, [], length, count_by, Option, Some, None}
+use Rattle.std.specs.Prelude.{◌≡◌, ◌<◌, ℕ, ◌+◌, ◌-◌, ◌*◌, ◌^◌, ◌++◌, ◌∷◌, Bool, if◌then◌else◌, List, [], length, count_by, Option, Some, None}
 use Rattle.estelle_tree.specs.declared.transition.Pair.{Pair}
+use Rattle.estelle_tree.specs.Paths.{Path}
 use Rattle.estelle_tree.specs.Timers.{Timers}
+use Rattle.pascal_values.specs.declared.fault.Fault.{Fault}
+use Rattle.estelle_model.specs.declared.effect.Out.{Out}
+use Rattle.estelle_model.specs.declared.event.Event.TheVariants as event
 use Rattle.estelle_model.specs.declared.event.End.{End}
-use Rattle.estelle_model.specs.declared.event.End.TheVariants.{Clock}
+use Rattle.estelle_model.specs.declared.event.End.TheVariants.{Clock, Faulted}
 use Rattle.estelle_model.specs.Subject.{Subject}
 use Rattle.estelle_model.specs.Situation.{Situation}
 use Rattle.estelle_model.specs.Delays.{has_delays}
@@ -22,7 +26,7 @@ use Rattle.situation.specs.declared.limits.Limits.{Limits}
 use Rattle.situation.specs.declared.limits.Stepped.{Stepped}
 use Rattle.situation.specs.declared.limits.Stepped.TheVariants as stepped
 use Rattle.situation.specs.declared.course.Course.{Course}
-use Rattle.situation.specs.Runs.{IsGoing, IsClosed, AreReached}
+use Rattle.situation.specs.Runs.{noted, ending, take_of, IsGoing, IsClosed, AreReached}
 
 -- the shared state, the timers and what is pending are those of the situation that the events of a history lead to
 pub record Holds (s : Subject) (budget : ℕ) (entries : List Entry) (shared : Shared) (running : Timers) (waiting : List Pair) : Type 0 where
@@ -41,6 +45,14 @@ abbrev pub work : ℕ → ℕ → List System → Bool → Option End → ℕ
 work turns count systems may_wait None =
     1 + ((turns - count) * (2 * length systems + 3) + ((if may_wait then length systems + 1 else 0) + count_by (λ x. x.awaits) systems))
 work turns count systems may_wait (Some e) = 0
+
+-- what a step adds to the history: the selection, or the firing or its fault behind a ticket, where a fault is the end too
+abbrev pub Adds : List Entry → List Entry → Stepped → Type 0
+Adds before after stepped.Selected = (system : Path) × (moment : ℕ) × (takes : List Pair) × (after ≡ before ++ noted (event.Select system moment takes) ∷ [])
+Adds before after stepped.Waited = after ≡ before
+Adds before after stepped.Fired = (ticket : ℕ) × (p : Pair) × (outs : List Out) × (drops : List ℕ) × (after ≡ (before ++ take_of ticket p ∷ []) ++ noted (event.Fire p.path p.trans outs drops) ∷ [])
+Adds before after stepped.Faulted = (ticket : ℕ) × (p : Pair) × (kind : Fault) × (after ≡ ((before ++ take_of ticket p ∷ []) ++ noted (event.Fault p.path p.trans kind) ∷ []) ++ ending (Faulted kind) ∷ [])
+Adds before after (stepped.Ended e) = Unit {0}
 
 module _ {H : Type 0} where
   abbrev pub entries_of : Course H → List Entry
@@ -101,6 +113,7 @@ module _ {H : Type 0} where
     pub keeps : IsCourse after
     pub goes_on : HasGoneOn draw moment moment' before after
     pub leaves : Leaves before after did
+    pub adds : Adds before.history.entries after.history.entries did
     -- it has ended by the clock only if it says so
     pub ends : after.end ≡ Some Clock → did ≡ stepped.Ended Clock
 
