@@ -1,6 +1,7 @@
 //! Flat transitions: which ones accepted texts have, with all that is said of each.
 
-use estelle_tree::{Flat, FlatTrans, Limit, Sequence, Span};
+use estelle_tree::{Sequence, Span};
+use flat_transitions::{Flat, FlatTrans, Limit};
 use spec_accept::accept;
 use std::alloc::{AllocError, Global};
 use std::test::Fail;
@@ -100,11 +101,17 @@ fn write_clauses(out: &mut String, text: &str, of: &FlatTrans) -> Result<(), All
     Ok(())
 }
 
-fn write_transition(out: &mut String, text: &str, of: &FlatTrans) -> Result<(), AllocError> {
+fn write_transition(
+    alloc: Global,
+    out: &mut String,
+    text: &str,
+    of: &FlatTrans,
+) -> Result<(), AllocError> {
     write!(out, "{}", of.number)?;
-    if !of.from.is_empty() {
+    let from = of.from.listed(alloc)?;
+    if !from.is_empty() {
         write!(out, " from")?;
-        for state in of.from.items() {
+        for state in from.items() {
             write!(out, " {state}")?;
         }
     }
@@ -123,7 +130,7 @@ fn written(alloc: Global, text: &str, flat: &Flat) -> Result<String, AllocError>
     for body in flat.bodies.items() {
         writeln!(&mut out, "body")?;
         for transition in body.items() {
-            write_transition(&mut out, text, transition)?;
+            write_transition(alloc, &mut out, text, transition)?;
         }
     }
     Ok(out)

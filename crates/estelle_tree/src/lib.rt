@@ -1,7 +1,6 @@
 //! Specifications as trees, their tokens, and the small types that every layer shares.
 #![tactic(auto)]
 
-mod flat;
 mod kind;
 mod laws;
 mod link;
@@ -15,7 +14,6 @@ mod tree;
 mod word;
 
 pub use estelle_lists::{Boxed, Items, Sequence, SequenceMut};
-pub use flat::{Flat, FlatTrans, Limit};
 pub use kind::{Kind, RESERVED, is_identifier, kind_of};
 pub use laws::prefixes_begin;
 pub use link::{IpAddr, Link, LinkKind};

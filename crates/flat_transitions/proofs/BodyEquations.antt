@@ -2,7 +2,7 @@
 use Rattle.std.proofs.Common.{◌≡◌, ◌∙◌, List, [], ◌∷◌, ◌++◌, map, refl, ap, sym, append_assoc, append-nil}
 use Rattle.std.specs.List.{flat_map}
 use Rattle.std.proofs.lemmas.List.{map-append}
-use Rattle.estelle_tree.specs.declared.flat.FlatTrans.{FlatTrans}
+use Rattle.flat_transitions.specs.declared.flat.FlatTrans.{FlatTrans}
 use Rattle.std.proofs.lemmas.List.Folds.{flat_map-map}
 use Rattle.estelle_tree.specs.declared.tree.specification.Trans.{Trans}
 use Rattle.estelle_tree.specs.declared.tree.specification.Decl.{Decl, out-Decl, map-Decl, fold_out-Decl}

@@ -1,6 +1,6 @@
 -- Numbers of transitions.
 use Rattle.std.proofs.Common.{◌≡◌, ◌∙◌, ℕ, zero, suc, ◌+◌, ◌<◌, List, [], ◌∷◌, ◌++◌, take, get_or, length, ap, sym, arith}
-use Rattle.estelle_tree.specs.declared.flat.FlatTrans.{FlatTrans}
+use Rattle.flat_transitions.specs.declared.flat.FlatTrans.{FlatTrans}
 use Rattle.estelle_model.specs.Transitions.{Transition}
 use Rattle.flat_transitions.specs.FlatList.{flat_trans, numbered_from}
 

@@ -2,7 +2,7 @@
 use Rattle.std.proofs.Common.{◌≡◌, ◌∙◌, Bool, List, [], ◌∷◌, ◌++◌, map, refl, ap, sym, subst}
 use Rattle.std.specs.List.{flat_map}
 use Rattle.std.proofs.lemmas.List.{map-append}
-use Rattle.estelle_tree.specs.declared.flat.FlatTrans.{FlatTrans}
+use Rattle.flat_transitions.specs.declared.flat.FlatTrans.{FlatTrans}
 use Rattle.estelle_tree.specs.declared.tree.name.Name.{Name}
 use Rattle.estelle_tree.specs.declared.tree.specification.Trans.{Trans}
 use Rattle.estelle_tree.specs.declared.tree.specification.Decl.{Decl, roll-Decl, map-Decl, fold-roll-Decl}

@@ -1,7 +1,7 @@
 -- What the walk over the bodies gathers.
 use Rattle.std.specs.Prelude.{List, [], ◌∷◌}
 use Rattle.std.specs.List.{flat_map}
-use Rattle.estelle_tree.specs.declared.flat.FlatTrans.{FlatTrans}
+use Rattle.flat_transitions.specs.declared.flat.FlatTrans.{FlatTrans}
 use Rattle.estelle_tree.specs.declared.tree.specification.Trans.{Trans}
 use Rattle.estelle_tree.specs.declared.tree.specification.Decl.{Decl}
 use Rattle.estelle_tree.specs.declared.tree.specification.Decl.TheOpen.{Decl-F, Body-F, Parts-F}

@@ -3,10 +3,11 @@ use Rattle.std.specs.Prelude.{ℕ, suc, List, [], ◌∷◌, map, ℤ, option_ma
 use Rattle.std.specs.List.{flat_map}
 use Rattle.pascal_values.specs.declared.fault.Fault.{Fault}
 use Rattle.estelle_tree.specs.declared.span.Span.{Span}
-use Rattle.estelle_tree.specs.declared.flat.Flat.{Flat}
-use Rattle.estelle_tree.specs.declared.flat.FlatTrans.{FlatTrans}
-use Rattle.estelle_tree.specs.declared.flat.Limit.{Limit}
-use Rattle.estelle_tree.specs.declared.flat.Limit.TheVariants.{Same, At, Never}
+use Rattle.flat_transitions.specs.FromStates.{states_of}
+use Rattle.flat_transitions.specs.declared.flat.Flat.{Flat}
+use Rattle.flat_transitions.specs.declared.flat.FlatTrans.{FlatTrans}
+use Rattle.flat_transitions.specs.declared.flat.Limit.{Limit}
+use Rattle.flat_transitions.specs.declared.flat.Limit.TheVariants.{Same, At, Never}
 use Rattle.estelle_tree.specs.declared.tree.expression.Expr.{Expr, out-Expr}
 use Rattle.estelle_tree.specs.declared.tree.clause.DelayHigh.{DelayHigh}
 use Rattle.estelle_tree.specs.declared.tree.clause.DelayHigh.TheVariants as high
@@ -19,11 +20,6 @@ use Rattle.estelle_model.specs.Subject.{Subject, meant_with}
 
 abbrev pub span_of : Expr → Span
 span_of e = (out-Expr e).span
-
--- no state stands for every state
-abbrev pub states_of : Option (List ℕ) → List ℕ
-states_of None = []
-states_of (Some states) = states
 
 abbrev pub received : When → ℕ × List ℕ
 received w = (w.ip, w.name)

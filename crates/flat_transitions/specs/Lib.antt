@@ -1,6 +1,7 @@
 -- ---- flat transitions, as a list of each body and of a specification
 pub mod Flat
 pub mod FlatList
+pub mod FromStates
 -- ---- choices of values for the names of `any`, and how many there are
 pub mod Choices
 pub mod Chosen

@@ -7,8 +7,9 @@ ghost use Rattle.flat_transitions.specs.FlatList as flat;
 ghost use Rattle.flat_transitions.specs.BodyWalks.{trans_list, decl_trans, parts_trans};
 
 use crate::entries::numbered;
+use crate::flat::{Flat, FlatTrans};
 use crate::walk::transitions;
-use estelle_tree::{Decl, Flat, FlatTrans, Items, Parts, Sequence, Spec, Trans};
+use estelle_tree::{Decl, Items, Parts, Sequence, Spec, Trans};
 use meaning_table::Table;
 use std::alloc::AllocError;
 

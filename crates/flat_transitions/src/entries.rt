@@ -7,20 +7,11 @@ ghost use Rattle.flat_transitions.specs.FlatList as flat;
 
 use crate::choice::Choice;
 use crate::clauses::{Delay, When};
-use crate::states::States;
+use crate::flat::{FlatTrans, FromStates, Limit};
 use crate::transition::{Transition, Transitions};
-use estelle_tree::{DelayHigh, Expr, FlatTrans, Items, Limit, Span, Word};
+use estelle_tree::{DelayHigh, Expr, Items, Span, Word};
 use meaning_table::ordinal_of;
 use std::alloc::{AllocError, Global};
-
-fn states(alloc: Global, from: Option<&States>) -> Result<Items<u32>, AllocError>
-    ensures { IfOk result (λ states. states ≡ flat.states_of (option_copied from.entry)) }
-{
-    match from {
-        None => Ok(Items::new(alloc)),
-        Some(states) => states.listed(alloc),
-    }
-}
 
 fn received(alloc: Global, when: Option<&When>) -> Result<Option<(u32, Word)>, AllocError>
     ensures { IfOk result (λ name. name ≡ option_map flat.received (option_copied when.entry)) }
@@ -84,7 +75,7 @@ fn flat_trans(alloc: Global, number: u32, transition: &Transition) -> Result<Fla
 {
     Ok(FlatTrans {
         number,
-        from: states(alloc, transition.from())?,
+        from: FromStates::of(transition.from())?,
         to: transition.to(),
         when: received(alloc, transition.when())?,
         provided: condition(transition.provided()),

@@ -15,6 +15,7 @@ mod clauses;
 #[tactic(auto, using(crate::proofs::Counts::counts, estelle_tree::specs::declared::tree::clause::TransBody::the_lemmas))]
 mod counting;
 mod entries;
+mod flat;
 mod in_force;
 mod list;
 mod naming;
@@ -30,6 +31,7 @@ mod walk;
 pub use choice::Choice;
 pub use clauses::{Condition, Delay, Priority, When};
 pub use counting::count;
+pub use flat::{Flat, FlatTrans, FromStates, Limit};
 pub use list::flat_list;
 pub use shared::Shared;
 pub use states::States;

@@ -4,8 +4,9 @@ ghost use Rattle.std.specs.Prelude.{◌≡◌, IfOk};
 ghost use Rattle.flat_transitions.specs.FlatList as flat;
 
 use crate::bodies::listed;
+use crate::flat::Flat;
 use body_table::meanings;
-use estelle_tree::{Flat, Names, Spec};
+use estelle_tree::{Names, Spec};
 use std::alloc::{AllocError, Global};
 
 /// The flat transitions of each body of a specification. A clause `any` multiplies them by the values of its names: `count`

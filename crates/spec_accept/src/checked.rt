@@ -6,7 +6,8 @@ ghost use Rattle.scope_rules.specs.NameRules.{names_of};
 ghost use Rattle.flat_transitions.specs.FlatList.{flat_list};
 ghost use Rattle.spec_accept.specs.Rules.{RuleBroken};
 
-use estelle_tree::{Flat, Names, Spec};
+use estelle_tree::{Names, Spec};
+use flat_transitions::Flat;
 
 /// A specification of which none of the rules is broken, with what its names mean.
 #[derive(Drop)]

@@ -7,8 +7,8 @@ ghost use Rattle.transition_expand.specs.TransitionRules.{TransitionRuleBroken};
 ghost use Rattle.transition_expand.specs.Refusals.{Refused, answered};
 
 use crate::specification::check;
-use estelle_tree::{Flat, Names, Span, Spec};
-use flat_transitions::flat_list;
+use estelle_tree::{Names, Span, Spec};
+use flat_transitions::{Flat, flat_list};
 use scope_rules::Refusal;
 use std::alloc::Global;
 
