@@ -108,10 +108,10 @@ required_stand =
     (required (codes "abs") ∷ required (codes "sqr") ∷ required (codes "odd") ∷ required (codes "succ") ∷ required (codes "pred") ∷ required (codes "ord") ∷ required (codes "chr") ∷ [])
 
 -- the events before the parts
-abbrev outermost : Spec → Events
+abbrev pub outermost : Spec → Events
 outermost spec = Open scope.Inner ∷ (required_events ++ (states_of spec.span (parts spec.parts) ++ Open scope.Body ∷ []))
 
-events_are : (spec : Spec) → events spec ≡ outermost spec ++ ((parts spec.parts).events ++ Close ∷ Close ∷ [])
+pub events_are : (spec : Spec) → events spec ≡ outermost spec ++ ((parts spec.parts).events ++ Close ∷ Close ∷ [])
 unfolding events
 events_are spec = refl
 

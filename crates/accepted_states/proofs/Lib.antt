@@ -1,23 +1,23 @@
 -- ---- lists
 pub mod Lists
 -- ---- what the names in use mean
-mod Uses
+pub mod Uses
 mod Scopes
 -- ---- the events of what spells tokens
-mod Fine
+pub mod Fine
 mod FineTypes
 mod FineExpressions
 mod FineStatements
-mod FineDeclarations
-mod FineSpecification
+pub mod FineDeclarations
+pub mod FineSpecification
 mod Walk
 mod Bodies
 -- ---- what is declared at a place
 pub mod Declared
 mod Ways
-mod Leads
+pub mod Leads
 -- ---- the declarations of what spells tokens
-mod Fit
+pub mod Fit
 mod FitTypes
 mod FitSpecification
 pub mod FitBodies

@@ -168,7 +168,7 @@ module _ (all : Events) (kept : BreakNone all) (apart : AreUsesApart all) where
       let one : count (starts_at p) (uses_in (Use x n steps ∷ rest)) ≡ 1 + count (starts_at p) (flat_map step_names steps ++ uses_in rest) = ap (λ b. one_if b + count (starts_at p) (flat_map step_names steps ++ uses_in rest)) (eq_self p) in
       none_counted (starts_at p) (uses_in before) (omega (arith, most, e, one))
 
-  use_found : (before : Events) (x : Name) (n : Need) (steps : List Step) (rest : Events) → all ≡ before ++ Use x n steps ∷ rest → Found (names_from start all) (after start before) x n
+  pub use_found : (before : Events) (x : Name) (n : Need) (steps : List Step) (rest : Events) → all ≡ before ++ Use x n steps ∷ rest → Found (names_from start all) (after start before) x n
   use_found before x n steps rest here = by (meaning s x.word) refl
     where
       s : Scopes

@@ -22,6 +22,7 @@ use Rattle.estelle_model.specs.Subject.{Subject, meant, meant_with, body, transi
 use Rattle.scope_rules.specs.declared.refusal.Breach.{Breach}
 use Rattle.scope_rules.specs.NameRules.{IsOne, names_of}
 use Rattle.type_rules.specs.declared.sites.PlacedSite.{PlacedSite}
+use Rattle.type_rules.specs.declared.meanings.Meaning.{Meaning as RuleMeaning}
 use Rattle.type_rules.specs.Meanings as meanings
 use Rattle.type_rules.specs.SpecificationSites.{parts, env, sites}
 use Rattle.type_rules.specs.PascalRules.{PascalRuleBroken}
@@ -33,8 +34,9 @@ use Rattle.transition_expand.specs.TransitionRules.{breaches, TransitionRuleBrok
 use Rattle.spec_accept.specs.Rules.{names}
 use Rattle.accepted_states.specs.Laws.{KeepsRules}
 use Rattle.accepted_states.proofs.FitBodies.{declared_apart}
-use Rattle.trace_forms.specs.Types.{IsReadableType, IsBoundedType}
-use Rattle.trace_forms.specs.Laws.{HasReadableParameters, HasBoundedParameters, ParametersAreReadable, RunsHaveForm}
+use Rattle.trace_forms.specs.Types.{IsReadableType, HasFilledArrays}
+use Rattle.trace_forms.specs.Laws.{HasReadableParameters, HasFilledParameters, ParametersAreReadable, RunsHaveForm}
+use Rattle.trace_forms.proofs.TypePlaces.{types_fixed}
 use Rattle.trace_forms.proofs.Firm.{types_readable}
 use Rattle.trace_forms.proofs.Named.{named_stmts, stmts_made}
 use Rattle.trace_forms.proofs.Acts.{Told}
@@ -122,8 +124,8 @@ few_tokens from (t ∷ tokens) to h = let a = h.0 in let b = h.1 in let c = few_
 few_in : (tokens : List Placed) (rest : ℕ) → FollowOneAnother 0 tokens rest → rest ≤ 2 ^ 32 → length tokens ≤ 2 ^ 32
 few_in tokens rest follow top = let a = few_tokens 0 tokens rest follow in omega (arith, a, top)
 
-interaction_readable : (kind : InteractionKind) → Tells (Interaction kind) → AllByRecursion IsBoundedType kind.parameters → AllByRecursion IsReadableType kind.parameters
-interaction_readable kind told bounded = types_readable kind.parameters told.1 bounded
+interaction_readable : (r : RuleMeaning) (kind : InteractionKind) → Tells r (Interaction kind) → AllByRecursion HasFilledArrays kind.parameters → AllByRecursion IsReadableType kind.parameters
+interaction_readable r kind told filled = types_readable kind.parameters told.1 filled
 
 -- ---- what the rules know
 
@@ -151,19 +153,19 @@ module _ (spec : Spec) (kept : KeepsRules spec) where
     declarations = bodies_declare 0 (bodies spec)
 
     told : SpecTold ruled_env spec
-    told = spelled_told ruled_env spec tokens spells few sites_kept
+    told = spelled_told ruled_env spec tokens spells few (sites_kept, types_fixed spec tokens rest spells follow (λ b h. kept b (inl h)))
 
     -- what is told of what each name means
-    names_told : (x : Name) → Tells (meant_by (names_of spec) (declared (names_of spec) declarations) x)
+    names_told : (x : Name) → Tells (meanings.known ruled_env x) (meant_by (names_of spec) (declared (names_of spec) declarations) x)
     names_told = declared_told (names_of spec) ruled (bodies spec) (declared_apart spec tokens rest spells follow)
         (λ d o. one_of_all (HasPartner (λ x. IsOne x declarations)) ruled d (specification_follows (λ x. IsOne x declarations) spec tokens spells spec.span.start (λ x h. h)) o) told.told
 
-    own_readable : HasBoundedParameters (own spec kept told.seen) → HasReadableParameters (own spec kept told.seen)
-    own_readable bounded x kind is = interaction_readable kind (subst Tells is (names_told x)) (bounded x kind is)
+    own_readable : HasFilledParameters (own spec kept told.seen) → HasReadableParameters (own spec kept told.seen)
+    own_readable filled x kind is = interaction_readable (meanings.known ruled_env x) kind (subst (Tells (meanings.known ruled_env x)) is (names_told x)) (filled x kind is)
 
 pub parameters_are_readable : ParametersAreReadable
 parameters_are_readable spec uses tokens rest spells follow top is kept =
-    subst (λ us. HasBoundedParameters (record { specification = spec; names = us }) → HasReadableParameters (record { specification = spec; names = us })) (sym is)
+    subst (λ us. HasFilledParameters (record { specification = spec; names = us }) → HasReadableParameters (record { specification = spec; names = us })) (sym is)
     (own_readable spec kept tokens rest spells follow (few_in tokens rest follow top))
 
 parameters_readable : (m : Meaning) → ((kind : _) → m ≡ Interaction kind → AllByRecursion IsReadableType kind.parameters) → AllByRecursion IsReadableType (types_of m)
@@ -183,7 +185,7 @@ own_tellable spec tokens rest spells follow few kept readable =
     }
 
 pub runs_have_form : RunsHaveForm
-runs_have_form spec uses tokens rest spells follow top is kept bounded budget events e run closes most =
-    let readable = parameters_are_readable spec uses tokens rest spells follow top is kept bounded in
+runs_have_form spec uses tokens rest spells follow top is kept filled budget events e run closes most =
+    let readable = parameters_are_readable spec uses tokens rest spells follow top is kept filled in
     let tellable = own_tellable spec tokens rest spells follow (few_in tokens rest follow top) kept (subst (λ us. HasReadableParameters (record { specification = spec; names = us })) is readable) in
     run_form (record { specification = spec; names = uses }) (subst (λ us. IsTellable (record { specification = spec; names = us })) (sym is) tellable) budget events run e closes most

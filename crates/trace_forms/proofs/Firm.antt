@@ -1,4 +1,4 @@
--- Types that are firm: the bounds of their ordinal types are integers, and of their host types, their enumerations have few values, and no record is empty. Types that are bounded too can be read.
+-- Types that are firm: the bounds of their ordinal types are integers, and of their host types, their enumerations have few values, and no record is empty. Those that nest at most 200 deep, and in which no array is empty, can be read.
 use Rattle.std.proofs.Common.{◌≡◌, ◌∙◌, ℕ, zero, suc, ◌<◌, Bool, true, false, List, [], ◌∷◌, length, ℤ, pos, negsuc, Result, Ok, Err, Option, Some, None, refl, sym, ap, subst, arith, cond}
 use Rattle.std.specs.Prelude.{◌^◌, ◌-◌, ◌≤ℤ◌, ◌-ℤ◌, nat_abs}
 use Rattle.std.specs.List.{AllByRecursion}
@@ -22,7 +22,10 @@ use Rattle.estelle_model.specs.Types.{ordinal_of, ordinal_at, whole, least, grea
 use Rattle.estelle_model.specs.Operators.{◌>>>◌, int_at, an_int, signed}
 use Rattle.estelle_model.specs.Constants.{by_sign}
 use Rattle.estelle_model.specs.Denoted.{bound_at}
-use Rattle.trace_forms.specs.Types.{IsOrdinalReadable, IsTypeFormed, NestsWithin, IsReadableType, IsTypeBounded, BoundedWithin, IsBoundedType}
+use Rattle.type_rules.specs.declared.meanings.Meaning.{Meaning as RuleMeaning}
+use Rattle.trace_forms.specs.Types.{IsOrdinalReadable, IsTypeFormed, NestsWithin, IsReadableType, AreArraysFilled, FilledTo, HasFilledArrays}
+use Rattle.trace_forms.proofs.Flat.{depth_of}
+use Rattle.trace_forms.proofs.Nests.{IsNestLayer, NestsTo, Within}
 
 -- ---- firm types
 
@@ -219,13 +222,18 @@ last_of (host.Enumeration last) (Err e) o = omega arith
 
 -- ---- meanings
 
-abbrev pub MeaningFirm : Meaning → Type 0
-MeaningFirm (Constant v h) = IsSmall h × BoundFirm v × IsOfHost h (out-Value v)
-MeaningFirm (TypeName t) = Firm t
-MeaningFirm (Interaction kind) = AllByRecursion Firm kind.parameters
-MeaningFirm _ = Unit {0}
+-- a type that nests no deeper than 200
+abbrev pub Shallow : Denoter → Type 0
+Shallow t = Firm t × NestsTo 200 t
 
--- ---- firm types that are bounded can be read
+-- a meaning is firm, and types nest no deeper than the rules know
+abbrev pub MeaningFirm : RuleMeaning → Meaning → Type 0
+MeaningFirm r (Constant v h) = IsSmall h × BoundFirm v × IsOfHost h (out-Value v)
+MeaningFirm r (TypeName t) = Shallow t × Within (depth_of r) t
+MeaningFirm r (Interaction kind) = AllByRecursion Shallow kind.parameters
+MeaningFirm r _ = Unit {0}
+
+-- ---- firm types that nest no deeper, and whose arrays are not empty, can be read
 
 low_in : (low high n : ℤ) → is_integer low ≡ true → is_integer high ≡ true → is_between low high n ≡ true → is_integer n ≡ true
 low_in low high n a b e = grind (arith, ints, nat_tests)
@@ -236,20 +244,21 @@ ordinal_readable host.Boolean low high s a b u = tt
 ordinal_readable host.Char low high s a b u = u
 ordinal_readable (host.Enumeration last) low high s a b u = u
 
-module _ (P Q R : Denoter → Type 0) (each : (t : Denoter) → P t → Q t → R t) where
-  all_parts : (ts : List Denoter) → AllByRecursion P ts → AllByRecursion Q ts → AllByRecursion R ts
-  all_parts [] h k = tt
-  all_parts (t ∷ ts) h k = (each t h.0 k.0, all_parts ts h.1 k.1)
+module _ (P N F R : Denoter → Type 0) (each : (t : Denoter) → P t → N t → F t → R t) where
+  all_parts : (ts : List Denoter) → AllByRecursion P ts → AllByRecursion N ts → AllByRecursion F ts → AllByRecursion R ts
+  all_parts [] h n f = tt
+  all_parts (t ∷ ts) h n f = (each t h.0 n.0 f.0, all_parts ts h.1 n.1 f.1)
 
-  formed : (l : Denoter-F Denoter) → IsFirmLayer P l → IsTypeBounded Q l → IsTypeFormed R l
-  formed (Denoter-F.Ordinal h low high) f b = ordinal_readable h low high f.0 f.1 f.2 f.3
-  formed (Denoter-F.Set h low high) f b = tt
-  formed (Denoter-F.Array low high item) f b = (b.0, each item f b.1)
-  formed (Denoter-F.Fields fields) f b = (f.0, all_parts fields f.1 b)
+  formed : (l : Denoter-F Denoter) → IsFirmLayer P l → IsNestLayer N l → AreArraysFilled F l → IsTypeFormed R l
+  formed (Denoter-F.Ordinal h low high) p n f = ordinal_readable h low high p.0 p.1 p.2 p.3
+  formed (Denoter-F.Set h low high) p n f = tt
+  formed (Denoter-F.Array low high item) p n f = (f.0, each item p n f.1)
+  formed (Denoter-F.Fields fields) p n f = (p.0, all_parts fields p.1 n f)
 
-nests : (depth : ℕ) (t : Denoter) → FirmTo (suc depth) t → BoundedWithin depth t → NestsWithin depth t
-nests zero t f b = formed (FirmTo zero) (λ _. ⊥) (λ _. ⊥) (λ t f n. n) (out-Denoter t) f b
-nests (suc depth) t f b = formed (FirmTo (suc depth)) (BoundedWithin depth) (NestsWithin depth) (nests depth) (out-Denoter t) f b
+nests : (depth : ℕ) (t : Denoter) → FirmTo (suc depth) t → NestsTo depth t → FilledTo (suc depth) t → NestsWithin depth t
+nests zero t p n f = formed (FirmTo zero) (λ _. ⊥) (FilledTo zero) (λ _. ⊥) (λ t p n f. n) (out-Denoter t) p n f
+nests (suc depth) t p n f = formed (FirmTo (suc depth)) (NestsTo depth) (FilledTo (suc depth)) (NestsWithin depth) (nests depth) (out-Denoter t) p n f
 
-pub types_readable : (ts : List Denoter) → AllByRecursion Firm ts → AllByRecursion IsBoundedType ts → AllByRecursion IsReadableType ts
-types_readable = all_parts Firm IsBoundedType IsReadableType (λ t f b. nests 200 t (f 201) b)
+pub types_readable : (ts : List Denoter) → AllByRecursion Shallow ts → AllByRecursion HasFilledArrays ts → AllByRecursion IsReadableType ts
+types_readable [] h f = tt
+types_readable (t ∷ ts) h f = (nests 200 t (h.0.0 201) h.0.1 (f.0 201), types_readable ts h.1 f.1)

@@ -1,5 +1,5 @@
 -- Where rules speak of a specification, none of those on types is broken.
-use Rattle.std.proofs.Common.{◌≡◌, ◌∙◌, Bool, true, false, List, [], ◌∷◌, ◌++◌, map, Option, Some, None, refl, ap, sym, inl}
+use Rattle.std.proofs.Common.{◌≡◌, ◌∙◌, ℕ, Bool, true, false, List, [], ◌∷◌, ◌++◌, map, Option, Some, None, refl, ap, sym, inl}
 use Rattle.std.specs.Prelude.{flat_map, ◌||◌, not, int_lt}
 use Rattle.std.specs.List.{AllByRecursion}
 use Rattle.estelle_tree.specs.declared.span.Span.{Span}
@@ -14,10 +14,11 @@ use Rattle.type_rules.specs.Types.{same_host, is_no_subrange}
 use Rattle.type_rules.specs.Meanings.{Env, const_value}
 use Rattle.type_rules.specs.Sites.{Sites}
 use Rattle.type_rules.specs.TypeSites.{ordinal_sites}
-use Rattle.type_rules.specs.SpecificationSites.{Part, all_of, placed}
+use Rattle.type_rules.specs.SpecificationSites.{Part, PlacedPart, all_of, placed}
 use Rattle.type_rules.specs.PascalRules.{TypesDoNotFit, NoType}
 use Rattle.trace_forms.proofs.Lists.{all_front, all_back}
 use Rattle.trace_forms.proofs.Declared.{AreOfOneType}
+use Rattle.trace_forms.proofs.TypePlaces.{IsFixed}
 
 -- the rules 40 and 44 are kept where they speak of this
 abbrev pub SiteKept : Site → Type 0
@@ -61,6 +62,23 @@ each_kept P f (x ∷ xs) h k = (h.0 (kept_front (f x) (flat_map f xs) k), each_k
 pub parts_kept : {A : Type 0} (env : Env) (P : A → Type 0) (f : A → Part) (xs : List A) → AllByRecursion (λ x. Kept ((f x).sites env) → P x) xs → Kept ((all_of (map f xs)).sites env) → AllByRecursion P xs
 parts_kept env P f [] h k = tt
 parts_kept env P f (x ∷ xs) h k = (h.0 (kept_front ((f x).sites env) ((all_of (map f xs)).sites env) k), parts_kept env P f xs h.1 (kept_back ((f x).sites env) ((all_of (map f xs)).sites env) k))
+
+-- where rules speak of a part none is broken, and each type definition in it is known at its place
+abbrev pub PartKept : Env → Part → Type 0
+PartKept env p = Kept (p.sites env) × AllByRecursion (IsFixed env) p.declares
+
+-- the same of what stands in a body that begins there
+abbrev pub PlacedPartKept : Env → ℕ → PlacedPart → Type 0
+PlacedPartKept env at p = PlacedKept (p.sites env at) × AllByRecursion (IsFixed env) (p.declares at)
+
+-- of parts one after another each is kept
+pub each_part_kept : {A : Type 0} (env : Env) (P : A → Type 0) (f : A → Part) (xs : List A) → AllByRecursion (λ x. PartKept env (f x) → P x) xs → PartKept env (all_of (map f xs)) → AllByRecursion P xs
+each_part_kept env P f [] h k = tt
+each_part_kept env P f (x ∷ xs) h k =
+    let more = all_of (map f xs) in (
+      h.0 (kept_front ((f x).sites env) (more.sites env) k.0, all_front (IsFixed env) (f x).declares more.declares k.1),
+      each_part_kept env P f xs h.1 (kept_back ((f x).sites env) (more.sites env) k.0, all_back (IsFixed env) (f x).declares more.declares k.1),
+    )
 
 -- ---- subranges
 

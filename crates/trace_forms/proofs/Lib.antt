@@ -1,4 +1,12 @@
 mod Lists
+-- ---- types that are declared
+mod AllOf
+mod TypesFound
+mod Typeless
+mod Flat
+mod TypesStay
+mod Nests
+mod TypePlaces
 -- ---- selections and drops
 mod Selections
 mod Drops

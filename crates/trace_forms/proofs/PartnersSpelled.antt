@@ -43,7 +43,7 @@ use Rattle.estelle_tree.specs.declared.tree.specification.Decl.TheOpen.{Decl-F}
 use Rattle.estelle_tree.specs.declared.tree.specification.Spec.{Spec}
 use Rattle.estelle_tree.specs.Input.{Input}
 use Rattle.estelle_tree.specs.Spans.{TypeExprLayer, TransBodyLayer, DeclLayer}
-use Rattle.estelle_tree.specs.Spelling.{Spelling, Chain, Several, Optional, Behind, Ended, Separated, Lines, MayBeLines}
+use Rattle.estelle_tree.specs.Spelling.{Spelling, Chain, Optional}
 use Rattle.estelle_tree.specs.Types.{AreTyped, AreFields, IsTypeLayer, TypeBelow, IsType}
 use Rattle.estelle_tree.specs.Declarations.{IsTypeDef, AreVars, IsBlockDecl, IsRoutine}
 use Rattle.estelle_tree.specs.Clauses.{IsBlock, way_of, clause_kinds, MoreGroups, AreGroups, TransBodyLayerOf, TransBodyOf, GroupOf, GroupWithin}
@@ -54,7 +54,7 @@ use Rattle.type_rules.specs.declared.meanings.Meaning.{Meaning as RuleMeaning}
 use Rattle.type_rules.specs.declared.meanings.Meaning.TheVariants as said
 use Rattle.type_rules.specs.declared.types.Host.TheVariants as rule
 use Rattle.type_rules.specs.Meanings as rules
-use Rattle.type_rules.specs.Meanings.{Env, constant_value, const_value}
+use Rattle.type_rules.specs.Meanings.{Env, constant_value}
 use Rattle.type_rules.specs.TypeSites as type_rules
 use Rattle.type_rules.specs.SpecificationSites as sites
 use Rattle.type_rules.specs.SpecificationSites.{Part, PlacedPart}
@@ -73,40 +73,10 @@ use Rattle.body_table.specs.Standings as stand
 use Rattle.body_table.specs.Standings.{standing, inner, inner_of}
 use Rattle.body_table.proofs.BodyEquations.{parts_is, body_is, bodies-append}
 use Rattle.scope_rules.specs.NameRules.{IsOne}
+use Rattle.trace_forms.proofs.AllOf.{AllOf, of_chain, of_behind, of_separated, of_lines, of_may_be_lines}
 use Rattle.trace_forms.proofs.Lists.{one_front, one_back, all_append, all_front, all_back, all_flat}
 use Rattle.trace_forms.proofs.ConstantKinds.{const_alike}
 use Rattle.trace_forms.proofs.Partners.{IsSilent, HasPartner, valued_kind}
-
--- ---- the forms of the grammar
-
--- this holds of all that is spelled so
-abbrev AllOf : {A : Type 0} → (A → Type 0) → Spelling A → Type 0
-AllOf {A} P S = (x : A) (i j : Input) → S x i j → P x
-
-of_chain : {A : Type 0} {P : A → Type 0} {S : Spelling A} → AllOf P S → AllOf (AllByRecursion P) (Chain S)
-of_chain F [] i j h = tt
-of_chain F (x ∷ xs) i j h = (F x i h.0 h.1, of_chain F xs h.0 j h.2)
-
-of_behind : {A : Type 0} {w : Kind} {P : A → Type 0} {S : Spelling A} → AllOf P S → AllOf P (Behind w S)
-of_behind F x i j h = F x h.at j h.item
-
-of_ended : {A : Type 0} {w : Kind} {P : A → Type 0} {S : Spelling A} → AllOf P S → AllOf P (Ended w S)
-of_ended F x i j h = F x i h.mid h.item
-
-of_several : {A : Type 0} {P : A → Type 0} {S : Spelling A} → AllOf P S → AllOf (AllByRecursion P) (Several S)
-of_several F [] i j h = absurd h
-of_several F (x ∷ xs) i j h = (F x i h.0 h.1, of_chain F xs h.0 j h.2)
-
-of_separated : {A : Type 0} (w : Kind) {P : A → Type 0} {S : Spelling A} → AllOf P S → AllOf (AllByRecursion P) (Separated w S)
-of_separated w F [] i j h = absurd h
-of_separated w F (x ∷ xs) i j h = (F x i h.0 h.1, of_chain (of_behind F) xs h.0 j h.2)
-
-of_lines : {A : Type 0} {P : A → Type 0} {S : Spelling A} → AllOf P S → AllOf (AllByRecursion P) (Lines S)
-of_lines F = of_several (of_ended F)
-
-of_may_be_lines : {A : Type 0} (w : Kind) {P : A → Type 0} {S : Spelling A} → AllOf P S → AllOf (AllByRecursion P) (MayBeLines w S)
-of_may_be_lines w F [] i j h = tt
-of_may_be_lines w F (x ∷ xs) i j h = of_lines F (x ∷ xs) h.at j h.item
 
 -- ---- what gives no value
 

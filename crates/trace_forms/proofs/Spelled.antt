@@ -36,7 +36,7 @@ use Rattle.estelle_tree.specs.Declarations.{IsBlockDecl, IsFormal, AreFormals, I
 use Rattle.estelle_tree.specs.Clauses.{IsLabel, IsAnyDom, IsNextState, IsBlock, IsDelayHigh, IsClause, way_of, MoreGroups, AreGroups, TransBodyLayerOf, TransBodyOf, GroupOf, GroupWithin, clause_kinds}
 use Rattle.estelle_tree.specs.Specification.{IsSysAttr, IsAttr, IsDisc, IsQueue, IsHead, AreParams, IsParams, MayBeParams, IsInter, AreInters, IsChannel, IsIpDecl, AreModvars, IsStateset, IsHeader, IsInit, IsTrans, BodyOf, DeclLayerOf, DeclOf, PartsOf, PartsBelow}
 use Rattle.estelle_tree.specs.Spells.{Spells, max_nesting}
-use Rattle.estelle_model.specs.Denoted.{typing, section}
+use Rattle.estelle_model.specs.Denoted.{section}
 use Rattle.estelle_model.specs.Bodies.{Contribution, BodyAlone, bodies, default_of, Way, behind as behind_clause, ways, trans_body_layer, group_layer, clauses, clauses_layer, clause_group_layer, stateset_declares}
 use Rattle.body_table.specs.Ways.{group_ways, group_clauses}
 use Rattle.body_table.specs.Contributions.{names_at, names_of, bodies_at, bodies_of, brought_of}
@@ -45,7 +45,7 @@ use Rattle.body_table.specs.Standings.{standing, inner, inner_of}
 use Rattle.body_table.proofs.BodyEquations.{parts_is, body_is}
 use Rattle.scope_rules.specs.NameRules.{IsOne}
 use Rattle.type_rules.specs.declared.sites.PlacedSite.{PlacedSite}
-use Rattle.type_rules.specs.Meanings.{Env}
+use Rattle.type_rules.specs.Meanings.{Env, Declarations}
 use Rattle.type_rules.specs.TypeSites.{ordinal_sites}
 use Rattle.type_rules.specs.StatementSites.{stmts as stmts_sites}
 use Rattle.type_rules.specs.SpecificationSites as sites
@@ -59,10 +59,11 @@ use Rattle.trace_forms.proofs.Named.{named_stmts}
 use Rattle.trace_forms.proofs.Passes.{Less, less_same, less_more, less_takes, less_flag, name_less, AllLess, maybe, chain, behind, ended, enclosed, joined, several, separated, lines, may_be_lines, name, names, const_less, expr_less, all_at}
 use Rattle.trace_forms.proofs.Holds.{Holds, AllHold, hold_less, hold_end, hold_both, hold_as, always, hold_chain, hold_behind, hold_optional, hold_enclosed, hold_separated, hold_lines, hold_may_be_lines}
 use Rattle.trace_forms.proofs.SpelledStatements.{Good, stmts_good}
-use Rattle.trace_forms.proofs.Kept.{Kept, PlacedKept, kept_front, kept_back, placed_front, placed_back, not_placed, each_kept, parts_kept}
-use Rattle.trace_forms.proofs.Declared.{AllSay, BodyTold, BlockTold, DefinitionTold, DefinitionsTold, TypingTold, SectionTold, OrdinalFirm, ClauseFirm, VarsTold, consts_say, type_defs_say, vars_say, routine_says, channel_says, header_says, stateset_says}
+use Rattle.trace_forms.proofs.Kept.{Kept, PlacedKept, PartKept, PlacedPartKept, kept_front, kept_back, placed_front, placed_back, not_placed, each_kept, parts_kept, each_part_kept}
+use Rattle.trace_forms.proofs.TypePlaces.{IsFixed}
+use Rattle.trace_forms.proofs.Declared.{AllSay, BodyTold, BlockTold, DefinitionTold, DefinitionsTold, TypeDefTold, SectionTold, OrdinalFirm, ClauseFirm, VarsTold, consts_say, type_defs_say, vars_say, routine_says, channel_says, header_says, stateset_says}
 use Rattle.trace_forms.proofs.SpelledTypes.{ordinal_holds, const_def_holds, type_def_holds, vars_hold, definition_holds}
-use Rattle.trace_forms.proofs.Lists.{all_append, one_front, one_back}
+use Rattle.trace_forms.proofs.Lists.{all_append, all_front, all_back, one_front, one_back}
 
 hold_good : {i j : Input} {b : Bool} → Good i j b → Holds i j (b ≡ true)
 hold_good g = record { less = g.less; told = g.named }
@@ -89,22 +90,23 @@ module _ (env : Env) (room : ℕ) where
   result_less (form.Function x) i j h = behind name x i j h
 
   -- definitions one after another, where no rule on types is broken
-  definitions_hold : AllHold (λ ds. Kept ((sites.all_of (map sites.block_decl_part ds)).sites env) → DefinitionsTold env ds) (Chain (IsBlockDecl room))
-  definitions_hold ds i j h = hold_as (parts_kept env (DefinitionTold env) sites.block_decl_part ds) (hold_chain (definition_holds env room) ds i j h)
+  definitions_hold : AllHold (λ ds. PartKept env (sites.all_of (map sites.block_decl_part ds)) → DefinitionsTold env ds) (Chain (IsBlockDecl room))
+  definitions_hold ds i j h = hold_as (each_part_kept env (DefinitionTold env) sites.block_decl_part ds) (hold_chain (definition_holds env room) ds i j h)
 
-  routine_holds : AllHold (λ r. (at : ℕ) → Kept ((sites.routine at r).sites env) → DefinitionsTold env r.decls × (named_stmts r.body ≡ true)) (IsRoutine room)
+  routine_holds : AllHold (λ r. (at : ℕ) → PartKept env (sites.routine at r) → DefinitionsTold env r.decls × (named_stmts r.body ≡ true)) (IsRoutine room)
   routine_holds r i j h =
       let A = flat_map sites.var_formals (sites.formals_of r.formals) in
       let B = sites.result_sites env r.form in
       let C = (sites.all_of (map sites.block_decl_part r.decls)).sites env in
       let D = stmts_sites env r.body in
-      hold_as (λ p at kept. (p.0 (kept_front C D (kept_back B (C ++ D) (kept_back A (B ++ (C ++ D)) kept))), p.1)) (hold_less
+      let V = flat_map sites.formal_variables (sites.formals_of r.formals) in
+      hold_as (λ p at kept. (p.0 (kept_front C D (kept_back B (C ++ D) (kept_back A (B ++ (C ++ D)) kept.0)), all_back (IsFixed env) V _ kept.1.1), p.1)) (hold_less
       (less_more (behind name r.name i h.after_name h.name) (less_more (maybe formals_less r.formals h.after_name h.after_formals h.formals)
       (less_more (result_less r.form h.after_formals h.after_result h.result) (less_takes h.semicolon))))
       (hold_both (definitions_hold r.decls h.after_head h.after_decls h.decls) (part_holds r.body h.after_decls j h.body)))
 
-  block_holds : AllHold (λ b. Kept ((sites.block b).sites env) → BlockTold env b) (IsBlock room)
-  block_holds b i j h = hold_as (λ p kept. (p.1, p.0 (kept_front ((sites.all_of (map sites.block_decl_part b.decls)).sites env) (stmts_sites env b.body) kept))) (hold_less (maybe label_less b.label i h.after_label h.label)
+  block_holds : AllHold (λ b. PartKept env (sites.block b) → BlockTold env b) (IsBlock room)
+  block_holds b i j h = hold_as (λ p kept. (p.1, p.0 (kept_front ((sites.all_of (map sites.block_decl_part b.decls)).sites env) (stmts_sites env b.body) kept.0, kept.1))) (hold_less (maybe label_less b.label i h.after_label h.label)
       (hold_both (hold_end (definitions_hold b.decls h.after_label h.after_decls h.decls) (maybe label_less b.late_label h.after_decls h.after_late h.late_label))
       (part_holds b.body h.after_late j h.body)))
 
@@ -139,10 +141,10 @@ module _ (env : Env) (room : ℕ) where
   ClausesFirm = AllByRecursion (ClauseFirm env)
 
   abbrev TransTold : TransBody → Type 0
-  TransTold x = Kept ((sites.trans_body x).sites env) → ClausesFirm (clauses x) × WaysTold (ways x)
+  TransTold x = PartKept env (sites.trans_body x) → ClausesFirm (clauses x) × WaysTold (ways x)
 
   abbrev GroupTold : Group → Type 0
-  GroupTold g = Kept ((sites.group g).sites env) → ClausesFirm (group_clauses g) × WaysTold (group_ways g)
+  GroupTold g = PartKept env (sites.group g) → ClausesFirm (group_clauses g) × WaysTold (group_ways g)
 
   ways_out : (x : TransBody) → ways x ≡ trans_body_layer (map-TransBody TransBody Group (List Way) (List Way) ways group_ways (out-TransBody x))
   unfolding ways group_ways
@@ -164,13 +166,15 @@ module _ (env : Env) (room : ℕ) where
   behind_told c [] h = tt
   behind_told c (w ∷ ws) h = (h.0, behind_told c ws h.1)
 
-  groups_told : (gs : List Group) → AllByRecursion GroupTold gs → Kept ((sites.all_of (map sites.group gs)).sites env) → ClausesFirm (flat_map (λ cs. cs) (map group_clauses gs)) × WaysTold (flat_map (λ ws. ws) (map group_ways gs))
+  groups_told : (gs : List Group) → AllByRecursion GroupTold gs → PartKept env (sites.all_of (map sites.group gs)) → ClausesFirm (flat_map (λ cs. cs) (map group_clauses gs)) × WaysTold (flat_map (λ ws. ws) (map group_ways gs))
   groups_told [] h kept = (tt, tt)
   groups_told (g ∷ gs) h kept =
       let A = (sites.group g).sites env in
       let B = (sites.all_of (map sites.group gs)).sites env in
-      let first = h.0 (kept_front A B kept) in
-      let more = groups_told gs h.1 (kept_back A B kept) in
+      let D = (sites.group g).declares in
+      let M = (sites.all_of (map sites.group gs)).declares in
+      let first = h.0 (kept_front A B kept.0, all_front (IsFixed env) D M kept.1) in
+      let more = groups_told gs h.1 (kept_back A B kept.0, all_back (IsFixed env) D M kept.1) in
       (all_append (ClauseFirm env) (group_clauses g) (flat_map (λ cs. cs) (map group_clauses gs)) first.0 more.0, all_append (λ (w : Way). BlockTold env w.block) (group_ways g) (flat_map (λ ws. ws) (map group_ways gs)) first.1 more.1)
 
   module _ (G : List Kind → Spelling Group) (holds : (way : List Kind) → AllHold GroupTold (G way)) where
@@ -183,12 +187,12 @@ module _ (env : Env) (room : ℕ) where
     groups_hold way (g ∷ gs) i j h = hold_both (holds way g i h.0 h.1) (more_hold way g gs h.0 j h.2)
 
     layer_holds : (way : List Kind) (l : TransBodyLayer) (i j : Input) → TransBodyLayerOf room G way l i j
-        → Holds i j (Kept ((sites.trans_body_layer (map-TransBody TransBody Group Part Part sites.trans_body sites.group l)).sites env) → ClausesFirm (clauses_layer (map-TransBody TransBody Group (List Clause) (List Clause) clauses group_clauses l)) × WaysTold (trans_body_layer (map-TransBody TransBody Group (List Way) (List Way) ways group_ways l)))
+        → Holds i j (PartKept env (sites.trans_body_layer (map-TransBody TransBody Group Part Part sites.trans_body sites.group l)) → ClausesFirm (clauses_layer (map-TransBody TransBody Group (List Clause) (List Clause) clauses group_clauses l)) × WaysTold (trans_body_layer (map-TransBody TransBody Group (List Way) (List Way) ways group_ways l)))
     layer_holds way (TransBody-F.Block b) i j h = hold_as (λ p kept. (tt, (p kept, tt))) (block_holds b i j h)
     layer_holds way (TransBody-F.Groups gs span) i j h = hold_as (groups_told gs) (groups_hold way gs i j h.0)
 
     trans_body_holds : (way : List Kind) → AllHold TransTold (TransBodyOf room G way)
-    trans_body_holds way x i j h = hold_as (λ p kept. let q = p (subst (λ (y : Part). Kept (y.sites env)) (ruled.trans_body_is x) kept) in (subst ClausesFirm (sym (clauses_out x)) q.0, subst WaysTold (sym (ways_out x)) q.1)) (layer_holds way (out-TransBody x) i j h)
+    trans_body_holds way x i j h = hold_as (λ p kept. let q = p (subst (PartKept env) (ruled.trans_body_is x) kept) in (subst ClausesFirm (sym (clauses_out x)) q.0, subst WaysTold (sym (ways_out x)) q.1)) (layer_holds way (out-TransBody x) i j h)
 
     group_of_holds : (way : List Kind) → AllHold GroupTold (GroupOf room G way)
     group_of_holds way g i j h =
@@ -197,9 +201,9 @@ module _ (env : Env) (room : ℕ) where
         let A = (sites.clause_part c).sites env in
         let B = (sites.trans_body b).sites env in
         hold_as (λ p kept0.
-        let kept : Kept (A ++ B) = subst (λ (y : Part). Kept (y.sites env)) (ruled.group_is g) kept0 in
-        let first = p.0 (kept_front A B kept) in
-        let more = p.1 (kept_back A B kept) in
+        let kept = subst (PartKept env) (ruled.group_is g) kept0 in
+        let first = p.0 (kept_front A B kept.0) in
+        let more = p.1 (kept_back A B kept.0, all_back (IsFixed env) (sites.clause_part c).declares (sites.trans_body b).declares kept.1) in
         (subst ClausesFirm (sym (group_clauses_out g)) (first, more.0), subst WaysTold (sym (group_out g)) (behind_told c (ways b) more.1)))
         (hold_both (clause_holds c i h.mid h.clause) (trans_body_holds (way_of way g) b h.mid j h.body))
 
@@ -210,7 +214,7 @@ module _ (env : Env) (room : ℕ) where
   trans_holds : AllHold (λ t. TransTold t.body) (IsTrans room)
   trans_holds t i j h = hold_behind (trans_body_holds (GroupWithin room (length clause_kinds)) (group_within_holds (length clause_kinds)) []) t.body i j h.body
 
-  init_holds : AllHold (λ x. Kept ((sites.block x.block).sites env) → BlockTold env x.block) (IsInit room)
+  init_holds : AllHold (λ x. PartKept env (sites.block x.block) → BlockTold env x.block) (IsInit room)
   init_holds x i j h = hold_less (less_more (less_takes h.word) (maybe (behind name) x.to h.at h.mid h.to)) (block_holds x.block h.mid j h.block)
 
 -- ---- channels and headers
@@ -289,18 +293,18 @@ visited_back vs ws (b ∷ bs) h = (record { around = h.0.around; routines = h.0.
 module _ (env : Env) (by_default : Bool) where
   -- what is told of the parts of a body
   record PartsTold (p : Parts) : Type 0 where
-    told : (at : ℕ) → PlacedKept ((sites.parts p).sites env at) → (title header : Option Name) → AllByRecursion (BodyTold env) (standing by_default title header p ∷ inner_of by_default p)
+    told : (at : ℕ) → PlacedPartKept env at (sites.parts p) → (title header : Option Name) → AllByRecursion (BodyTold env) (standing by_default title header p ∷ inner_of by_default p)
     seen : (title header : Option Name) (a : Around) → AllByRecursion (IsVisited (visiting.parts p a)) (standing by_default title header p ∷ inner_of by_default p)
 
   record DeclTold (d : Decl) : Type 0 where
-    names : (at : ℕ) → PlacedKept ((sites.decl d).sites env at) → AllSay env (names_of by_default d)
-    inside : (at : ℕ) → PlacedKept ((sites.decl d).sites env at) → AllByRecursion (BodyTold env) (flat_map (stand.body by_default) (bodies_of d))
+    names : (at : ℕ) → PlacedPartKept env at (sites.decl d) → AllSay env (names_of by_default d)
+    inside : (at : ℕ) → PlacedPartKept env at (sites.decl d) → AllByRecursion (BodyTold env) (flat_map (stand.body by_default) (bodies_of d))
     seen : (a : Around) → AllByRecursion (IsVisited ((visiting.decl d).visits a)) (flat_map (stand.body by_default) (bodies_of d))
 
   module _ (room : ℕ) (P : Spelling Parts) (all : AllHold PartsTold P) where
-    -- where rules speak of a declaration
-    abbrev layer_sites : DeclLayer → ℕ → List PlacedSite
-    layer_sites l at = (sites.decl_layer (map-Decl Decl Body Parts PlacedPart PlacedPart PlacedPart sites.decl sites.body sites.parts l)).sites env at
+    -- a declaration, for the rules
+    abbrev layer_part : DeclLayer → PlacedPart
+    layer_part l = sites.decl_layer (map-Decl Decl Body Parts PlacedPart PlacedPart PlacedPart sites.decl sites.body sites.parts l)
 
     statesets_say : (xs : List StatesetDef) → AllSay env (map stateset_declares xs)
     statesets_say [] = tt
@@ -317,31 +321,31 @@ module _ (env : Env) (by_default : Bool) where
 
     -- what a declaration that the rules do not refuse says is told
     abbrev SaysKept : DeclLayer → Type 0
-    SaysKept l = (at : ℕ) → PlacedKept (layer_sites l at) → AllSay env (names_at by_default l)
+    SaysKept l = (at : ℕ) → PlacedPartKept env at (layer_part l) → AllSay env (names_at by_default l)
 
     layer_told : (l : DeclLayer) (i j : Input) → DeclLayerOf room P l i j → Holds i j (SaysKept l × BodiesTold l)
     layer_told (Decl-F.Const defs span) i j h = hold_as (λ p. (λ at kept. consts_say env defs p, tt)) (hold_behind (hold_lines const_def_holds) defs i j h.0)
     layer_told (Decl-F.Types defs span) i j h =
-        hold_as (λ p. (λ at kept. type_defs_say env defs (parts_kept env (λ d. TypingTold env (typing d.type_expr)) sites.type_def defs p (not_placed (sites.in_body at) _ kept)), tt)) (hold_behind (hold_lines (type_def_holds env room)) defs i j h.0)
+        hold_as (λ p. (λ at kept. type_defs_say env defs (each_part_kept env (TypeDefTold env) sites.type_def defs p (not_placed (sites.in_body at) _ kept.0, kept.1)), tt)) (hold_behind (hold_lines (type_def_holds env room)) defs i j h.0)
     layer_told (Decl-F.Channel c) i j h = always (λ at kept. channel_says env c, tt) (channel_less c i j h)
-    layer_told (Decl-F.Header x) i j h = hold_as (λ p. (λ at kept. header_says env by_default x (p (not_placed (sites.in_body at) _ kept)), tt)) (header_holds env room x i j h)
+    layer_told (Decl-F.Header x) i j h = hold_as (λ p. (λ at kept. header_says env by_default x (p (not_placed (sites.in_body at) _ kept.0)), tt)) (header_holds env room x i j h)
     layer_told (Decl-F.Body b) i j h = hold_as (λ p. (λ at kept. tt, (p, tt))) (body_holds b i j h)
     layer_told (Decl-F.Ip ips span) i j h = always (λ at kept. tt, tt) (behind (lines ip_decl_less) ips i j h.0)
     layer_told (Decl-F.Modvar ms span) i j h = always (λ at kept. tt, tt) (behind (lines modvars_less) ms i j h.0)
     layer_told (Decl-F.Var vars span) i j h =
-        hold_as (λ p. (λ at kept. vars_say env vars (parts_kept env (λ x. SectionTold env (section x)) sites.var_decl vars p (not_placed (sites.in_body at) _ kept)), tt)) (hold_behind (hold_lines (vars_hold env room)) vars i j h.0)
+        hold_as (λ p. (λ at kept. vars_say env vars (parts_kept env (λ x. SectionTold env (section x)) sites.var_decl vars p (not_placed (sites.in_body at) _ kept.0)), tt)) (hold_behind (hold_lines (vars_hold env room)) vars i j h.0)
     layer_told (Decl-F.State states span) i j h = always (λ at kept. tt, tt) (enclosed names states i j h.0)
     layer_told (Decl-F.Stateset sets span) i j h = always (λ at kept. statesets_say sets, tt) (behind (lines stateset_less) sets i j h.0)
-    layer_told (Decl-F.Routine r) i j h = hold_as (λ p. (λ at kept. let q = p at (not_placed (sites.in_routine at r) _ kept) in routine_says env r q.1 q.0, tt)) (routine_holds env room r i j h)
+    layer_told (Decl-F.Routine r) i j h = hold_as (λ p. (λ at kept. let q = p at (not_placed (sites.in_routine at r) _ kept.0, kept.1) in routine_says env r q.1 q.0, tt)) (routine_holds env room r i j h)
 
     -- a body in which no rule on types is broken
-    body_told : (b : Body) (at : ℕ) → PartsTold (out-Body b).parts → PlacedKept ((sites.body b).sites env at) → AllByRecursion (BodyTold env) (stand.body by_default b)
+    body_told : (b : Body) (at : ℕ) → PartsTold (out-Body b).parts → PlacedPartKept env at (sites.body b) → AllByRecursion (BodyTold env) (stand.body by_default b)
     body_told b at p kept =
         let o = out-Body b in
-        subst (AllByRecursion (BodyTold env)) (sym (body_is by_default b)) (p.told o.span.start (subst PlacedKept (ruled.body_sites b env at) kept) (Some o.name) (Some o.header))
+        subst (AllByRecursion (BodyTold env)) (sym (body_is by_default b)) (p.told o.span.start (subst PlacedKept (ruled.body_sites b env at) kept.0, (subst (AllByRecursion (IsFixed env)) (ruled.body_declares b at) kept.1).1) (Some o.name) (Some o.header))
 
     -- the bodies in a declaration
-    inside_told : (l : DeclLayer) → BodiesTold l → (at : ℕ) → PlacedKept (layer_sites l at) → AllByRecursion (BodyTold env) (flat_map (stand.body by_default) (bodies_at l))
+    inside_told : (l : DeclLayer) → BodiesTold l → (at : ℕ) → PlacedPartKept env at (layer_part l) → AllByRecursion (BodyTold env) (flat_map (stand.body by_default) (bodies_at l))
     inside_told (Decl-F.Body b) h at kept = all_append (BodyTold env) (stand.body by_default b) [] (body_told b at h.0 kept) tt
     inside_told (Decl-F.Const defs span) h at kept = tt
     inside_told (Decl-F.Types defs span) h at kept = tt
@@ -376,8 +380,8 @@ module _ (env : Env) (by_default : Bool) where
 
     decl_told : AllHold DeclTold (DeclOf room P)
     decl_told d i j h = hold_as (λ t. record {
-      names = λ at kept. t.0 at (subst (λ (p : PlacedPart). PlacedKept (p.sites env at)) (ruled.decl_is d) kept);
-      inside = λ at kept. inside_told (out-Decl d) t.1 at (subst (λ (p : PlacedPart). PlacedKept (p.sites env at)) (ruled.decl_is d) kept);
+      names = λ at kept. t.0 at (subst (PlacedPartKept env at) (ruled.decl_is d) kept);
+      inside = λ at kept. inside_told (out-Decl d) t.1 at (subst (PlacedPartKept env at) (ruled.decl_is d) kept);
       seen = λ a. subst (λ (x : visiting.Declaring). AllByRecursion (IsVisited (x.visits a)) (flat_map (stand.body by_default) (bodies_of d))) (sym (visited.decl_is d)) (layer_seen (out-Decl d) t.1 a);
     }) (layer_told (out-Decl d) i j h)
 
@@ -385,19 +389,26 @@ module _ (env : Env) (by_default : Bool) where
     abbrev decls_sites : List Decl → ℕ → List PlacedSite
     decls_sites ds at = flat_map (λ d. (sites.decl d).sites env at) ds
 
-    brought_told : (ds : List Decl) → AllByRecursion DeclTold ds → (at : ℕ) → PlacedKept (decls_sites ds at) → AllByRecursion (λ (c : Contribution). AllSay env c.names) (map (brought_of by_default) ds)
-    brought_told [] h at kept = tt
-    brought_told (d ∷ ds) h at kept =
-        let A = (sites.decl d).sites env at in
-        let B = decls_sites ds at in
-        (h.0.names at (placed_front A B kept), brought_told ds h.1 at (placed_back A B kept))
+    -- and what they declare for the rules
+    abbrev decls_declare : List Decl → ℕ → Declarations
+    decls_declare ds at = flat_map (λ d. (sites.decl d).declares at) ds
 
-    inner_told : (ds : List Decl) → AllByRecursion DeclTold ds → (at : ℕ) → PlacedKept (decls_sites ds at) → AllByRecursion (BodyTold env) (inner by_default ds)
+    abbrev DeclsKept : List Decl → ℕ → Type 0
+    DeclsKept ds at = PlacedKept (decls_sites ds at) × AllByRecursion (IsFixed env) (decls_declare ds at)
+
+    first_kept : (d : Decl) (ds : List Decl) (at : ℕ) → DeclsKept (d ∷ ds) at → PlacedPartKept env at (sites.decl d)
+    first_kept d ds at kept = (placed_front ((sites.decl d).sites env at) (decls_sites ds at) kept.0, all_front (IsFixed env) ((sites.decl d).declares at) (decls_declare ds at) kept.1)
+
+    more_kept : (d : Decl) (ds : List Decl) (at : ℕ) → DeclsKept (d ∷ ds) at → DeclsKept ds at
+    more_kept d ds at kept = (placed_back ((sites.decl d).sites env at) (decls_sites ds at) kept.0, all_back (IsFixed env) ((sites.decl d).declares at) (decls_declare ds at) kept.1)
+
+    brought_told : (ds : List Decl) → AllByRecursion DeclTold ds → (at : ℕ) → DeclsKept ds at → AllByRecursion (λ (c : Contribution). AllSay env c.names) (map (brought_of by_default) ds)
+    brought_told [] h at kept = tt
+    brought_told (d ∷ ds) h at kept = (h.0.names at (first_kept d ds at kept), brought_told ds h.1 at (more_kept d ds at kept))
+
+    inner_told : (ds : List Decl) → AllByRecursion DeclTold ds → (at : ℕ) → DeclsKept ds at → AllByRecursion (BodyTold env) (inner by_default ds)
     inner_told [] h at kept = tt
-    inner_told (d ∷ ds) h at kept =
-        let A = (sites.decl d).sites env at in
-        let B = decls_sites ds at in
-        all_append (BodyTold env) (flat_map (stand.body by_default) (bodies_of d)) (inner by_default ds) (h.0.inside at (placed_front A B kept)) (inner_told ds h.1 at (placed_back A B kept))
+    inner_told (d ∷ ds) h at kept = all_append (BodyTold env) (flat_map (stand.body by_default) (bodies_of d)) (inner by_default ds) (h.0.inside at (first_kept d ds at kept)) (inner_told ds h.1 at (more_kept d ds at kept))
 
     inner_seen : (ds : List Decl) (a : Around) → AllByRecursion DeclTold ds → AllByRecursion (IsVisited (flat_map (λ d. (visiting.decl d).visits a) ds)) (inner by_default ds)
     inner_seen [] a h = tt
@@ -415,19 +426,24 @@ module _ (env : Env) (by_default : Bool) where
     abbrev AllTransTold : List Trans → Type 0
     AllTransTold ts = ClausesFirm env room (flat_map (λ t. clauses t.body) ts) × WaysTold env room (flat_map (λ t. ways t.body) ts)
 
-    all_trans_told : (ts : List Trans) → AllByRecursion (λ t. TransTold env room t.body) ts → (at : ℕ) → PlacedKept (all_trans_sites ts at) → AllTransTold ts
-    all_trans_told [] h at kept = (tt, tt)
-    all_trans_told (t ∷ ts) h at kept =
+    -- what transitions declare for the rules
+    abbrev trans_declare : List Trans → Declarations
+    trans_declare ts = flat_map (λ t. (sites.trans_body t.body).declares) ts
+
+    all_trans_told : (ts : List Trans) → AllByRecursion (λ t. TransTold env room t.body) ts → (at : ℕ) → PlacedKept (all_trans_sites ts at) → AllByRecursion (IsFixed env) (trans_declare ts) → AllTransTold ts
+    all_trans_told [] h at kept fixed = (tt, tt)
+    all_trans_told (t ∷ ts) h at kept fixed =
         let S = (sites.trans_body t.body).sites env in
         let A = sites.placed (sites.in_body at) S in
         let B = all_trans_sites ts at in
-        let first = h.0 (not_placed (sites.in_body at) S (placed_front A B kept)) in
-        let more = all_trans_told ts h.1 at (placed_back A B kept) in (
+        let D = (sites.trans_body t.body).declares in
+        let first = h.0 (not_placed (sites.in_body at) S (placed_front A B kept), all_front (IsFixed env) D (trans_declare ts) fixed) in
+        let more = all_trans_told ts h.1 at (placed_back A B kept) (all_back (IsFixed env) D (trans_declare ts) fixed) in (
           all_append (ClauseFirm env) (clauses t.body) (flat_map (λ t. clauses t.body) ts) first.0 more.0,
           all_append (λ (w : Way). BlockTold env w.block) (ways t.body) (flat_map (λ t. ways t.body) ts) first.1 more.1,
         )
 
-    init_told : (o : Option Init) → AllByRecursion (λ (x : Init). Kept ((sites.block x.block).sites env) → BlockTold env x.block) (option_to_list o) → Kept ((sites.init_part o).sites env) → AllByRecursion (λ (x : Init). BlockTold env x.block) (option_to_list o)
+    init_told : (o : Option Init) → AllByRecursion (λ (x : Init). PartKept env (sites.block x.block) → BlockTold env x.block) (option_to_list o) → PartKept env (sites.init_part o) → AllByRecursion (λ (x : Init). BlockTold env x.block) (option_to_list o)
     init_told None h kept = tt
     init_told (Some x) h kept = (h.0 kept, tt)
 
@@ -455,11 +471,16 @@ module _ (env : Env) (by_default : Bool) where
               let S = (sites.init_part o.init).sites env in
               let B = sites.placed (sites.in_body at) S in
               let C = all_trans_sites o.trans at in
-              let kept : PlacedKept (A ++ (B ++ C)) = subst PlacedKept (ruled.parts_sites p env at) kept0 in
+              let D = decls_declare o.decls at in
+              let I = (sites.init_part o.init).declares in
+              let T = trans_declare o.trans in
+              let kept : PlacedKept (A ++ (B ++ C)) = subst PlacedKept (ruled.parts_sites p env at) kept0.0 in
+              let fixed : AllByRecursion (IsFixed env) (D ++ (I ++ T)) = subst (AllByRecursion (IsFixed env)) (ruled.parts_declare p at) kept0.1 in
               let more : PlacedKept (B ++ C) = placed_back A (B ++ C) kept in
-              let first : PlacedKept A = placed_front A (B ++ C) kept in
-              let trans = all_trans_told o.trans t.1.1 at (placed_back B C more) in
-              (record { brought = brought_told o.decls t.0 at first; init = init_told o.init t.1.0 (not_placed (sites.in_body at) S (placed_front B C more)); clauses = trans.0; blocks = trans.1 }, inner_told o.decls t.0 at first);
+              let last : AllByRecursion (IsFixed env) (I ++ T) = all_back (IsFixed env) D (I ++ T) fixed in
+              let first : DeclsKept o.decls at = (placed_front A (B ++ C) kept, all_front (IsFixed env) D (I ++ T) fixed) in
+              let trans = all_trans_told o.trans t.1.1 at (placed_back B C more) (all_back (IsFixed env) I T last) in
+              (record { brought = brought_told o.decls t.0 at first; init = init_told o.init t.1.0 (not_placed (sites.in_body at) S (placed_front B C more), all_front (IsFixed env) I T last); clauses = trans.0; blocks = trans.1 }, inner_told o.decls t.0 at first);
           seen = parts_seen p t.0;
         })
         (hold_both (hold_chain decl_told o.decls i h.after_decls h.decls) (hold_both (hold_optional (init_holds env room) o.init h.after_decls h.after_init h.init) (hold_chain (trans_holds env room) o.trans h.after_init j h.trans)))
@@ -474,7 +495,7 @@ pub record SpecTold (env : Env) (spec : Spec) : Type 0 where
   pub told : AllByRecursion (BodyTold env) (bodies spec)
   pub seen : AllByRecursion (IsVisited (visits spec)) (bodies spec)
 
-pub spelled_told : (env : Env) (spec : Spec) (tokens : List Placed) → Spells spec tokens → length tokens ≤ 2 ^ 32 → PlacedKept ((sites.parts spec.parts).sites env spec.span.start) → SpecTold env spec
+pub spelled_told : (env : Env) (spec : Spec) (tokens : List Placed) → Spells spec tokens → length tokens ≤ 2 ^ 32 → PlacedPartKept env spec.span.start (sites.parts spec.parts) → SpecTold env spec
 unfolding visits
 spelled_told env spec tokens spells few kept =
     let h = spells.whole in

@@ -1,5 +1,5 @@
 -- Constants, types and definitions that spell tokens: what is told of them, where no rule on types is broken.
-use Rattle.std.proofs.Common.{ℕ, zero, suc, ◌<◌, ◌≤◌, false, List, [], ◌∷◌, ◌++◌, length, map, sym, subst, arith}
+use Rattle.std.proofs.Common.{ℕ, zero, suc, ◌<◌, ◌≤◌, Bool, false, refl, inl, inr, List, [], ◌∷◌, ◌++◌, length, map, sym, subst, arith}
 use Rattle.std.specs.Prelude.{◌^◌, flat_map}
 use Rattle.std.specs.List.{AllByRecursion}
 use Rattle.estelle_tree.specs.declared.kind.Kind.TheVariants as k
@@ -9,15 +9,25 @@ use Rattle.estelle_tree.specs.declared.tree.type_expr.TypeExpr.{TypeExpr, out-Ty
 use Rattle.estelle_tree.specs.declared.tree.type_expr.TypeExpr.TheOpen.{TypeExpr-F}
 use Rattle.estelle_tree.specs.declared.tree.type_expr.Fields.{Fields, out-Fields}
 use Rattle.estelle_tree.specs.declared.tree.type_expr.TypedNames.{TypedNames, out-TypedNames}
+use Rattle.estelle_tree.specs.declared.tree.declaration.TypeDef.{TypeDef}
 use Rattle.estelle_tree.specs.declared.tree.declaration.BlockDecl.TheVariants as block_decl
 use Rattle.estelle_tree.specs.Input.{Input}
 use Rattle.estelle_tree.specs.Spans.{TypeExprLayer}
 use Rattle.estelle_tree.specs.Spelling.{Spelling, Separated}
 use Rattle.estelle_tree.specs.Types.{of_sign, IsNames, IsConst, IsOrdinal, AreTyped, AreFields, IsTypeLayer, TypeBelow, IsType}
 use Rattle.estelle_tree.specs.Declarations.{IsConstDef, IsTypeDef, AreVars, IsBlockDecl}
+use Rattle.std.proofs.lemmas.Bool.{cases_lt}
+use Rattle.estelle_tree.specs.declared.span.Span.{Span}
+use Rattle.type_rules.specs.declared.types.Denoted.{Denoted}
+use Rattle.type_rules.specs.declared.meanings.Meaning.{Meaning as RuleMeaning}
 use Rattle.type_rules.specs.declared.sites.Site.TheVariants.{TypeAt}
 use Rattle.type_rules.specs.Types.{is_no_base}
-use Rattle.type_rules.specs.Meanings.{Env}
+use Rattle.type_rules.specs.Meanings as rules
+use Rattle.type_rules.specs.Meanings.{Env, entity_at}
+use Rattle.estelle_model.specs.declared.denoter.Host.TheVariants as host
+use Rattle.estelle_model.specs.declared.meaning.Meaning.{Meaning}
+use Rattle.estelle_model.specs.Meant.{Meanings}
+use Rattle.estelle_model.specs.declared.meaning.Meaning.TheVariants as mean
 use Rattle.type_rules.specs.Sites.{Sites}
 use Rattle.type_rules.specs.TypeSites as type_rules
 use Rattle.type_rules.specs.TypeSites.{ordinal_sites, array_denotes, fields_denote, set_denotes, has_no_index}
@@ -28,8 +38,12 @@ use Rattle.meaning_table.proofs.TypeEquations.{fields, type_is, fields_is, secti
 use Rattle.trace_forms.proofs.Passes.{less_next, less_takes, less_mark, less_flag, less_more, name_less, names, const_less, number_form, char_form, names_few}
 use Rattle.trace_forms.proofs.Holds.{Holds, AllHold, hold_less, hold_end, hold_both, hold_as, always, hold_behind, hold_enclosed, hold_separated, hold_lines}
 use Rattle.trace_forms.proofs.Firm.{number_in}
-use Rattle.trace_forms.proofs.Kept.{Kept, kept_front, kept_back, each_kept, parts_kept, subrange_kept}
-use Rattle.trace_forms.proofs.Declared.{ConstFirm, OrdinalFirm, TypingTold, SectionTold, DefinitionTold, ordinal_told, array_told, record_told, set_told}
+use Rattle.trace_forms.proofs.Kept.{SiteKept, Kept, PartKept, kept_front, kept_back, each_kept, parts_kept, each_part_kept, subrange_kept}
+use Rattle.trace_forms.proofs.TypePlaces.{IsFixed}
+use Rattle.trace_forms.proofs.Flat.{depth_of}
+use Rattle.trace_forms.proofs.Nests.{NestsTo, Within, TypeWithin, within_more, whole_within, type_within}
+use Rattle.trace_forms.proofs.Lists.{all_back}
+use Rattle.trace_forms.proofs.Declared.{Tells, AllTold, ConstFirm, OrdinalFirm, TypingTold, SectionTold, TypeDefTold, DefinitionTold, ordinal_told, array_told, record_told, set_told}
 
 pub const_holds : AllHold ConstFirm IsConst
 const_holds (const.Number s n span) i j h = hold_less (less_mark of_sign s h.0.sign) (record { less = less_next h.0.item.next; told = λ f. number_in n (number_form h.0.item f) })
@@ -110,14 +124,56 @@ module _ (env : Env) where
   below_holds (suc room) x i j h =
       hold_as (λ p kept. subst (TypingTold env) (sym (type_is x)) (p (subst (λ (u : type_rules.Typing). Kept (u.sites env)) (rule_types.type_is x) kept))) (layer_holds (TypeBelow room) (below_holds room) room (out-TypeExpr x) i j h)
 
+  -- ---- how deep
+
+  -- what the rules do not refuse nests at most 200 deep
+  site_depth : (at : Span) (at_fault : Bool) (x : Denoted) → SiteKept (TypeAt at at_fault x) → x.depth ≤ 200
+  site_depth at at_fault x kept = elim (cases_lt 200 x.depth) [
+    | inl deep ↦ absurd ((kept at).1 (inr (inr deep), refl))
+    | inr most ↦ most
+  ]
+
+  layer_depth : (l : TypeExprLayer) → Kept ((type_rules.type_layer (map-TypeExpr TypeExpr Fields TypedNames type_rules.Typing (List type_rules.Section) type_rules.Section type_rules.typing type_rules.fields type_rules.typed_names l)).sites env)
+      → ((type_rules.type_layer (map-TypeExpr TypeExpr Fields TypedNames type_rules.Typing (List type_rules.Section) type_rules.Section type_rules.typing type_rules.fields type_rules.typed_names l)).denotes env).depth ≤ 200
+  layer_depth (TypeExpr-F.Ordinal (ordinal.Name x)) kept = site_depth _ _ (type_rules.ordinal_type env (ordinal.Name x)) kept.0
+  layer_depth (TypeExpr-F.Ordinal (ordinal.Enumeration names span)) kept = site_depth _ _ (type_rules.ordinal_type env (ordinal.Enumeration names span)) kept.0
+  layer_depth (TypeExpr-F.Ordinal (ordinal.Subrange low high span)) kept = site_depth _ _ (type_rules.ordinal_type env (ordinal.Subrange low high span)) kept.1.1.0
+  layer_depth (TypeExpr-F.Array packed indices component span) kept = site_depth _ _ (array_denotes span indices (type_rules.typing component) env) (kept_back ((type_rules.typing component).sites env) _ (kept_back (flat_map (ordinal_sites env) indices) _ kept)).0
+  layer_depth (TypeExpr-F.Fields packed fs span) kept = site_depth _ _ (fields_denote span (type_rules.fields fs) env) (kept_back (flat_map (λ (s : type_rules.Section). s.1.sites env) (type_rules.fields fs)) _ kept).0
+  layer_depth (TypeExpr-F.Set packed base span) kept = site_depth _ _ (set_denotes span base env) (kept_back (ordinal_sites env base) _ kept).0
+
+  type_depth : (x : TypeExpr) → Kept ((type_rules.typing x).sites env) → ((type_rules.typing x).denotes env).depth ≤ 200
+  type_depth x kept = subst (λ (u : type_rules.Typing). (u.denotes env).depth ≤ 200) (sym (rule_types.type_is x)) (layer_depth (out-TypeExpr x) (subst (λ (u : type_rules.Typing). Kept (u.sites env)) (rule_types.type_is x) kept))
+
+  told_within : (r : RuleMeaning) (m : Meaning) → Tells r m → TypeWithin (depth_of r) m
+  told_within r (mean.TypeName t) h = h.1.1
+  told_within r (mean.Constant v k) h = whole_within (depth_of r) host.Integer
+  told_within r (mean.Called c) h = whole_within (depth_of r) host.Integer
+  told_within r (mean.Interaction kind) h = whole_within (depth_of r) host.Integer
+  told_within r _ h = whole_within (depth_of r) host.Integer
+
   module _ (room : ℕ) where
-    pub type_def_holds : AllHold (λ d. Kept ((sites.type_def d).sites env) → TypingTold env (typing d.type_expr)) (IsTypeDef room)
-    type_def_holds d i j h = hold_less (less_more (name_less h.first) (less_takes h.mark)) (below_holds (suc room) d.type_expr h.at j h.second)
+    type_def_told : (d : TypeDef) (i j : Input) → IsTypeDef room d i j → TypeTold d.type_expr → PartKept env (sites.type_def d) → TypeDefTold env d
+    type_def_told d i j h told kept = (told kept.0, nests_so)
+      where
+        T : type_rules.Typing
+        T = type_rules.typing d.type_expr
+
+        fixed : (T.denotes env).depth ≤ depth_of (entity_at env d.name.span.start).meaning
+        fixed = (all_back (IsFixed env) T.declares _ kept.1).0
+
+        nests_so : (meant : Meanings) → AllTold env meant → NestsTo 200 ((typing d.type_expr).denotes meant) × Within (depth_of (entity_at env d.name.span.start).meaning) ((typing d.type_expr).denotes meant)
+        nests_so meant k =
+            let w = type_within env meant (λ x. told_within (rules.known env x) (meant x) (k.0 x)) room d.type_expr h.at j h.second in
+            (w 200 (type_depth d.type_expr kept.0) (omega arith), within_more (T.denotes env).depth _ ((typing d.type_expr).denotes meant) fixed w)
+
+    pub type_def_holds : AllHold (λ d. PartKept env (sites.type_def d) → TypeDefTold env d) (IsTypeDef room)
+    type_def_holds d i j h = hold_as (type_def_told d i j h) (hold_less (less_more (name_less h.first) (less_takes h.mark)) (below_holds (suc room) d.type_expr h.at j h.second))
 
     pub vars_hold : AllHold NamesTold (AreVars room)
     vars_hold = typed_holds (IsType room) (below_holds (suc room))
 
-    pub definition_holds : AllHold (λ d. Kept ((sites.block_decl_part d).sites env) → DefinitionTold env d) (IsBlockDecl room)
+    pub definition_holds : AllHold (λ d. PartKept env (sites.block_decl_part d) → DefinitionTold env d) (IsBlockDecl room)
     definition_holds (block_decl.Const defs span) i j h = hold_as (λ p kept. p) (hold_behind (hold_lines const_def_holds) defs i j h.0)
-    definition_holds (block_decl.Types defs span) i j h = hold_as (parts_kept env (λ d. TypingTold env (typing d.type_expr)) sites.type_def defs) (hold_behind (hold_lines type_def_holds) defs i j h.0)
-    definition_holds (block_decl.Var vars span) i j h = hold_as (parts_kept env (λ x. SectionTold env (section x)) sites.var_decl vars) (hold_behind (hold_lines vars_hold) vars i j h.0)
+    definition_holds (block_decl.Types defs span) i j h = hold_as (each_part_kept env (TypeDefTold env) sites.type_def defs) (hold_behind (hold_lines type_def_holds) defs i j h.0)
+    definition_holds (block_decl.Var vars span) i j h = hold_as (λ p kept. parts_kept env (λ x. SectionTold env (section x)) sites.var_decl vars p kept.0) (hold_behind (hold_lines vars_hold) vars i j h.0)

@@ -31,20 +31,20 @@ NestsWithin (suc depth) t = IsTypeFormed (NestsWithin depth) (out-Denoter t)
 abbrev pub IsReadableType : Denoter → Type 0
 IsReadableType t = NestsWithin 200 t
 
--- ---- bounded types
+-- ---- arrays that are not empty
 
 -- no array is empty, where `IsPart` says it of the parts
-abbrev pub IsTypeBounded : (Denoter → Type 0) → Denoter-F Denoter → Type 0
-IsTypeBounded IsPart (Denoter-F.Ordinal h low high) = Unit {0}
-IsTypeBounded IsPart (Denoter-F.Set h low high) = Unit {0}
-IsTypeBounded IsPart (Denoter-F.Array low high item) = (0 < item_count low high) × IsPart item
-IsTypeBounded IsPart (Denoter-F.Fields fields) = AllByRecursion IsPart fields
+abbrev pub AreArraysFilled : (Denoter → Type 0) → Denoter-F Denoter → Type 0
+AreArraysFilled IsPart (Denoter-F.Ordinal h low high) = Unit {0}
+AreArraysFilled IsPart (Denoter-F.Set h low high) = Unit {0}
+AreArraysFilled IsPart (Denoter-F.Array low high item) = (0 < item_count low high) × IsPart item
+AreArraysFilled IsPart (Denoter-F.Fields fields) = AllByRecursion IsPart fields
 
--- and arrays and records nest at most so deep
-abbrev pub BoundedWithin : ℕ → Denoter → Type 0
-BoundedWithin zero t = IsTypeBounded (λ _. ⊥) (out-Denoter t)
-BoundedWithin (suc depth) t = IsTypeBounded (BoundedWithin depth) (out-Denoter t)
+-- no array that stands so deep is empty
+abbrev pub FilledTo : ℕ → Denoter → Type 0
+FilledTo zero t = Unit {0}
+FilledTo (suc depth) t = AreArraysFilled (FilledTo depth) (out-Denoter t)
 
--- a type that nests at most 200 deep, with no empty array
-abbrev pub IsBoundedType : Denoter → Type 0
-IsBoundedType t = BoundedWithin 200 t
+-- a type in which no array is empty
+abbrev pub HasFilledArrays : Denoter → Type 0
+HasFilledArrays t = (depth : ℕ) → FilledTo depth t
