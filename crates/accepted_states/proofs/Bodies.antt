@@ -81,7 +81,7 @@ BodyEnds b = Each Ends (states_in b)
 abbrev pub nowhere : Span → Bool
 nowhere s = nat_eq s.end 0
 
-names_end : (ns : NameList) (i j : Input) → IsNames ns i j → among nowhere i ≡ 0 → Each Ends ns.names
+pub names_end : (ns : NameList) (i j : Input) → IsNames ns i j → among nowhere i ≡ 0 → Each Ends ns.names
 names_end ns i j h e = all ns.names i h.names e
   where
     one : (x : Name) (i j : Input) → IsName x i j → among nowhere i ≡ 0 → Ends x
@@ -117,7 +117,7 @@ pub record DeclKnown (by_default : Bool) (ys : List Name) (i j : Input) (e : Dec
   pub own_ended : among nowhere i ≡ 0 → Each Ends own
   pub ended : among nowhere i ≡ 0 → Each BodyEnds (flat_map (stand.body by_default) bs)
 
-stands_more : (ys : List Name) (outer : List Level) (s : Scopes) → Stands [] scope.Body outer s → Stands ys scope.Body outer s
+pub stands_more : (ys : List Name) (outer : List Level) (s : Scopes) → Stands [] scope.Body outer s → Stands ys scope.Body outer s
 stands_more ys outer s h = record { top = h.top; levels = h.levels; form = h.form; own = are_of_more ys h.top.names h.own; kept = h.kept }
 
 plain_decl : (by_default : Bool) (ys : List Name) (i j : Input) (es : Events) → Fine i j es → DeclKnown by_default ys i j (record { routine = []; states = false; events = es }) [] []
@@ -150,7 +150,7 @@ no_states (x ∷ ds) e = both (decl x).states refl (no_states ds)
         let g : any_of (λ (x : Decl). (decl x).states) ds ≡ false = ap (λ b. b || any_of (λ (x : Decl). (decl x).states) ds) (sym f) ∙ e in
         ap (λ ys. ys ++ flat_map states_of ds) (by (out-Decl x) (ap (λ (y : Declaring). y.states) (sym (decl_is x)) ∙ f)) ∙ more g
 
-all_one : (xs ys : List Name) → Each (λ x. IsOne x (xs ++ ys)) xs
+pub all_one : (xs ys : List Name) → Each (λ x. IsOne x (xs ++ ys)) xs
 all_one [] ys = tt
 all_one (x ∷ xs) ys = (inl refl, each_other (λ z. IsOne z (xs ++ ys)) (λ z. IsOne z (x ∷ (xs ++ ys))) (λ z h. inr h) xs (all_one xs ys))
 
@@ -236,10 +236,10 @@ module _ (by_default : Bool) (room : ℕ) (P : Spelling Parts) (all : (p : Parts
     ended = λ e. tt;
   }
 
-  decl_known : (ys : List Name) (x : Decl) (i j : Input) → Each (λ x. IsOne x ys) (states_of x) → DeclOf room P x i j → DeclKnown by_default ys i j (decl x) (states_of x) (bodies_of x)
+  pub decl_known : (ys : List Name) (x : Decl) (i j : Input) → Each (λ x. IsOne x ys) (states_of x) → DeclOf room P x i j → DeclKnown by_default ys i j (decl x) (states_of x) (bodies_of x)
   decl_known ys x i j own h = subst (λ (e : Declaring). DeclKnown by_default ys i j e (states_of x) (bodies_of x)) (sym (decl_is x)) (layer_known ys (out-Decl x) i j own h)
 
-  routines_fine : (ys : List Name) (xs : List Decl) (m i j : Input) → Each (λ x. IsOne x ys) (flat_map states_of xs) → Chain (DeclOf room P) xs i j → Fine m m (flat_map (λ x. (decl x).routine) xs)
+  pub routines_fine : (ys : List Name) (xs : List Decl) (m i j : Input) → Each (λ x. IsOne x ys) (flat_map states_of xs) → Chain (DeclOf room P) xs i j → Fine m m (flat_map (λ x. (decl x).routine) xs)
   routines_fine ys [] m i j own h = fine_nil (less_same refl)
   routines_fine ys (x ∷ xs) m i j own h =
       fine_append ((decl_known ys x i h.0 (each_front (λ x. IsOne x ys) (states_of x) (flat_map states_of xs) own) h.1).first m)
@@ -311,7 +311,7 @@ module _ (by_default : Bool) (room : ℕ) (P : Spelling Parts) (all : (p : Parts
             (subst (Each Ends) (sym same) all.0, all.1);
       }
 
-below_known : (by_default : Bool) (room : ℕ) (p : Parts) (i j : Input) → PartsBelow room p i j → PartsKnown by_default p i j
+pub below_known : (by_default : Bool) (room : ℕ) (p : Parts) (i j : Input) → PartsBelow room p i j → PartsKnown by_default p i j
 below_known by_default zero p i j h = absurd h
 below_known by_default (suc room) p i j h = parts_of_known by_default room (PartsBelow room) (below_known by_default room) p i j h
 

@@ -5,6 +5,7 @@ use Rattle.estelle_tree.specs.declared.kind.Kind.TheVariants as k
 use Rattle.estelle_tree.specs.declared.tree.name.Name.{Name}
 use Rattle.estelle_tree.specs.declared.tree.name.NameList.{NameList}
 use Rattle.estelle_tree.specs.declared.tree.declaration.BlockDecl.TheVariants as block_decl
+use Rattle.estelle_tree.specs.declared.tree.declaration.Routine.{Routine}
 use Rattle.estelle_tree.specs.declared.tree.declaration.RoutineForm.TheVariants as routine_form
 use Rattle.estelle_tree.specs.declared.tree.clause.AnyDom.{AnyDom}
 use Rattle.estelle_tree.specs.declared.tree.clause.NextState.TheVariants as next_state
@@ -66,18 +67,22 @@ module _ (room : ℕ) where
   pub part_fine : AllFine stmts (IsStatementPart room)
   part_fine ss i j h = ended (enclosed (stmts_fine room)) ss i j h.stmts
 
-  pub routine_fine : AllFine routine (IsRoutine room)
-  routine_fine r i j h =
+  -- what stands in a routine
+  pub routine_inside_fine : (r : Routine) (i j : Input) → IsRoutine room r i j → Fine i j (optional formals r.formals ++ (result_type r.form ++ (flat_map block_decl_events r.decls ++ stmts r.body)))
+  routine_inside_fine r i j h =
       let a = maybe formals_fine r.formals h.after_name h.after_formals h.formals in
       let b = result_fine r.form h.after_formals h.after_result h.result in
       let c = chain block_decl_fine r.decls h.after_head h.after_decls h.decls in
       let e = part_fine r.body h.after_decls j h.body in
+      fine_less (less_takes h.name.mark) (fine_less (name_less h.name.item) (fine_append a (fine_append b (fine_less (less_takes h.semicolon) (fine_append c e)))))
+
+  pub routine_fine : AllFine routine (IsRoutine room)
+  routine_fine r i j h =
       let A = optional formals r.formals in
       let B = result_type r.form in
       let C = flat_map block_decl_events r.decls in
       let E = stmts r.body in
-      let all : Fine i j (Open scope.Inner ∷ ((A ++ (B ++ (C ++ E))) ++ Close ∷ [])) =
-      fine_scope scope.Inner (fine_less (less_takes h.name.mark) (fine_less (name_less h.name.item) (fine_append a (fine_append b (fine_less (less_takes h.semicolon) (fine_append c e)))))) in
+      let all : Fine i j (Open scope.Inner ∷ ((A ++ (B ++ (C ++ E))) ++ Close ∷ [])) = fine_scope scope.Inner (routine_inside_fine r i j h) in
       subst (λ es. Fine i j (Open scope.Inner ∷ es)) (rw (append_assoc, append_assoc, append_assoc) refl) all
 
   pub label_less : (o : Option Label) (i j : Input) → Optional IsLabel o i j → Less i j

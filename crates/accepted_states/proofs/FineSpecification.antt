@@ -7,6 +7,7 @@ use Rattle.estelle_tree.specs.declared.tree.name.Name.{Name}
 use Rattle.estelle_tree.specs.declared.tree.clause.TransBody.{TransBody, out-TransBody, map-TransBody}
 use Rattle.estelle_tree.specs.declared.tree.clause.TransBody.TheOpen.{TransBody-F}
 use Rattle.estelle_tree.specs.declared.tree.clause.Group.{Group, out-Group}
+use Rattle.estelle_tree.specs.declared.tree.specification.Header.{Header}
 use Rattle.estelle_tree.specs.declared.tree.specification.SysAttr.TheVariants as sys_attr
 use Rattle.estelle_tree.specs.declared.tree.specification.Attr.{Attr}
 use Rattle.estelle_tree.specs.declared.tree.specification.Attr.TheVariants as attr
@@ -41,7 +42,7 @@ param_group_fine g i j h = parameters_fine h.first (less_takes h.mark) h.second
 params_fine : AllFine params IsParams
 params_fine ps i j h = separated k.Semicolon param_group_fine ps.groups i j h.groups
 
-may_be_params_fine : AllFine (optional params) MayBeParams
+pub may_be_params_fine : AllFine (optional params) MayBeParams
 may_be_params_fine = maybe (enclosed params_fine)
 
 inter_fine : AllFine inter IsInter
@@ -110,16 +111,21 @@ attr_less (Some (attr.Process span)) i j h = less_takes h.0
 attr_less (Some (attr.Activity span)) i j h = less_takes h.0
 
 module _ (room : ℕ) where
+  -- what stands in a header
+  pub header_inside_fine : (x : Header) (i j : Input) (h : IsHeader room x i j) → Fine h.after_name j (optional params x.params ++ (flat_map ip_decl x.ips ++ flat_map (typed_names d.Exported) x.exports))
+  header_inside_fine x i j h =
+      let last = less_more (less_takes h.ends) (less_takes h.last) in
+      let a = fine_less (attr_less x.attr h.after_name h.after_attr h.attr) (fine_end (may_be_params_fine x.params h.after_attr h.after_params h.params) (less_takes h.semicolon)) in
+      let b = may_be_lines k.Ip ip_fine x.ips h.after_head h.after_ips h.ips in
+      let c = fine_end (may_be_lines k.Export (vars_fine room d.Exported (λ e. cc)) x.exports h.after_ips h.after_exports h.exports) last in
+      fine_append a (fine_append b c)
+
   pub header_fine : AllFine header (IsHeader room)
   header_fine x i j h =
       let A = optional params x.params in
       let B = flat_map ip_decl x.ips in
       let C = flat_map (typed_names d.Exported) x.exports in
-      let last = less_more (less_takes h.ends) (less_takes h.last) in
-      let a = fine_less (attr_less x.attr h.after_name h.after_attr h.attr) (fine_end (may_be_params_fine x.params h.after_attr h.after_params h.params) (less_takes h.semicolon)) in
-      let b = may_be_lines k.Ip ip_fine x.ips h.after_head h.after_ips h.ips in
-      let c = fine_end (may_be_lines k.Export (vars_fine room d.Exported (λ e. cc)) x.exports h.after_ips h.after_exports h.exports) last in
-      let all : Fine h.after_name j (Open scope.Inner ∷ ((A ++ (B ++ C)) ++ Keep x.name.span ∷ [])) = fine_kept x.name.span (fine_append a (fine_append b c)) in
+      let all : Fine h.after_name j (Open scope.Inner ∷ ((A ++ (B ++ C)) ++ Keep x.name.span ∷ [])) = fine_kept x.name.span (header_inside_fine x i j h) in
       fine_append (fine_declared (x.name ∷ []) d.Header (At x.name.span) (λ e. cc) (less_more (less_takes h.name.mark) (name_less h.name.item)))
       (subst (λ es. Fine h.after_name j (Open scope.Inner ∷ es)) (rw (append_assoc, append_assoc) refl) all)
 

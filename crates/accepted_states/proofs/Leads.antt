@@ -1,6 +1,6 @@
 -- A specification whose names stand at places of their own, and that breaks no rule, leads to states of its own.
-use Rattle.std.proofs.Common.{◌≡◌, ◌∙◌, ℕ, zero, suc, ◌+◌, ◌≤◌, ◌<◌, Bool, true, false, nat_eq, List, [], ◌∷◌, ◌++◌, length, Option, Some, None, refl, ap, sym, subst, arith}
-use Rattle.std.specs.Prelude.{option_map, option_and_then, unwrap_or, codes}
+use Rattle.std.proofs.Common.{◌≡◌, ◌∙◌, ℕ, zero, suc, ◌+◌, ◌≤◌, ◌<◌, Bool, true, false, nat_eq, List, [], ◌∷◌, ◌++◌, length, Option, Some, None, refl, ap, sym, subst, arith, map}
+use Rattle.std.specs.Prelude.{option_map, option_and_then, unwrap_or}
 use Rattle.estelle_tree.specs.declared.span.Span.{Span}
 use Rattle.estelle_tree.specs.declared.token.Placed.{Placed}
 use Rattle.estelle_tree.specs.declared.names.Use.{Use as Used}
@@ -15,6 +15,9 @@ use Rattle.estelle_tree.specs.Input.{Input, input}
 use Rattle.estelle_tree.specs.Lexed.{FollowOneAnother}
 use Rattle.estelle_tree.specs.declared.tree.specification.Head.{Head}
 use Rattle.estelle_tree.specs.declared.tree.specification.Head.TheVariants as head
+use Rattle.estelle_tree.specs.declared.required.RequiredIdentifier.{RequiredIdentifier}
+use Rattle.estelle_tree.specs.declared.required.RequiredIdentifier.TheVariants as identifier
+use Rattle.estelle_tree.specs.Required.{identifiers}
 use Rattle.estelle_tree.specs.Spelling.{Chain}
 use Rattle.estelle_tree.specs.Specification.{IsSpec, IsHead}
 use Rattle.estelle_tree.specs.Spells.{Spells, max_nesting}
@@ -28,15 +31,15 @@ use Rattle.std.proofs.lemmas.Bool.Decides.{Decides-eqb}
 use Rattle.scope_rules.specs.declared.declaration.Denotes.TheVariants as d
 use Rattle.scope_rules.specs.declared.declaration.Inside.TheVariants.{Nothing}
 use Rattle.scope_rules.specs.declared.event.ScopeForm.TheVariants as scope
-use Rattle.scope_rules.specs.declared.event.Event.TheVariants.{Open, Close, Declare}
+use Rattle.scope_rules.specs.declared.event.Event.TheVariants.{Open, Close}
 use Rattle.scope_rules.specs.declared.refusal.Breach.{Breach}
 use Rattle.scope_rules.specs.TypeEvents.{Events}
-use Rattle.scope_rules.specs.SpecificationEvents.{events, required, required_events, states_of, parts}
+use Rattle.scope_rules.specs.SpecificationEvents.{events, required, denotes_required, required_event, required_events, states_of, parts}
 use Rattle.scope_rules.specs.Scopes.{start, after, after_one}
 use Rattle.scope_rules.specs.NameRules.{NameRuleBroken, names_of}
 use Rattle.accepted_states.proofs.Lists.{Each, each_at, count, one_if, count-append, flat-append}
-use Rattle.accepted_states.proofs.Uses.{AreUsesApart, starts_at, uses, uses_in, Say, say_front, all_say}
-use Rattle.accepted_states.proofs.Scopes.{Stands, Steady, steady_append, plain_declare, opened}
+use Rattle.accepted_states.proofs.Uses.{AreUsesApart, starts_at, uses, uses_in, Say, say_front, say_back, all_say}
+use Rattle.accepted_states.proofs.Scopes.{Stands, Steady, steady_append, plain_nil, plain_declare, opened}
 use Rattle.accepted_states.proofs.Fine.{among, Less, less_same, less_takes, less_more, name_less}
 use Rattle.accepted_states.proofs.FineSpecification.{queue_less, may_be_sys_attr_less}
 use Rattle.accepted_states.proofs.Bodies.{BodyKnown, BodyEnds, nowhere, Ends, PartsKnown, parts_known}
@@ -46,7 +49,7 @@ use Rattle.accepted_states.proofs.Ways.{flat_each, to_each}
 
 -- ---- tokens whose spans follow one another
 
-reach : (t : Span → Bool) (from : ℕ) (ts : List Placed) (to : ℕ) → FollowOneAnother from ts to → ((s : Span) → from ≤ s.start → s.start < s.end → t s ≡ false) → count (λ (p : Placed). t p.span) ts ≡ 0
+pub reach : (t : Span → Bool) (from : ℕ) (ts : List Placed) (to : ℕ) → FollowOneAnother from ts to → ((s : Span) → from ≤ s.start → s.start < s.end → t s ≡ false) → count (λ (p : Placed). t p.span) ts ≡ 0
 reach t from [] to h none = refl
 reach t from (p ∷ ps) to h none =
     let a = ap one_if (none p.span h.0 h.1) in
@@ -86,7 +89,7 @@ head_less : (x : Head) (i j : Input) → IsHead x i j → Less i j
 head_less (head.Default x span) i j h = less_more (less_takes h.0.opens) (less_more (queue_less (Some x) h.0.at h.0.mid h.0.inside) (less_takes h.0.closes))
 head_less (head.Timescale unit span) i j h = less_more (less_takes h.0.opens) (less_more (name_less h.0.inside) (less_takes h.0.closes))
 
-heads_less : (xs : List Head) (i j : Input) → Chain IsHead xs i j → Less i j
+pub heads_less : (xs : List Head) (i j : Input) → Chain IsHead xs i j → Less i j
 heads_less [] i j h = less_same h
 heads_less (x ∷ xs) i j h = less_more (head_less x i h.0 h.1) (heads_less xs h.0 j h.2)
 
@@ -95,17 +98,21 @@ parts_less spec i j h =
     less_more (less_takes h.name.mark) (less_more (name_less h.name.item) (less_more (may_be_sys_attr_less spec.attr h.after_name h.after_attr h.attr)
     (less_more (less_takes h.semicolon) (heads_less spec.heads h.after_head h.after_heads h.heads.heads))))
 
-kinds_stand : (xs ys zs : List Name) → Steady [] (Declare xs d.Type Nothing ∷ Declare ys d.Constant Nothing ∷ Declare zs d.RequiredFunction Nothing ∷ [])
-kinds_stand xs ys zs =
-    steady_append [] (Declare xs d.Type Nothing ∷ []) (Declare ys d.Constant Nothing ∷ Declare zs d.RequiredFunction Nothing ∷ []) (plain_declare xs d.Type Nothing (λ e. cc) [])
-    (steady_append [] (Declare ys d.Constant Nothing ∷ []) (Declare zs d.RequiredFunction Nothing ∷ []) (plain_declare ys d.Constant Nothing (λ e. cc) []) (plain_declare zs d.RequiredFunction Nothing (λ e. cc) []))
+no_state : (r : RequiredIdentifier) → denotes_required r ≡ d.State → ⊥
+no_state identifier.Integer e = cc
+no_state identifier.Boolean e = cc
+no_state identifier.Char e = cc
+no_state identifier.False e = cc
+no_state identifier.True e = cc
+no_state identifier.Maxint e = cc
+no_state (identifier.Function f) e = cc
 
-required_stand : Steady [] required_events
-required_stand =
-    kinds_stand
-    (required (codes "integer") ∷ required (codes "boolean") ∷ required (codes "char") ∷ [])
-    (required (codes "true") ∷ required (codes "false") ∷ required (codes "maxint") ∷ [])
-    (required (codes "abs") ∷ required (codes "sqr") ∷ required (codes "odd") ∷ required (codes "succ") ∷ required (codes "pred") ∷ required (codes "ord") ∷ required (codes "chr") ∷ [])
+all_stand : (rs : List (List ℕ × RequiredIdentifier)) → Steady [] (map (λ r. required_event r.0 r.1) rs)
+all_stand [] = plain_nil []
+all_stand (r ∷ rs) = steady_append [] (required_event r.0 r.1 ∷ []) (map (λ r. required_event r.0 r.1) rs) (plain_declare (required r.0 ∷ []) (denotes_required r.1) Nothing (no_state r.1) []) (all_stand rs)
+
+pub required_stand : Steady [] required_events
+required_stand = all_stand identifiers
 
 -- the events before the parts
 abbrev pub outermost : Spec → Events
@@ -158,8 +165,9 @@ module _ (spec : Spec) (tokens : List Placed) (rest : ℕ) (spells : Spells spec
         let s2 = after s1 required_events in
         let s3 = after_one s2 (Open scope.Body) in
         let st3 = opened [] [] scope.Inner scope.Body [] s2 st2 in
-        let rule = say.1.1.1.1.0 in
-        let last = say_front names s3 E (Close ∷ Close ∷ []) say.1.1.1.1.1.1 in
+        let said_there = say_back names s1 required_events (states_of spec.span (parts spec.parts) ++ (Open scope.Body ∷ (E ++ Close ∷ Close ∷ []))) say.1 in
+        let rule = said_there.0 in
+        let last = say_front names s3 E (Close ∷ Close ∷ []) said_there.1.1 in
         subst (Each (BodyKnown names)) (sym (body_equations.parts_is (default_of spec.heads) spec.parts)) (in_parts.known names None None s2.levels s3 st3 rule last)
 
     pub all_ended : Each BodyEnds (bodies spec)

@@ -2,16 +2,16 @@
 pub mod Lists
 -- ---- what the names in use mean
 pub mod Uses
-mod Scopes
+pub mod Scopes
 -- ---- the events of what spells tokens
 pub mod Fine
-mod FineTypes
+pub mod FineTypes
 mod FineExpressions
 mod FineStatements
 pub mod FineDeclarations
 pub mod FineSpecification
 mod Walk
-mod Bodies
+pub mod Bodies
 -- ---- what is declared at a place
 pub mod Declared
 mod Ways

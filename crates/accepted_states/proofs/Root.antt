@@ -12,11 +12,11 @@ use Rattle.estelle_model.specs.Subject.{Subject, meant_with, transitions, transi
 use Rattle.estelle_model.specs.Attributes.{is_empty, may_have_transitions}
 use Rattle.body_table.proofs.BodyEquations.{root_is}
 use Rattle.scope_rules.specs.declared.refusal.Breach.{Breach}
+use Rattle.scope_rules.specs.Least.{breach}
 use Rattle.scope_rules.specs.NameRules.{IsOne, names_of}
 use Rattle.tree_visits.specs.Visit.{Around, Begins, Transitions}
 use Rattle.tree_visits.specs.Visits.{visit_of, standing, in_specification, init_nodes, trans, decl, routines_in, visits}
 use Rattle.tree_visits.proofs.BodyEquations as visited
-use Rattle.visit_rules.specs.Breaches.{breach}
 use Rattle.module_table.specs.Known.{Known, known}
 use Rattle.attribute_rules.specs.AttributeRules.{breaches, AttributeRuleBroken}
 use Rattle.spec_accept.specs.Rules.{names}

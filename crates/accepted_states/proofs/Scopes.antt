@@ -1,6 +1,7 @@
 -- Which declarations of states the open scopes hold: in a body those of its own states, and nowhere else any.
 use Rattle.std.proofs.Common.{◌≡◌, ◌∙◌, ℕ, Bool, true, false, nat_eq, nat_lt, if◌then◌else◌, List, [], ◌∷◌, ◌++◌, Option, Some, None, refl, ap, sym, subst}
 use Rattle.std.specs.Prelude.{cond}
+use Rattle.std.specs.Option.{option_or, unwrap_or}
 use Rattle.std.specs.Map.{lookup}
 use Rattle.std.specs.Str.{bytes_eq}
 use Rattle.estelle_tree.specs.declared.span.Span.{Span}
@@ -18,7 +19,7 @@ use Rattle.scope_rules.specs.declared.event.Event.{Event}
 use Rattle.scope_rules.specs.declared.event.Event.TheVariants.{Open, Close, Keep, Import, Receive, Array, Declare, Use, By, Init, States}
 use Rattle.scope_rules.specs.Kinds.{is_private, is_of_channel, may_be}
 use Rattle.scope_rules.specs.TypeEvents.{Events}
-use Rattle.scope_rules.specs.Scopes.{Word, Scope, Level, Scopes, after, after_one, or_else, or_empty, or_nothing, in_names, kept_at, in_level, is_body, hiding, alone, meaning_of, earlier, declared, declaration, innermost, declare_level, declare_one, declare_all, inside_of, inside_named, received, join_level, put, names_of_top, below}
+use Rattle.scope_rules.specs.Scopes.{Word, Scope, Level, Scopes, after, after_one, in_names, kept_at, in_level, is_body, hiding, alone, meaning_of, earlier, declared, declaration, innermost, declare_level, declare_one, declare_all, inside_of, inside_named, received, join_level, put, names_of_top, below}
 use Rattle.scope_rules.specs.NameRules.{IsOne}
 use Rattle.accepted_states.proofs.Lists.{Each, each_other}
 use Rattle.accepted_states.proofs.Uses.{after-append}
@@ -68,7 +69,7 @@ kept_of : (at : ℕ) (kept : List (ℕ × Scope)) → AreKept kept → AreOf [] 
 kept_of at [] h = tt
 kept_of at (x ∷ xs) h = by (kept_of at xs h.1) (nat_eq at x.0)
   where
-    by : AreOf [] (kept_at xs at) → (b : Bool) → AreOf [] (or_empty (cond b (Some x.1) (lookup (nat_eq at) xs)))
+    by : AreOf [] (kept_at xs at) → (b : Bool) → AreOf [] (unwrap_or (cond b (Some x.1) (lookup (nat_eq at) xs)) [])
     by more true = h.0
     by more false = more
 
@@ -135,7 +136,7 @@ joined : (ys : List Name) (f : ScopeForm) (outer : List Level) (s : Scopes) (at 
 joined ys f outer s at h = record { top = join_level at h.top; levels = ap (innermost (join_level at)) h.levels; form = h.form; own = h.own; kept = h.kept }
 
 pub plain_import : (x : Name) → Plain (Import x ∷ [])
-plain_import x ys f outer s h = joined ys f outer s (or_nothing (inside_named s x need.Header)) h
+plain_import x ys f outer s h = joined ys f outer s (unwrap_or (inside_named s x need.Header) 0) h
 
 pub plain_receive : (ip x : Name) (names : Option (List Name)) → Plain (Receive ip x names ∷ [])
 plain_receive ip x names ys f outer s h = joined ys f outer s (received s ip x) h
@@ -204,8 +205,8 @@ level_of : (ys : List Name) (kept : List (ℕ × Scope)) (w : Word) (l : Level) 
 level_of ys kept w l e h k f = by (in_names w l.names) refl
   where
     by : (o : Option Declared) → in_names w l.names ≡ o → IsOf ys e
-    by (Some x) g = let f2 : or_else (Some x) (in_names w (kept_at kept l.within)) ≡ Some e = ap (λ o. or_else o (in_names w (kept_at kept l.within))) (sym g) ∙ f in in_scope_of ys w l.names e k (g ∙ f2)
-    by None g = let f2 : or_else None (in_names w (kept_at kept l.within)) ≡ Some e = ap (λ o. or_else o (in_names w (kept_at kept l.within))) (sym g) ∙ f in of_more ys e (in_scope_of [] w (kept_at kept l.within) e (kept_of l.within kept h) f2)
+    by (Some x) g = let f2 : option_or (Some x) (in_names w (kept_at kept l.within)) ≡ Some e = ap (λ o. option_or o (in_names w (kept_at kept l.within))) (sym g) ∙ f in in_scope_of ys w l.names e k (g ∙ f2)
+    by None g = let f2 : option_or None (in_names w (kept_at kept l.within)) ≡ Some e = ap (λ o. option_or o (in_names w (kept_at kept l.within))) (sym g) ∙ f in of_more ys e (in_scope_of [] w (kept_at kept l.within) e (kept_of l.within kept h) f2)
 
 -- behind a body no state is seen
 hidden : (kept : List (ℕ × Scope)) (w : Word) (levels : List Level) (e : Declared) → meaning_of kept w true levels ≡ Some e → e.denotes ≡ d.State → ⊥

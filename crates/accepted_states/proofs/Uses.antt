@@ -14,6 +14,7 @@ use Rattle.scope_rules.specs.declared.event.Step.TheVariants as step
 use Rattle.scope_rules.specs.declared.event.Event.{Event}
 use Rattle.scope_rules.specs.declared.event.Event.TheVariants.{Open, Close, Keep, Import, Receive, Array, Declare, Use, By, Init, States}
 use Rattle.scope_rules.specs.declared.refusal.Breach.{Breach}
+use Rattle.scope_rules.specs.Least.{breach}
 use Rattle.scope_rules.specs.Kinds.{may_be, is_role}
 use Rattle.scope_rules.specs.TypeEvents.{Events}
 use Rattle.scope_rules.specs.Scopes.{Scopes, start, after, after_one, meaning, member, reached, sought_name, sought_role, sought_step, sought_steps, next_place, sought}
@@ -154,9 +155,6 @@ known_there s before x n d more h =
     ∙ ap (λ b. if b then Some d.at else declaration_of more x) (eq_self x.span.start)
 
 module _ (all : Events) (kept : BreakNone all) (apart : AreUsesApart all) where
-  abbrev breach : ℕ → Span → Breach
-  breach number span = record { number = number; span = span }
-
   broken : (before : Events) (e : Event) (rest : Events) (b : Breach) → all ≡ before ++ e ∷ rest → Broken b (after start before) e → ⊥
   broken before e rest b here h = kept b (record { before = before; event = e; rest = rest; here = here; holds = h })
 

@@ -12,7 +12,8 @@ use Rattle.estelle_tree.specs.declared.tree.specification.Attr.{Attr}
 use Rattle.estelle_tree.specs.declared.tree.specification.Attr.TheVariants as attr
 use Rattle.scope_rules.specs.declared.refusal.Breach.{Breach}
 use Rattle.tree_visits.specs.Visit.{Visited, ModuleVariables, Transitions, Around, Visit}
-use Rattle.visit_rules.specs.Breaches.{Rules, Broken, breach, breaches_at, where_}
+use Rattle.scope_rules.specs.Least.{breach}
+use Rattle.visit_rules.specs.Breaches.{Rules, Broken, breaches_at, where_}
 use Rattle.module_table.specs.Known.{Known, known, attribute_of}
 use Rattle.attribute_rules.specs.declared.rules.Matrix.{Matrix}
 use Rattle.attribute_rules.specs.declared.rules.Matrix.TheVariants.{SystemInside, InnerOutside, UnattributedInside, ProcessInActivity}

@@ -4,7 +4,7 @@ ghost use Rattle.std.specs.Prelude.{ℕ, ◌-◌, IfSome};
 ghost use Rattle.estelle_tree.specs.Lexed.{FollowOneAnother};
 ghost use Rattle.estelle_tree.specs.Spells.{Spells};
 ghost use Rattle.estelle_model_legality.specs.Instances.{LeadsToStates};
-ghost use Rattle.situation.specs.Runs.{subject};
+ghost use Rattle.estelle_model.specs.Subject.{subject};
 
 use accepted_states::accepted_lead_to_states;
 use estelle_lexer::Tokens;
@@ -121,7 +121,7 @@ pub(crate) fn accepted(alloc: Global, text: &[u8]) -> Option<Checked>
 
 /// The chooser that picks the last candidate each time.
 #[derive(Clone, Copy)]
-struct LastChooser;
+pub(crate) struct LastChooser;
 
 impl Chooser for LastChooser {
     ghost draw = { λ chooser n. (n - 1, chooser) };

@@ -15,7 +15,7 @@ pub(crate) type Step = (&'static [u64], u32, Option<(&'static [u8], i64)>);
 /// How many units each job has.
 const BUDGET: u32 = 1000;
 
-fn write_path(out: &mut String, path: &Path) -> Result<(), AllocError> {
+pub(crate) fn write_path(out: &mut String, path: &Path) -> Result<(), AllocError> {
     if path.items().is_empty() {
         write!(out, "/")?;
     }

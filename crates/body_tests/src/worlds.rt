@@ -1,7 +1,7 @@
 //! Worlds of two cells: what their steps do, what they tell at their end, and the clock that they give back.
 
 ghost use Rattle.estelle_model_legality.specs.Instances.{LeadsToStates};
-ghost use Rattle.situation.specs.Runs.{subject};
+ghost use Rattle.estelle_model.specs.Subject.{subject};
 
 use crate::firings::{accepted, is_trace};
 use body_walker::Program;

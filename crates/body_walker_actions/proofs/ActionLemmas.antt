@@ -12,19 +12,20 @@ use Rattle.estelle_model.specs.declared.meaning.Meaning.{Meaning}
 use Rattle.estelle_model.specs.declared.place.Environment.{Environment}
 use Rattle.estelle_model.specs.Belonging.{are_values_of}
 use Rattle.estelle_model.specs.Core.{Core}
-use Rattle.estelle_model.specs.Effects.{Effect, Change, Output, Connect, Disconnect, Attach, Detach, changed, changed_in}
+use Rattle.estelle_model.specs.Effects.{StatementEffect, Change, Output, Connect, Disconnect, Attach, Detach, changed, changed_in}
 use Rattle.estelle_model.specs.States.{Logged, on_log}
 use Rattle.estelle_model.specs.Steps.{Do, and_then, ◌>>=◌, ◌>>◌, pure, fail}
 use Rattle.estelle_model.specs.Meant.{Meanings}
 use Rattle.estelle_model.specs.Subject.{Subject}
 use Rattle.estelle_model.specs.InteractionPoints.{point, connectable_at, external_at, may_connect, may_attach}
-use Rattle.estelle_model.specs.Actions.{is_bound, is_connected, is_upper, at, count_from, types_of, is_sent_at, make, keep, read, fails_if, needs, connect_points, disconnect_one, disconnect_if, detach_above, detach_if, for_each, disconnect_point, attach_points, detach_point, output_at}
+use Rattle.estelle_model.specs.Actions.{is_bound, is_connected, is_upper, at, count_from, is_sent_at, make, keep, read, fails_if, needs, connect_points, disconnect_one, disconnect_if, detach_above, detach_if, for_each, disconnect_point, attach_points, detach_point, output_at}
+use Rattle.estelle_model.specs.Definitions.{types_received}
 use Rattle.body_walker_state.specs.Progress.{Progress, running, after}
 
 module _ (s : Subject) (known : Meanings) where
   -- ---- effects and changes
 
-  pub made : (e : Effect) (w n : Progress) → n ≡ after e w → make Logged on_log s known e (running w) ≡ Ok (tt, running n)
+  pub made : (e : StatementEffect) (w n : Progress) → n ≡ after e w → make Logged on_log s known e (running w) ≡ Ok (tt, running n)
   made e w n is = ap (λ (m : Progress). Ok (tt, running m)) (sym is)
 
   pub kept : (p : Path) (c : Change) (w n : Progress) → n ≡ record w { instances = changed_in p (changed c) w.instances } → keep Logged on_log s known p c (running w) ≡ Ok (tt, running n)
@@ -142,13 +143,13 @@ module _ (s : Subject) (known : Meanings) where
 
   module _ (p m : Name) (values : List Value) (a : IpAddr) (mean : Meaning) (means : known m ≡ mean) (w : Progress) where
     abbrev may_send : Core → Bool
-    may_send c = is_sent_at (point s c.instances a) (known m) && are_values_of (types_of (known m)) values
+    may_send c = is_sent_at (point s c.instances a) (known m) && are_values_of (types_received (known m)) values
 
     abbrev sent : Unit {0} → Do Logged
     sent _ = make Logged on_log s known (Output a p.word m.word values)
 
     abbrev may_now : Meaning → Bool
-    may_now x = is_sent_at (point s w.instances a) x && are_values_of (types_of x) values
+    may_now x = is_sent_at (point s w.instances a) x && are_values_of (types_received x) values
 
     pub output_refused : (r : Bool) → r ≡ may_now mean → r ≡ false → output_at Logged on_log s known p m values a (running w) ≡ Err (Unset, w.left)
     output_refused r is not_so = refused may_send sent w r (is ∙ ap may_now (sym means)) not_so

@@ -17,12 +17,12 @@ use Rattle.estelle_model.specs.Belonging.{are_values_of}
 use Rattle.estelle_model.specs.Core.{Instance}
 use Rattle.estelle_model.specs.Effects.{Create, Remove, Hold, changed, changed_in}
 use Rattle.estelle_model.specs.States.{Logged, on_log}
-use Rattle.estelle_model.specs.Steps.{Outcome, Step, Do, and_then, ◌>>=◌, ◌>>◌, pure, checked, checked_at}
+use Rattle.estelle_model.specs.Steps.{StepResult, Step, Do, and_then, ◌>>=◌, ◌>>◌, pure, checked, checked_at}
 use Rattle.estelle_model.specs.Operators.{◌>>>◌}
 use Rattle.estelle_model.specs.Meant.{Meanings}
 use Rattle.estelle_model.specs.Bodies.{BodyAlone}
 use Rattle.estelle_model.specs.Subject.{Subject, blanks, new_instance, child_of}
-use Rattle.estelle_model.specs.Actions.{at, count_from, may_hold, empty_in, make, keep, found, for_each, external, disconnect_if, disconnect_child, release_child, enter_state}
+use Rattle.estelle_model.specs.Actions.{at, count_from, may_hold, empty_in, make, keep, or_no_module, for_each, external, disconnect_if, disconnect_child, release_child, enter_state}
 use Rattle.estelle_model.specs.Jobs.{instance_of}
 use Rattle.body_walker_state.specs.declared.bodies.ModuleBody.{ModuleBody}
 use Rattle.body_walker_values.specs.declared.stop.Stop.{Stop}
@@ -65,8 +65,8 @@ module _ (s : Subject) (known : Meanings) where
   -- ---- the external interaction points
 
   module _ (p : Path) (w : Progress) where
-    abbrev points_by : Option Instance → Outcome Logged (List IpAddr)
-    points_by o = and_then (checked_at (found o) (running w)) (λ i. pure (each (at p) (count_from 0 (child_of s i.body).external)))
+    abbrev points_by : Option Instance → StepResult Logged (List IpAddr)
+    points_by o = and_then (checked_at (or_no_module o) (running w)) (λ i. pure (each (at p) (count_from 0 (child_of s i.body).external)))
 
     by_count : (o : Option Instance) (count : ℕ) → external_of s o ≡ Ok count → points_by o ≡ Ok (each (at p) (count_from 0 count), running w)
     by_count None count e = absurd (cc)
@@ -142,7 +142,7 @@ module _ (s : Subject) (known : Meanings) where
   pub child_held : (p : Path) (m : ℕ) (to at_end : Option ℕ) (c : Path) (w n1 n2 : Progress) → at_end ≡ to → enter_state Logged on_log s known c at_end (running w) ≡ Ok (tt, running n1)
       → n2 ≡ record n1 { instances = changed_in p (changed (Hold m (Some c))) n1.instances } → holds_child s known p m to c (running w) ≡ Ok (tt, running n2)
   child_held p m to at_end c w n1 n2 same enters holds =
-      ap (λ (o : Outcome Logged (Unit {0})). and_then o (λ _. keep Logged on_log s known p (Hold m (Some c)))) (ap (λ (t : Option ℕ). enter_state Logged on_log s known c t (running w)) (sym same) ∙ enters)
+      ap (λ (o : StepResult Logged (Unit {0})). and_then o (λ _. keep Logged on_log s known p (Hold m (Some c)))) (ap (λ (t : Option ℕ). enter_state Logged on_log s known c t (running w)) (sym same) ∙ enters)
       ∙ kept s known p (Hold m (Some c)) n1 n2 holds
 
   pub child_not_held : (p : Path) (m : ℕ) (to at_end : Option ℕ) (c : Path) (w n : Progress) (e : Stop) → at_end ≡ to → Follows (enter_state Logged on_log s known c at_end) w (Err e) n → Follows (holds_child s known p m to c) w (Err e) n

@@ -11,4 +11,4 @@ mod points;
 
 pub use children::{begin_child, disconnect_child, hold_child, may_begin, release_child};
 pub use linking::{attach_points, connect_points, detach_point, disconnect_point};
-pub use output::{output_at, types_of};
+pub use output::{output_at, types_received};

@@ -6,6 +6,7 @@ ghost use Rattle.estelle_model.specs.Meant.{Meanings};
 ghost use Rattle.estelle_model.specs.Belonging.{are_values_of};
 ghost use Rattle.estelle_model.specs.InteractionPoints.{point};
 ghost use Rattle.estelle_model.specs.Actions as actions;
+ghost use Rattle.estelle_model.specs.Definitions.{types_received};
 ghost use Rattle.body_walker_state.specs.Follows.{Follows};
 
 use crate::points::{is_sent_at, point};
@@ -17,8 +18,8 @@ use pascal_values::{Fault, Values};
 use std::alloc::Global;
 
 /// The types of the parameters of an interaction.
-pub fn types_of<'m>(meaning: &'m Meaning) -> &'m [Type]
-    ensures { result.now ≡ actions.types_of meaning.now }
+pub fn types_received<'m>(meaning: &'m Meaning) -> &'m [Type]
+    ensures { result.now ≡ types_received meaning.now }
 {
     match meaning {
         Meaning::Interaction(kind) => kind.parameters.as_slice(),
@@ -33,9 +34,10 @@ fn may_output(
     values: &Values,
     a: &IpAddr,
 ) -> bool
-    ensures { result ≡ (actions.is_sent_at (point bodies.now walk.now.instances a.now) meaning.now && are_values_of (actions.types_of meaning.now) values.now) }
+    ensures { result ≡ (actions.is_sent_at (point bodies.now walk.now.instances a.now) meaning.now && are_values_of (types_received meaning.now) values.now) }
 {
-    is_sent_at(point(walk, bodies, a), meaning) && are_values_of(types_of(meaning), values.items())
+    is_sent_at(point(walk, bodies, a), meaning)
+        && are_values_of(types_received(meaning), values.items())
 }
 
 /// An output of an interaction at an interaction point, with values of its parameters.

@@ -16,7 +16,8 @@ use Rattle.estelle_model.specs.Places.{child_step}
 use Rattle.estelle_model.specs.Expressions.{Operand}
 use Rattle.estelle_model.specs.Subject.{Subject, child_of}
 use Rattle.estelle_model.specs.Actions as estelle
-use Rattle.estelle_model.specs.Actions.{act, types_of}
+use Rattle.estelle_model.specs.Actions.{act}
+use Rattle.estelle_model.specs.Definitions.{types_received}
 use Rattle.body_walker_blocks.specs.Scopes.{Scoped, meanings}
 use Rattle.body_walker_blocks.specs.Points.{ip_at}
 use Rattle.body_walker_blocks.specs.Labels.{exprs_of}
@@ -101,10 +102,10 @@ module _ (t : Scoped) (h : Environment) where
   abbrev pub output_plan : Name → Name → Subject → List Denoter → List Expr → Plan (Unit {0})
   output_plan p m s ts xs = First (value_arguments t h ts xs) (λ g. First spend (λ u. Given (ip_at h.path (meanings t p)) (λ a. Last (estelle.output_at Logged on_log s (meanings t) p m g.values a))))
 
-  output_out : (p m : Name) (xs : List Expr) → estelle.output Logged on_log t.subject (meanings t) h p m (map (expr t h) xs) ≡ run (output_plan p m t.subject (types_of (meanings t m)) xs)
-  output_out p m xs = λ i. value_arguments t h (types_of (meanings t m)) xs >>= λ g. spend >>= λ u. ip_out h.path (meanings t p) i >>= λ a. estelle.output_at Logged on_log t.subject (meanings t) p m g.values a
+  output_out : (p m : Name) (xs : List Expr) → estelle.output Logged on_log t.subject (meanings t) h p m (map (expr t h) xs) ≡ run (output_plan p m t.subject (types_received (meanings t m)) xs)
+  output_out p m xs = λ i. value_arguments t h (types_received (meanings t m)) xs >>= λ g. spend >>= λ u. ip_out h.path (meanings t p) i >>= λ a. estelle.output_at Logged on_log t.subject (meanings t) p m g.values a
 
-  pub output_steps : (p m : Name) (es : Option Args) (s : Subject) (ts : List Denoter) (xs : List Expr) → s ≡ t.subject → ts ≡ types_of (meanings t m) → xs ≡ exprs_of es → Is (output t h p m es) (output_plan p m s ts xs)
+  pub output_steps : (p m : Name) (es : Option Args) (s : Subject) (ts : List Denoter) (xs : List Expr) → s ≡ t.subject → ts ≡ types_received (meanings t m) → xs ≡ exprs_of es → Is (output t h p m es) (output_plan p m s ts xs)
   unfolding output act
   output_steps p m es s ts xs same types exprs = record {
     is = ap (λ (fs : List (Operand Logged)). estelle.output Logged on_log t.subject (meanings t) h p m fs) (arguments_out t h es)

@@ -22,7 +22,7 @@ use Rattle.estelle_tree.specs.declared.tree.expression.Variable.{Variable, out-V
 use Rattle.estelle_tree.specs.declared.tree.expression.Factor.TheOpen.{Factor-F}
 use Rattle.estelle_model.specs.declared.denoter.Denoter.{Denoter}
 use Rattle.estelle_model.specs.declared.denoter.Host.{Host}
-use Rattle.estelle_model.specs.declared.meaning.Required.{Required}
+use Rattle.estelle_tree.specs.declared.required.Required.{Required}
 use Rattle.estelle_model.specs.declared.meaning.Meaning.{Meaning}
 use Rattle.estelle_model.specs.declared.meaning.Meaning.TheVariants.{Constant, Called, RequiredFunction}
 use Rattle.estelle_model.specs.declared.meaning.Routine.{Routine}

@@ -25,7 +25,7 @@ use Rattle.estelle_model.specs.declared.denoter.Host.TheVariants as hosts
 use Rattle.estelle_model.specs.declared.place.Environment.{Environment}
 use Rattle.estelle_model.specs.Operators.{◌>>>◌, bool_of, plus, minus, times, divided, modulo, negation, related, one_member, members_from}
 use Rattle.estelle_model.specs.States.{Logged, on_log}
-use Rattle.estelle_model.specs.Steps.{Outcome, Step, and_then, ◌>>=◌, pure, checked_at, checked}
+use Rattle.estelle_model.specs.Steps.{StepResult, Step, and_then, ◌>>=◌, pure, checked_at, checked}
 use Rattle.estelle_model.specs.Expressions as spec
 use Rattle.estelle_model.specs.Expressions.{Operand, computed, both, bool_step, conjunction, disjunction, simple_of, term_of, set_step, member_step}
 use Rattle.estelle_model.proofs.ExpressionEquations.{factor_at, elem_at, expr_at, factor_opened, args_opened, elem_opened, expr_opened, simple_opened, term_opened, variable_opened}
@@ -62,7 +62,7 @@ multiplied_then multiplying.Mod p q = both_then modulo p q
 multiplied_then multiplying.And p q = conjunction_then p q
 
 -- a truth value of the right operand
-truth_end : (o : Outcome Logged Value) → and_then (and_then o (λ v. checked (bool_of v))) (λ c. pure (pascal.Bool c)) ≡ and_then o (λ w. checked (truth w))
+truth_end : (o : StepResult Logged Value) → and_then (and_then o (λ v. checked (bool_of v))) (λ c. pure (pascal.Bool c)) ≡ and_then o (λ w. checked (truth w))
 truth_end (Err e) = refl
 truth_end (Ok r) = by (bool_of r.0)
   where

@@ -1,7 +1,7 @@
 -- One step after another.
 use Rattle.std.proofs.Common.{◌≡◌, ◌∙◌, refl, sym, ap, subst, Result, Ok, Err}
 use Rattle.pascal_values.specs.declared.fault.Fault.{Fault}
-use Rattle.estelle_model.specs.Steps.{Running, Outcome, Step, and_then, ◌>>=◌, pure, checked_at, checked}
+use Rattle.estelle_model.specs.Steps.{Running, StepResult, Step, and_then, ◌>>=◌, pure, checked_at, checked}
 use Rattle.body_walker_values.specs.declared.stop.Stop.{Stop}
 use Rattle.body_walker_values.specs.declared.stop.Stop.TheVariants as stop
 use Rattle.body_walker_values.specs.Gives.{Gives}
@@ -10,7 +10,7 @@ use Rattle.body_walker_state.specs.Follows.{Leads}
 -- ---- the laws of steps
 
 module _ {S A : Type 0} where
-  end_pure : (o : Outcome S A) → and_then o (λ a. pure a) ≡ o
+  end_pure : (o : StepResult S A) → and_then o (λ a. pure a) ≡ o
   end_pure (Ok r) = refl
   end_pure (Err e) = refl
 
@@ -18,7 +18,7 @@ module _ {S A : Type 0} where
   then_pure p = λ i s. end_pure (p s) i
 
 module _ {S A B C : Type 0} (f : A → Step S B) (g : B → Step S C) where
-  end_then : (o : Outcome S A) → and_then (and_then o f) g ≡ and_then o (λ a. f a >>= g)
+  end_then : (o : StepResult S A) → and_then (and_then o f) g ≡ and_then o (λ a. f a >>= g)
   end_then (Ok r) = refl
   end_then (Err e) = refl
 

@@ -15,7 +15,7 @@ use Rattle.estelle_model.specs.Belonging.{are_values_of}
 use Rattle.estelle_model.specs.Core.{Instance, Instances}
 use Rattle.estelle_model.specs.Effects.{Create}
 use Rattle.estelle_model.specs.States.{Logged, on_log}
-use Rattle.estelle_model.specs.Steps.{Running, Outcome, Step, Do, and_then, ◌>>=◌, ◌>>◌, pure, fail, checked, checked_at, all, spend}
+use Rattle.estelle_model.specs.Steps.{Running, StepResult, Step, Do, and_then, ◌>>=◌, ◌>>◌, pure, fail, checked, checked_at, all, spend}
 use Rattle.estelle_model.specs.Expressions.{no_arguments}
 use Rattle.estelle_model.specs.Calls as calls
 use Rattle.estelle_model.specs.Calls.{nested, max_depth, leave}
@@ -25,7 +25,7 @@ use Rattle.estelle_model.specs.Subject as model
 use Rattle.estelle_model.specs.Subject.{Subject, body, begins, nothing_to_do, meant, of_init, no_body, new_instance, child_of, headers_of, no_statements}
 use Rattle.estelle_model.specs.Attributes.{allows, attribute, may_have_transitions}
 use Rattle.estelle_model.specs.Actions as estelle
-use Rattle.estelle_model.specs.Actions.{empty_in, has_header, may_hold, found}
+use Rattle.estelle_model.specs.Actions.{empty_in, has_header, may_hold, or_no_module}
 use Rattle.estelle_model.proofs.StatementEquations.{stmts_opened}
 use Rattle.body_walker_state.specs.declared.bodies.ModuleBody.{ModuleBody}
 use Rattle.body_walker_state.specs.declared.bodies.Initialization.{Initialization}
@@ -83,7 +83,7 @@ module _ (t : Scoped) (h : Environment) (m k : ℕ) (vs : List Value) where
   passes b = cond b (pure tt) (fail Unset)
 
   abbrev create_by : Option Instance → Do Logged
-  create_by o = λ s. and_then (checked_at (found o) s) (λ i. passes (tests i) >> creating i)
+  create_by o = λ s. and_then (checked_at (or_no_module o) s) (λ i. passes (tests i) >> creating i)
 
   pub create_tested : (w : Progress) (i : Instance) → maps.get w.instances h.path ≡ Some i → tests i ≡ true → create t h m k vs (running w) ≡ creating i (running w)
   unfolding create
@@ -212,11 +212,11 @@ pub spend_keeps : (w n : Progress) → spend (running w) ≡ Ok (tt, running n) 
 unfolding spend
 spend_keeps w n e = by (nat_lt 0 w.left) e
   where
-    instances_in : Outcome Logged (Unit {0}) → Instances
+    instances_in : StepResult Logged (Unit {0}) → Instances
     instances_in (Ok r) = r.1.state.image.instances
     instances_in (Err f) = w.instances
 
-    by : (b : Bool) → cond {A = Outcome Logged (Unit {0})} b (Ok (tt, record (running w) { left = w.left - 1 })) (Err (StepLimit, w.left)) ≡ Ok (tt, running n) → n.instances ≡ w.instances
+    by : (b : Bool) → cond {A = StepResult Logged (Unit {0})} b (Ok (tt, record (running w) { left = w.left - 1 })) (Err (StepLimit, w.left)) ≡ Ok (tt, running n) → n.instances ≡ w.instances
     by true e = sym (ap instances_in e)
     by false e = sym (ap instances_in e)
 

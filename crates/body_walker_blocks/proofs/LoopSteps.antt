@@ -14,7 +14,7 @@ use Rattle.estelle_model.specs.declared.denoter.Denoter.{Denoter}
 use Rattle.estelle_model.specs.declared.place.Place.{Place}
 use Rattle.estelle_model.specs.declared.place.Environment.{Environment}
 use Rattle.estelle_model.specs.States.{Logged, on_log}
-use Rattle.estelle_model.specs.Steps.{Running, Outcome, Step, Do, and_then, ◌>>=◌, ◌>>◌, pure, spend}
+use Rattle.estelle_model.specs.Steps.{Running, StepResult, Step, Do, and_then, ◌>>=◌, ◌>>◌, pure, spend}
 use Rattle.estelle_model.specs.Operators.{bool_of}
 use Rattle.estelle_model.specs.Calls.{max_depth}
 use Rattle.estelle_model.specs.Places.{store_ordinal, put}
@@ -22,9 +22,8 @@ use Rattle.estelle_model.specs.Loops as loops
 use Rattle.estelle_model.specs.Loops.{next_of, comes_to, turns_of, count_turns}
 use Rattle.estelle_model.proofs.LoopLaws.{AtMost, NeverRaises, while_unrolls, repeat_unrolls}
 use Rattle.estelle_model.proofs.Units.{CallNever, pure_never, of_value_never, store_ordinal_never}
-use Rattle.estelle_model.proofs.UnitsOfExpressions.{expr_never}
 use Rattle.estelle_model.proofs.UnitsOfBlocks as units
-use Rattle.estelle_model.proofs.UnitsOfBlocks.{EntersNever}
+use Rattle.estelle_model.proofs.UnitsOfBlocks.{EntersNever, expr_never}
 use Rattle.estelle_model.proofs.UnitsOfActions.{act_never}
 use Rattle.body_walker_values.specs.declared.stop.Stop.{Stop}
 use Rattle.body_walker_state.specs.Follows.{Leads}
@@ -36,7 +35,7 @@ use Rattle.body_walker_blocks.proofs.Plans.{Last, Runs, Is}
 
 -- ---- units
 
-abbrev left_after : Outcome Logged (Unit {0}) → ℕ
+abbrev left_after : StepResult Logged (Unit {0}) → ℕ
 left_after (Ok r) = r.1.left
 left_after (Err e) = 0
 
@@ -45,13 +44,13 @@ pub spend_takes : (s u : Running Logged) → spend s ≡ Ok (tt, u) → u.left <
 unfolding spend
 spend_takes s u does = by (nat_lt 0 s.left) refl does
   where
-    by : (b : Bool) → nat_lt 0 s.left ≡ b → cond {A = Outcome Logged (Unit {0})} b (Ok (tt, record s { left = s.left - 1 })) (Err (StepLimit, s.left)) ≡ Ok (tt, u) → u.left < s.left
+    by : (b : Bool) → nat_lt 0 s.left ≡ b → cond {A = StepResult Logged (Unit {0})} b (Ok (tt, record s { left = s.left - 1 })) (Err (StepLimit, s.left)) ≡ Ok (tt, u) → u.left < s.left
     by true some e = let l : s.left - 1 ≡ u.left = ap left_after e in grind (arith, nat_tests)
     by false none e = cc
 
 -- none is given back
 pub keeps_units : {A : Type 0} (p : Step Logged A) → NeverRaises p → (s u : Running Logged) (a : A) → p s ≡ Ok (a, u) → u.left ≤ s.left
-keeps_units {A} p never s u a does = subst (λ (o : Outcome Logged A). AtMost s.left o) does (never s)
+keeps_units {A} p never s u a does = subst (λ (o : StepResult Logged A). AtMost s.left o) does (never s)
 
 module _ (t : Scoped) (h : Environment) where
   enters_never : EntersNever Logged (entering t h)

@@ -7,7 +7,7 @@ use crate::calls::value_arguments;
 use crate::labels::exprs_of;
 use crate::points::own_ip;
 use crate::scope::Scope;
-use body_walker_actions::{output_at, types_of};
+use body_walker_actions::{output_at, types_received};
 use body_walker_state::Walk;
 use body_walker_values::Stop;
 use estelle_model::Environment;
@@ -28,7 +28,7 @@ pub fn output(
     ensures { Follows (walked.output scope.now here.now ip.now interaction.now args.now) walk.old result walk.new }
 {
     let meaning = scope.meaning(interaction);
-    let types = types_of(meaning);
+    let types = types_received(meaning);
     let given = value_arguments(scope, alloc, here, walk, types, exprs_of(args))?;
     walk.spend()?;
     let a = own_ip(scope, alloc, here, ip)?;

@@ -14,7 +14,8 @@ use Rattle.estelle_tree.specs.Paths.{Path, path_cmp}
 use Rattle.estelle_model.specs.Core.{Instance}
 use Rattle.estelle_model.specs.Effects.{changed_in, put_back}
 use Rattle.estelle_model.specs.Jobs.{part_of_entry, instance_of}
-use Rattle.estelle_model.proofs.Maps.{total, apart, or_else, equal_of, get_inserted}
+use Rattle.estelle_model.proofs.Maps.{total, apart, equal_of, get_inserted}
+use Rattle.std.specs.Option.{option_or}
 use Rattle.body_walker_state.specs.InOrder.{entry_of, entries_of, are_in_order, instance_in, instances_of, StandsAt}
 use Rattle.body_walker_values.proofs.ValueLemmas.{same_some}
 use Rattle.body_walker_state.proofs.OrderLemmas.{left_of, right_of, below_at, found_at, later}
@@ -23,7 +24,7 @@ as_parts : (ps : List Part) → each part_of_entry (entries_of ps) ≡ ps
 as_parts [] = refl
 as_parts (p ∷ ps) = ap (λ qs. p ∷ qs) (as_parts ps)
 
-or_none : {A : Type 0} (o : Option A) → or_else o None ≡ o
+or_none : {A : Type 0} (o : Option A) → option_or o None ≡ o
 or_none None = refl
 or_none (Some a) = refl
 
@@ -31,7 +32,7 @@ pub shown : (ps : List Part) → T (are_in_order ps) → (q : Path) → map.get 
 shown ps h q =
     ap (λ (rs : List Part). map.get (instances_of rs) q) (sym (as_parts ps))
     ∙ get_inserted map.empty (entries_of ps) h q
-    ∙ ap (or_else (instance_in ps q)) (map.get-empty path_cmp q)
+    ∙ ap (option_or (instance_in ps q)) (map.get-empty path_cmp q)
     ∙ or_none (instance_in ps q)
 
 listed : (ps : List Part) → T (are_in_order ps) → map.entries (instances_of ps) ≡ entries_of ps

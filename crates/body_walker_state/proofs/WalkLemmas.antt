@@ -22,12 +22,12 @@ use Rattle.estelle_model.specs.Belonging.{may_store}
 use Rattle.estelle_model.specs.Core.{Instance, Instances}
 use Rattle.estelle_model.specs.Effects.{Store, changed, changed_in}
 use Rattle.estelle_model.specs.States.{Logged, on_log}
-use Rattle.estelle_model.specs.Steps.{Outcome, and_then, checked_at, checked}
+use Rattle.estelle_model.specs.Steps.{StepResult, and_then, checked_at, checked}
 use Rattle.estelle_model.specs.declared.meaning.Routine.{Routine}
 use Rattle.estelle_model.specs.Meant.{result_types}
 use Rattle.estelle_model.specs.Subject.{Subject, types_of_variables}
 use Rattle.estelle_model.specs.Calls.{blank, frame_of, enter}
-use Rattle.estelle_model.specs.Places.{of_variables, set_value, known, held_in, module_variables_of, load, put_at, put, store, store_ordinal, child_step}
+use Rattle.estelle_model.specs.Places.{of_variables, set_value, known, held_in, module_variables_of, load, put_in_instance, put, store, store_ordinal, child_step}
 use Rattle.estelle_model.specs.Jobs.{Shows, part_of_entry}
 use Rattle.body_walker_values.specs.declared.stop.Stop.{Stop}
 use Rattle.body_walker_values.specs.Gives.{Gives}
@@ -61,18 +61,18 @@ module _ (w : Inside) (s : Progress) (is : shown_by w ≡ s) where
 
   pub put_none : (p : Path) (x : ℕ) (way : List ℕ) (v : Value) → None ≡ map.get w.instances p → put Logged on_log (Of p x way) v (running s) ≡ Err (NoModule, s.left)
   unfolding put
-  put_none p x way v e = ap (λ o. put_at Logged on_log o p x way v (running s)) (found p ∙ sym e)
+  put_none p x way v e = ap (λ o. put_in_instance Logged on_log o p x way v (running s)) (found p ∙ sym e)
 
   abbrev types_at : Instance → List Denoter
   types_at i = types_of_variables w.bodies.now i.body
 
-  abbrev stored : Bool → Path → ℕ → List ℕ → Value → Outcome Logged (Unit {0})
+  abbrev stored : Bool → Path → ℕ → List ℕ → Value → StepResult Logged (Unit {0})
   stored b p x way v = cond b (Ok (tt, running (record s { instances = changed_in p (changed (Store x way v)) s.instances }))) (Err (Unset, s.left))
 
   tested : (p : Path) (x : ℕ) (way : List ℕ) (v : Value) (i : Instance) (b : Bool) → Some i ≡ map.get w.instances p → b ≡ may_store (types_at i) x way v → put Logged on_log (Of p x way) v (running s) ≡ stored b p x way v
   unfolding put
   tested p x way v i b e may =
-      ap (λ o. put_at Logged on_log o p x way v (running s)) (found p ∙ sym e)
+      ap (λ o. put_in_instance Logged on_log o p x way v (running s)) (found p ∙ sym e)
       ∙ ap (λ (u : Subject). stored (may_store (types_of_variables u i.body) x way v) p x way v) (ap (λ (r : Progress). r.subject) (sym is))
       ∙ ap (λ c. stored c p x way v) (sym may)
 
@@ -88,7 +88,7 @@ module _ (w : Inside) (s : Progress) (is : shown_by w ≡ s) where
 
   -- ---- frames
 
-  framed : (fs gs : List Value) → gs ≡ fs → ◌≡◌ {A = Outcome Logged (Unit {0})} (Ok (tt, record (running s) { frames = gs })) (Ok (tt, running (record (shown_by w) { frames = fs })))
+  framed : (fs gs : List Value) → gs ≡ fs → ◌≡◌ {A = StepResult Logged (Unit {0})} (Ok (tt, record (running s) { frames = gs })) (Ok (tt, running (record (shown_by w) { frames = fs })))
   framed fs gs e = ap (λ (hs : List Value). Ok (tt, record (running s) { frames = hs })) e ∙ ap (λ (r : Progress). Ok (tt, running (record r { frames = fs }))) (sym is)
 
   pub enter_after : (fs : List Value) (r : Routine) (given vs : List Value) → vs ≡ given ++ each blank_of (each shape_of (r.locals ++ result_types r.result)) → fs ≡ w.frames.items ++ value.Fields vs ∷ [] → enter r given (running s) ≡ Ok (tt, running (record (shown_by w) { frames = fs }))

@@ -3,7 +3,7 @@ use Rattle.std.specs.Prelude.{ℕ, List, [], ◌∷◌, ◌++◌}
 use Rattle.pascal_values.specs.declared.value.Value.{Value}
 use Rattle.estelle_tree.specs.declared.link.Link.{Link}
 use Rattle.estelle_model.specs.Core.{Instances}
-use Rattle.estelle_model.specs.Effects.{Effect, instances_after, links_after}
+use Rattle.estelle_model.specs.Effects.{StatementEffect, instances_after, links_after}
 use Rattle.estelle_model.specs.States.{Logged}
 use Rattle.estelle_model.specs.Steps.{Running}
 use Rattle.estelle_model.specs.Subject.{Subject, types_of_variables}
@@ -14,7 +14,7 @@ pub record Progress : Type 0 where
   pub subject : Subject
   pub instances : Instances
   pub links : List Link
-  pub log : List Effect
+  pub log : List StatementEffect
   pub frames : List Value
   -- the units left
   pub left : ℕ
@@ -28,5 +28,5 @@ running w = record {
 }
 
 -- after an effect
-abbrev pub after : Effect → Progress → Progress
+abbrev pub after : StatementEffect → Progress → Progress
 after e w = record w { instances = instances_after e w.instances; links = links_after e w.links; log = w.log ++ e ∷ [] }

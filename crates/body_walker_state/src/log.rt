@@ -62,9 +62,9 @@ impl Model for Log {
     ghost use Rattle.std.specs.Prelude.{List};
     ghost use Rattle.std.specs.Coded.{codes};
     ghost use Rattle.pascal_values.specs.contracts.value.Value as of_value;
-    ghost use Rattle.estelle_model.specs.Effects.{Effect};
+    ghost use Rattle.estelle_model.specs.Effects.{StatementEffect};
 
-    ghost Value = { List Effect };
+    ghost Value = { List StatementEffect };
 
     ghost coded = { Prim.hlevel (codes, of_value.the_row.coded) };
 

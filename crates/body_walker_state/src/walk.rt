@@ -29,10 +29,10 @@ use crate::log::{Log, LogEntry};
 use crate::parts::child_of;
 use crate::view::View;
 use body_walker_values::{
-    Stop, below, below_frame, fits, host_of, loaded, may_store, part_in, pop_frame, push_frame,
+    Stop, below, below_frame, fits, loaded, may_store, part_in, pop_frame, push_frame,
     put_in_frame, result_number, value_in, with_locals,
 };
-use estelle_model::{Denoter, Effect, Image, Part, Place, Routine};
+use estelle_model::{Denoter, Effect, Image, Part, Place, Routine, host_of};
 use estelle_tree::{Items, Link, Path, Sequence};
 use pascal_values::{Fault, Value, Values};
 use std::alloc::{AllocError, Global};

@@ -37,5 +37,5 @@ pub use ordinals::{bool_of, int_of, ordinal_of, set_value, value_in};
 pub use places::{copy_place, deeper};
 pub use required::{required_host, required_value};
 pub use stop::Stop;
-pub use types::{bounds_of, field_of, host_of, item_of};
+pub use types::{bounds_of, field_of, item_of};
 pub use values::{below, below_frame, loaded, put_below, put_in_frame};

@@ -1,14 +1,13 @@
 //! Operands as ordinals, and ordinals as values (ISO 7185, 6.4.2).
 
-ghost use Rattle.std.specs.Prelude.{◌≡◌, true, Some};
-ghost use Rattle.pascal_values.specs.Integers.{is_between};
-ghost use Rattle.estelle_model.specs.Types.{least, greatest, ordinal_of, value_of, value_in};
+ghost use Rattle.std.specs.Prelude.{Some};
+ghost use Rattle.estelle_model.specs.Types.{ordinal_of, value_in};
 ghost use Rattle.estelle_model.specs.Operators.{int_of, bool_of};
 ghost use Rattle.estelle_model.specs.Places.{set_value};
 ghost use Rattle.body_walker_values.specs.Gives.{Gives};
 
 use crate::stop::Stop;
-use estelle_model::Host;
+use estelle_model::{Host, has_value, value_at};
 use pascal_values::{Fault, Value};
 
 /// The integer that an operand is.
@@ -52,46 +51,6 @@ pub fn set_value(value: Value) -> Result<Value, Stop>
         return Err(Stop::Fault(Fault::Unset));
     }
     Ok(value)
-}
-
-fn least(host: Host) -> i64
-    ensures { result ≡ least host }
-{
-    match host {
-        Host::Integer => -i64::MAX,
-        _ => 0,
-    }
-}
-
-fn greatest(host: Host) -> i64
-    ensures { result ≡ greatest host }
-{
-    match host {
-        Host::Integer => i64::MAX,
-        Host::Boolean => 1,
-        Host::Char => 255,
-        Host::Enumeration { last } => i64::from(last),
-    }
-}
-
-/// Whether a host type has a value with the ordinal.
-pub fn has_value(host: Host, n: i64) -> bool
-    ensures { result ≡ is_between (least host) (greatest host) n }
-{
-    least(host) <= n && n <= greatest(host)
-}
-
-/// The value of a host type with an ordinal.
-pub fn value_at(host: Host, n: i64) -> Value
-    requires { is_between (least host) (greatest host) n ≡ true }
-    ensures { result ≡ value_of host n }
-{
-    match host {
-        Host::Integer => Value::Int(n),
-        Host::Boolean => Value::Bool(n.unsigned_abs() == 1),
-        Host::Char => Value::Char(n.unsigned_abs() as u8),
-        Host::Enumeration { last: _ } => Value::Enum(n.unsigned_abs() as u32),
-    }
 }
 
 /// The value of a host type with an ordinal, if there is one.

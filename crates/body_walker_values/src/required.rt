@@ -7,9 +7,9 @@ ghost use Rattle.estelle_model.specs.Operators.{◌>>>◌, an_int, required_host
 ghost use Rattle.body_walker_values.specs.Gives.{Gives};
 
 use crate::arithmetic::an_int;
-use crate::ordinals::{has_value, int_of, ordinal_of, value_at};
+use crate::ordinals::{int_of, ordinal_of};
 use crate::stop::Stop;
-use estelle_model::{Host, Required};
+use estelle_model::{Host, Required, has_value, value_at};
 use pascal_values::{Fault, Value, modulo, mul, sub};
 
 /// The host type of what a required function gives of an argument with this host type.

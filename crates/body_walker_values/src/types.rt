@@ -1,19 +1,9 @@
 //! What a type denoter says of its values and its components (ISO 7185, 6.4).
 
 ghost use Rattle.std.specs.Prelude.{◌≡◌};
-ghost use Rattle.estelle_model.specs.Types.{host_of, item_of, field_of, bounds_of, range_of};
+ghost use Rattle.estelle_model.specs.Types.{item_of, field_of, bounds_of};
 
-use estelle_model::{Denoter, Host};
-
-/// The host type of an ordinal type, or of a set's base. Another type counts as integer.
-pub fn host_of(denoter: &Denoter) -> Host
-    ensures { result ≡ host_of denoter.now }
-{
-    match denoter {
-        Denoter::Ordinal { host, .. } | Denoter::Set { host, .. } => *host,
-        _ => Host::Integer,
-    }
-}
+use estelle_model::Denoter;
 
 /// The component type of an array type.
 pub fn item_of(denoter: &Denoter) -> &Denoter
@@ -44,16 +34,6 @@ pub fn bounds_of(denoter: &Denoter) -> (i64, i64)
 {
     match denoter {
         Denoter::Array { low, high, .. } => (*low, *high),
-        _ => (1, 0),
-    }
-}
-
-/// The least and the greatest ordinal of an ordinal type.
-pub fn range_of(denoter: &Denoter) -> (i64, i64)
-    ensures { result ≡ range_of denoter.now }
-{
-    match denoter {
-        Denoter::Ordinal { low, high, .. } => (*low, *high),
         _ => (1, 0),
     }
 }

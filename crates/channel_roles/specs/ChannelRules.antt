@@ -15,7 +15,8 @@ use Rattle.estelle_tree.specs.declared.tree.specification.IpDecl.{IpDecl}
 use Rattle.scope_rules.specs.declared.refusal.Breach.{Breach}
 use Rattle.type_rules.specs.Meanings.{declaration_of}
 use Rattle.tree_visits.specs.Visit.{Visited, ChannelDeclared, HeaderDeclared, Ips, ClauseBegins, Connects, Disconnects, Attaches, Detaches, Outputs, Visit}
-use Rattle.visit_rules.specs.Breaches.{Rules, Broken, breach, where_}
+use Rattle.scope_rules.specs.Least.{breach}
+use Rattle.visit_rules.specs.Breaches.{Rules, Broken, where_}
 use Rattle.module_table.specs.declared.declared.InteractionPoint.{InteractionPoint}
 use Rattle.module_table.specs.declared.declared.Interaction.{Interaction}
 use Rattle.module_table.specs.Known.{Known, known, ip_of, interaction_of, may_send, may_receive}

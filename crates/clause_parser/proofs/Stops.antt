@@ -4,7 +4,7 @@ use Rattle.estelle_tree.specs.declared.kind.Kind.{Kind}
 use Rattle.estelle_tree.specs.declared.kind.Kind.TheVariants as k
 use Rattle.estelle_tree.specs.Input.{Input, kind, left}
 use Rattle.estelle_tree.specs.Spelling.{Spelling}
-use Rattle.token_reader.specs.Reader.{Parser, Outcome, and_then, pure}
+use Rattle.token_reader.specs.Reader.{Parser, ReadResult, and_then, pure}
 use Rattle.token_reader.specs.Lists.{optional, optional_if, turn, repeated_from, repeated, first_and, several}
 use Rattle.token_reader.proofs.Sound.{Sound, through, ok_pair}
 use Rattle.token_reader.proofs.Complete.{Advances, empty_kind}
@@ -19,7 +19,7 @@ module _ {A : Type 0} (item : Parser A) (P : Spelling A) (sound : Sound item P) 
   unfolding optional
   turn_stops again found all i j more h = go (begins (kind i)) refl h
     where
-      one_more : (o : Outcome A) → item i ≡ o → and_then (and_then o (λ x. pure (Some x))) (turn found again) ≡ Ok (all, j) → begins (kind j) ≡ false
+      one_more : (o : ReadResult A) → item i ≡ o → and_then (and_then o (λ x. pure (Some x))) (turn found again) ≡ Ok (all, j) → begins (kind j) ≡ false
       one_more (Ok p) is h = more (found ++ p.0 ∷ []) p.1 (advances i p.1 p.0 (sound i p.1 p.0 is)) h
       one_more (Err e) is h = absurd (cc)
 

@@ -2,7 +2,7 @@
 use Rattle.std.specs.Prelude.{cond}
 use Rattle.std.proofs.Common.{◌≡◌, ℕ, Bool, true, false, List, [], ◌∷◌, ◌++◌, Some, None, refl, sym, ap, ◌∙◌}
 use Rattle.std.specs.Ordering.{is_eq, nat_cmp, eq_by_cmp}
-use Rattle.std.specs.Option.{option_map, option_copied}
+use Rattle.std.specs.Option.{option_map, option_copied, option_or}
 use Rattle.std.specs.List.{AllByRecursion}
 use Rattle.std.specs.List.Sorted.{IsStrictlySortedBy}
 use Rattle.std.specs.BTreeMap as tree
@@ -19,18 +19,13 @@ use Rattle.delay_timers.specs.declared.kept.Running.{Running}
 use Rattle.delay_timers.specs.Kept.{Key, Row, Rows, key_cmp, in_row, running_at, as_timer, of_row, of_rows, seen}
 use Rattle.delay_timers.proofs.Orders.{same_path, by_parts, pairs_total, pairs_apart}
 
-or_else : {X : Type 0} → Option X → Option X → Option X
-or_else None x = x
-or_else (Some y) x = Some y
-
 -- at the path of a row
 found : (p : Path) (q : Pair) → is_eq (path_cmp q.path p) ≡ true → (es : List (ℕ × Running)) (rest : List (Pair × Timer))
-    → map.find pair_cmp q (of_row p es ++ rest) ≡ or_else (option_map as_timer (lookup (λ k. is_eq (nat_cmp q.trans k)) es)) (map.find pair_cmp q rest)
-unfolding or_else
+    → map.find pair_cmp q (of_row p es ++ rest) ≡ option_or (option_map as_timer (lookup (λ k. is_eq (nat_cmp q.trans k)) es)) (map.find pair_cmp q rest)
 found p q at [] rest = refl
 found p q at (e ∷ es) rest =
     ap (λ b. cond b (Some (as_timer e.1)) (map.find pair_cmp q (of_row p es ++ rest))) (by_parts (path_cmp q.path p) (nat_cmp q.trans e.0) true at)
-    ∙ elim (is_eq (nat_cmp q.trans e.0)) as (λ b. cond b (Some (as_timer e.1)) (map.find pair_cmp q (of_row p es ++ rest)) ≡ or_else (option_map as_timer (cond b (Some e.1) (lookup (λ k. is_eq (nat_cmp q.trans k)) es))) (map.find pair_cmp q rest)) [
+    ∙ elim (is_eq (nat_cmp q.trans e.0)) as (λ b. cond b (Some (as_timer e.1)) (map.find pair_cmp q (of_row p es ++ rest)) ≡ option_or (option_map as_timer (cond b (Some e.1) (lookup (λ k. is_eq (nat_cmp q.trans k)) es))) (map.find pair_cmp q rest)) [
       | true ↦ refl
       | false ↦ found p q at es rest
     ]
@@ -47,8 +42,7 @@ none_later k p at [] h = refl
 none_later k p at (e ∷ es) h =
     ap (λ b. cond b (Some e.1) (lookup (λ y. is_eq (path_cmp p y.items)) es)) (ap (λ r. is_eq (path_cmp r e.0.items)) (same_path p k.items at) ∙ ap is_eq h.0) ∙ none_later k p at es h.1
 
-kept : {X : Type 0} (x y : Option X) → y ≡ None → or_else x y ≡ x
-unfolding or_else
+kept : {X : Type 0} (x y : Option X) → y ≡ None → option_or x y ≡ x
 kept None y e = e
 kept (Some x) y e = refl
 

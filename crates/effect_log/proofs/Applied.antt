@@ -10,12 +10,12 @@ use Rattle.module_tree.specs.Trees as trees
 use Rattle.queue_store.specs.Queues.{is_declared}
 use Rattle.estelle_model.specs.declared.image.Image.{Image}
 use Rattle.estelle_model.specs.declared.image.Part.{Part}
-use Rattle.estelle_model.specs.declared.effect.Effect.{Effect as LoggedEffect}
+use Rattle.estelle_model.specs.declared.effect.Effect.{Effect}
 use Rattle.estelle_model.specs.declared.job.Done.{Done}
 use Rattle.estelle_model.specs.declared.job.Outcome.{Outcome}
 use Rattle.estelle_model.specs.declared.job.Outcome.TheVariants as outcome
 use Rattle.estelle_model.specs.Core.{Instance, Core}
-use Rattle.estelle_model.specs.Effects.{Effect}
+use Rattle.estelle_model.specs.Effects.{StatementEffect}
 use Rattle.estelle_model.specs.Transitions.{When, Transition}
 use Rattle.estelle_model.specs.Subject.{Subject}
 use Rattle.estelle_model.specs.Situation.{Situation, Acting}
@@ -53,7 +53,7 @@ drops-sorted before noted sorted drops start is n front permuted rises =
 pub length-behind : (before noted drops : List ℕ) → NotesDrops before noted drops → length before ≤ length noted
 length-behind before noted drops n = let l = ap length n.behind in let k = length-append before n.more in omega (arith, l, k)
 
-drops-fewer : (es : List LoggedEffect) (w v : ℕ) → w ≤ v → drops_in es w ≤ drops_in es v
+drops-fewer : (es : List Effect) (w v : ℕ) → w ≤ v → drops_in es w ≤ drops_in es v
 drops-fewer es w v le = by (list_any removes es)
   where
     by : (b : Bool) → (if b then w + outputs_in es else 0) ≤ (if b then v + outputs_in es else 0)
@@ -61,8 +61,8 @@ drops-fewer es w v le = by (list_any removes es)
     by false = omega arith
 
 -- the same of a list by its other name
-pub put-list : (s : Subject) (es fs : List LoggedEffect) (parts : List Part) (old noted : Notes) (final : Shared) (by : Path) (a : Acting) → es ≡ fs → HaveBeenPut s es parts old noted final by a → HaveBeenPut s fs parts old noted final by a
-put-list s es fs parts old noted final by a same been = subst (λ (xs : List LoggedEffect). HaveBeenPut s xs parts old noted final by a) same been
+pub put-list : (s : Subject) (es fs : List Effect) (parts : List Part) (old noted : Notes) (final : Shared) (by : Path) (a : Acting) → es ≡ fs → HaveBeenPut s es parts old noted final by a → HaveBeenPut s fs parts old noted final by a
+put-list s es fs parts old noted final by a same been = subst (λ (xs : List Effect). HaveBeenPut s xs parts old noted final by a) same been
 
 -- ---- the situation in which the firing begins
 
@@ -119,7 +119,7 @@ received-is s g shared p n stands =
     by None = refl
     by (Some i) = refl
 
-module _ (s : Subject) (g : Situation) (done : Done) (image : Image) (effects : List LoggedEffect) (is : done.outcome ≡ outcome.Ran image effects) (answers : AnswersIn s g done) (shared : Shared) (notes : Notes) (stands : Stands s shared g) where
+module _ (s : Subject) (g : Situation) (done : Done) (image : Image) (effects : List Effect) (is : done.outcome ≡ outcome.Ran image effects) (answers : AnswersIn s g done) (shared : Shared) (notes : Notes) (stands : Stands s shared g) where
   -- what is received waits at a point that is declared
   pub head-declared : (ip : ℕ) → when_ip (transition_at s done.trans (map.get g.core.instances done.path)) ≡ Some ip → is_declared (record { path = done.path; ip = ip }) shared.queues.queues ≡ true
   head-declared ip e = declared-there s g shared.queues.queues stands.queues (record { path = done.path; ip = ip }) (receives-there s g done answers ip e)
@@ -187,7 +187,7 @@ module _ (s : Subject) (g : Situation) (done : Done) (image : Image) (effects : 
     acting = begun_by s g done;
     stands = begins-stands new tree links outputs queues;
     sound = sound-taken s g done.path (begins-sound s g done answers) (transition_at s done.trans (map.get g.core.instances done.path));
-    can_be_made = subst (λ (es : List Effect). CanAllBeMade s done.path es (begun_by s g done)) (sym log-placed) placed.can_be_made;
+    can_be_made = subst (λ (es : List StatementEffect). CanAllBeMade s done.path es (begun_by s g done)) (sym log-placed) placed.can_be_made;
     logged = subst (AreLogged s) (sym placed.logged) (all-are-logged s placed.log);
     room = begins-room new noted room tree links spare points others;
     numbers = subst (λ (n : ℕ). n + outputs_in effects < 2 ^ 64) (sym outputs) numbers;
@@ -201,8 +201,8 @@ module _ (s : Subject) (g : Situation) (done : Done) (image : Image) (effects : 
   stands-after old noted final been =
       subst (λ (o : Outcome). Stands s final (put_of o).situation) (sym is)
       (stands-written s done.path (after_all (effects_of effects) (begun_by s g done)) image
-      (subst (λ (es : List Effect). outline done.path (after_all es (begun_by s g done)).situation.core.instances ≡ outline_of_parts image.parts) (sym log-placed) placed.outline)
-      (subst (λ (es : List Effect). Shows image (private s (with_records done.path image.parts (after_all es (begun_by s g done))).situation.core done.path)) (sym log-placed) placed.private)
+      (subst (λ (es : List StatementEffect). outline done.path (after_all es (begun_by s g done)).situation.core.instances ≡ outline_of_parts image.parts) (sym log-placed) placed.outline)
+      (subst (λ (es : List StatementEffect). Shows image (private s (with_records done.path image.parts (after_all es (begun_by s g done))).situation.core done.path)) (sym log-placed) placed.private)
       been.made final been.stands been.tree been.links been.queues been.outputs)
 
   pub outs-after-put : (after_all (effects_of effects) (begun_by s g done)).outs ≡ (after_put s g done).outs

@@ -16,7 +16,7 @@ use Rattle.queue_store.proofs.TableLaws.{same_ip-equal}
 use Rattle.queue_store.proofs.HoldsLaws.{holds-taken}
 use Rattle.estelle_model.specs.declared.image.Interaction.{Interaction}
 use Rattle.estelle_model.specs.Core.{Instance, Instances}
-use Rattle.estelle_model.specs.Effects.{Effect, Output, Connect, Disconnect, Attach, Detach, Create, Remove}
+use Rattle.estelle_model.specs.Effects.{StatementEffect, Output, Connect, Disconnect, Attach, Detach, Create, Remove}
 use Rattle.estelle_model.specs.Transitions.{When, Transition}
 use Rattle.estelle_model.specs.Subject.{Subject}
 use Rattle.estelle_model.specs.Situation.{Waiting, Situation}
@@ -184,7 +184,7 @@ no-initial s (Some i) = refl
 -- ---- logs
 
 -- an effect is what its log says
-pub effect-logged : (s : Subject) (e : Effect) → effect_of (logged_as s e) ≡ e
+pub effect-logged : (s : Subject) (e : StatementEffect) → effect_of (logged_as s e) ≡ e
 effect-logged s (Output from ip name values) = refl
 effect-logged s (Connect a b) = refl
 effect-logged s (Disconnect a) = refl
@@ -193,10 +193,10 @@ effect-logged s (Detach upper) = refl
 effect-logged s (Create p k i) = λ j. Create (parent_of-child p k j) (last_of-child p k j) i
 effect-logged s (Remove p k) = λ j. Remove (parent_of-child p k j) (last_of-child p k j)
 
-pub effects-logged : (s : Subject) (es : List Effect) → effects_of (all_logged s es) ≡ es
+pub effects-logged : (s : Subject) (es : List StatementEffect) → effects_of (all_logged s es) ≡ es
 effects-logged s [] = refl
 effects-logged s (e ∷ es) = λ i. effect-logged s e i ∷ effects-logged s es i
 
-pub all-are-logged : (s : Subject) (es : List Effect) → AreLogged s (all_logged s es)
+pub all-are-logged : (s : Subject) (es : List StatementEffect) → AreLogged s (all_logged s es)
 all-are-logged s [] = tt
 all-are-logged s (e ∷ es) = (ap (logged_as s) (sym (effect-logged s e)), all-are-logged s es)

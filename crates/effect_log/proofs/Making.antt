@@ -16,7 +16,7 @@ use Rattle.queue_store.specs.Queues.{is_declared, moved_all, dropped_below, item
 use Rattle.estelle_model.specs.declared.image.Part.{Part}
 use Rattle.estelle_model.specs.declared.image.Interaction.{Interaction}
 use Rattle.estelle_model.specs.declared.effect.Out.{Out}
-use Rattle.estelle_model.specs.declared.effect.Effect.{Effect as LoggedEffect}
+use Rattle.estelle_model.specs.declared.effect.Effect.{Effect}
 use Rattle.estelle_model.specs.declared.effect.Effect.TheVariants as logged
 use Rattle.estelle_model.specs.Actions.{at, count_from, is_bound}
 use Rattle.estelle_model.specs.Core.{Instance}
@@ -39,7 +39,7 @@ use Rattle.effect_log.proofs.Room.{Takes, room-left, all-given, all-narrower, le
 
 -- ---- what every effect leaves
 
-module _ (s : Subject) (e : LoggedEffect) (rest : List LoggedEffect) (shared : Shared) (old : Notes) (may : MayGoOn s (e ∷ rest) shared old) where
+module _ (s : Subject) (e : Effect) (rest : List Effect) (shared : Shared) (old : Notes) (may : MayGoOn s (e ∷ rest) shared old) where
   -- where the effect is made
   abbrev here : Situation
   here = may.acting.situation
@@ -95,7 +95,7 @@ if-some (Some a) P h = h a refl
 
 -- ---- outputs
 
-module _ (s : Subject) (from : IpAddr) (item : Interaction) (out : Out) (rest : List LoggedEffect) (shared : Shared) (old : Notes) (may : MayGoOn s (logged.Output from item out ∷ rest) shared old) where
+module _ (s : Subject) (from : IpAddr) (item : Interaction) (out : Out) (rest : List Effect) (shared : Shared) (old : Notes) (may : MayGoOn s (logged.Output from item out ∷ rest) shared old) where
   way-alike : route shared.links.links from ≡ route may.acting.situation.core.links from
   way-alike = ap (λ ls. route ls from) may.stands.links
 
@@ -172,7 +172,7 @@ module _ (s : Subject) (from : IpAddr) (item : Interaction) (out : Out) (rest : 
 -- ---- links
 
 -- what a change of links alone takes
-links-take : (e : LoggedEffect) (rest : List LoggedEffect) (w v : ℕ) (shared new : Shared) (old : Notes) → IsRoomFor (e ∷ rest) w shared old → removes e ≡ false → v ≤ w
+links-take : (e : Effect) (rest : List Effect) (w v : ℕ) (shared new : Shared) (old : Notes) → IsRoomFor (e ∷ rest) w shared old → removes e ≡ false → v ≤ w
     → new.tree.instances ≡ shared.tree.instances → new.tree.spare ≡ shared.tree.spare → shared.links.spare ≤ new.links.spare + links_of e → new.queues.spare ≡ shared.queues.spare → new.queues.room ≡ shared.queues.room → Takes e rest w v shared new old old
 links-take e rest w v shared new old room none le instances spare links items points = record {
   instances = omega (arith, spare);
@@ -195,7 +195,7 @@ links-take e rest w v shared new old room none le instances spare links items po
   no_points = room.no_points;
 }
 
-module _ (s : Subject) (a b : IpAddr) (rest : List LoggedEffect) (shared : Shared) (old : Notes) (may : MayGoOn s (logged.Connect a b ∷ rest) shared old) where
+module _ (s : Subject) (a b : IpAddr) (rest : List Effect) (shared : Shared) (old : Notes) (may : MayGoOn s (logged.Connect a b ∷ rest) shared old) where
   pub may-connect : (1 ≤ shared.links.spare) × (a ≢ b) × ((linked.is_bound shared.links.links a || linked.is_bound shared.links.links b) ≡ false)
   may-connect = (
     let sum = sum_by-cons links_of (logged.Connect a b) rest in omega (arith, sum, may.room.links),
@@ -215,7 +215,7 @@ module _ (s : Subject) (a b : IpAddr) (rest : List LoggedEffect) (shared : Share
       (links-take (logged.Connect a b) rest (length may.acting.situation.mail) (length may.acting.situation.mail) shared new old may.room refl (omega arith) (λ i. (tree i).instances) (λ i. (tree i).spare) spare (λ i. (queues i).spare) (λ i. (queues i).room))
       (omega (arith, outputs)) refl (sym (append-nil old.arrivals.items)) (none-dropped s (logged.Connect a b) rest shared old may) refl
 
-module _ (s : Subject) (a : IpAddr) (rest : List LoggedEffect) (shared : Shared) (old : Notes) (may : MayGoOn s (logged.Disconnect a ∷ rest) shared old) where
+module _ (s : Subject) (a : IpAddr) (rest : List Effect) (shared : Shared) (old : Notes) (may : MayGoOn s (logged.Disconnect a ∷ rest) shared old) where
   pub may-disconnect : is_some (peer shared.links.links a) ≡ true
   may-disconnect = ap (λ ls. is_some (peer ls a)) may.stands.links ∙ peer-some may.acting.situation.core.links a ∙ may.can_be_made.0.1
 
@@ -228,7 +228,7 @@ module _ (s : Subject) (a : IpAddr) (rest : List LoggedEffect) (shared : Shared)
       (links-take (logged.Disconnect a) rest (length may.acting.situation.mail) (length may.acting.situation.mail) shared new old may.room refl (omega arith) (λ i. (tree i).instances) (λ i. (tree i).spare) (omega (arith, spare)) (λ i. (queues i).spare) (λ i. (queues i).room))
       (omega (arith, outputs)) refl (sym (append-nil old.arrivals.items)) (none-dropped s (logged.Disconnect a) rest shared old may) refl
 
-module _ (s : Subject) (upper lower : IpAddr) (rest : List LoggedEffect) (shared : Shared) (old : Notes) (may : MayGoOn s (logged.Attach upper lower ∷ rest) shared old) where
+module _ (s : Subject) (upper lower : IpAddr) (rest : List Effect) (shared : Shared) (old : Notes) (may : MayGoOn s (logged.Attach upper lower ∷ rest) shared old) where
   attach-down : bottom shared.links.links lower ≡ bottom may.acting.situation.core.links lower
   attach-down = ap (λ ls. bottom ls lower) may.stands.links
 
@@ -270,7 +270,7 @@ module _ (s : Subject) (upper lower : IpAddr) (rest : List LoggedEffect) (shared
       (omega (arith, moved_length)) (λ i. (tree i).instances) (λ i. (tree i).spare) spare (λ i. (queues i).spare) (λ i. (queues i).room))
       (omega (arith, outputs)) refl (sym (append-nil old.arrivals.items)) (none-dropped s (logged.Attach upper lower) rest shared old may) refl
 
-module _ (s : Subject) (upper : IpAddr) (rest : List LoggedEffect) (shared : Shared) (old : Notes) (may : MayGoOn s (logged.Detach upper ∷ rest) shared old) where
+module _ (s : Subject) (upper : IpAddr) (rest : List Effect) (shared : Shared) (old : Notes) (may : MayGoOn s (logged.Detach upper ∷ rest) shared old) where
   detach-down : bottom shared.links.links upper ≡ bottom may.acting.situation.core.links upper
   detach-down = ap (λ ls. bottom ls upper) may.stands.links
 
@@ -300,7 +300,7 @@ module _ (s : Subject) (upper : IpAddr) (rest : List LoggedEffect) (shared : Sha
 
 -- ---- instances
 
-module _ (s : Subject) (path : Path) (part : Part) (ips : List IpAddr) (rest : List LoggedEffect) (shared : Shared) (old : Notes) (may : MayGoOn s (logged.Create path part ips ∷ rest) shared old) where
+module _ (s : Subject) (path : Path) (part : Part) (ips : List IpAddr) (rest : List Effect) (shared : Shared) (old : Notes) (may : MayGoOn s (logged.Create path part ips ∷ rest) shared old) where
   abbrev new_points : List IpAddr
   new_points = each (at (child (parent_of path) (last_of path))) (count_from 0 (length (ips_of s part.body)))
 
@@ -389,7 +389,7 @@ module _ (s : Subject) (path : Path) (part : Part) (ips : List IpAddr) (rest : L
       (omega (arith, outputs)) (λ i. (others i).outs.items) ((λ i. (others i).arrivals.items) ∙ sym (append-nil old.arrivals.items))
       (subst (λ ns. HasDropped old.drops.items ns []) (sym (λ i. (others i).drops.items)) (none-dropped s (logged.Create path part ips) rest shared old may)) (λ i. (others i).log.items)
 
-module _ (s : Subject) (path : Path) (rest : List LoggedEffect) (shared : Shared) (old : Notes) (may : MayGoOn s (logged.Remove path ∷ rest) shared old) where
+module _ (s : Subject) (path : Path) (rest : List Effect) (shared : Shared) (old : Notes) (may : MayGoOn s (logged.Remove path ∷ rest) shared old) where
   remove-logged : path ≡ child (parent_of path) (last_of path)
   remove-logged = let as_logged : logged.Remove path ≡ logged.Remove (child (parent_of path) (last_of path)) = may.logged.0 in cc
 

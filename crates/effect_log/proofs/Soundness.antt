@@ -13,7 +13,7 @@ use Rattle.module_tree.proofs.Paths.{same_parent, same_number}
 use Rattle.queue_store.proofs.HomeLaws.{false-unless}
 use Rattle.estelle_model.specs.Actions.{is_upper}
 use Rattle.estelle_model.specs.Core.{Instance, Instances}
-use Rattle.estelle_model.specs.Effects.{Effect, Output, Connect, Disconnect, Attach, Detach, Create, Remove, born, instances_after, links_after}
+use Rattle.estelle_model.specs.Effects.{StatementEffect, Output, Connect, Disconnect, Attach, Detach, Create, Remove, born, instances_after, links_after}
 use Rattle.estelle_model.specs.Subject.{Subject}
 use Rattle.estelle_model.specs.Situation.{Waiting, Situation, arrived, mail_after, situation_after}
 use Rattle.estelle_model.specs.Jobs.{IsIp, IsNextOf, CanBeMade}
@@ -177,7 +177,7 @@ module _ (s : Subject) (g : Situation) (sound : IsSound s g) where
 
   -- ---- each effect
 
-  sound-of : (e : Effect) → Ends (instances_after e g.core.instances) (links_after e g.core.links) → AllDown (links_after e g.core.links) → Homes (instances_after e g.core.instances) (mail_after e g.core.links g.made g.mail)
+  sound-of : (e : StatementEffect) → Ends (instances_after e g.core.instances) (links_after e g.core.links) → AllDown (links_after e g.core.links) → Homes (instances_after e g.core.instances) (mail_after e g.core.links g.made g.mail)
       → ((p : Path) (k : ℕ) (i : Instance) → map.get (instances_after e g.core.instances) (child p k) ≡ Some i → (parent : Instance) × (map.get (instances_after e g.core.instances) p ≡ Some parent) × (k ≤ parent.births))
       → IsSound s (situation_after e g)
   sound-of e ends down homes parents = record {
@@ -190,7 +190,7 @@ module _ (s : Subject) (g : Situation) (sound : IsSound s g) where
   no-connection : {A : Type 0} → true ≡ false → A
   no-connection e = absurd (cc)
 
-  pub sound-after : (m : Path) (e : Effect) → CanBeMade s m e g.core → IsSound s (situation_after e g)
+  pub sound-after : (m : Path) (e : StatementEffect) → CanBeMade s m e g.core → IsSound s (situation_after e g)
   unfolding instances_after links_after mail_after
   sound-after m (Output from ip name values) can =
       sound-of (Output from ip name values) ends-here down-here

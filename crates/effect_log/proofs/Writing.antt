@@ -18,7 +18,8 @@ use Rattle.estelle_model.specs.Core.{Instance, Instances}
 use Rattle.estelle_model.specs.Subject.{Subject}
 use Rattle.estelle_model.specs.Situation.{Acting}
 use Rattle.estelle_model.specs.Jobs.{part_of_entry, insert_part, private, Shows, overlaid, with_records, outline, outline_of_parts}
-use Rattle.estelle_model.proofs.Maps.{or_else, get_inserted, told}
+use Rattle.estelle_model.proofs.Maps.{get_inserted, told}
+use Rattle.std.specs.Option.{option_or}
 use Rattle.estelle_model.proofs.PrivateParts.{get_inside, told_parts, body_of, point_same}
 use Rattle.effect_log.specs.declared.shared.Shared.{Shared}
 use Rattle.effect_log.specs.Standing.{kept_of, AreQueuesOf, Stands}
@@ -88,7 +89,7 @@ module _ (s : Subject) (m : Path) (a : Acting) (image : Image)
   others-found q out =
       ap (λ ps. map.get (fold insert_part (map.retain_keys before (λ q. not (is_inside m q))) ps) q) shows.parts
       ∙ get_inserted (map.retain_keys before (λ q. not (is_inside m q))) own (map.entries_sorted (map.retain_keys after (is_inside m))) q
-      ∙ (λ i. or_else ((own-found q ∙ ap (λ b. cond b (map.get after q) None) out) i) ((get-outside before m q ∙ ap (λ b. cond b None (map.get before q)) out) i))
+      ∙ (λ i. option_or ((own-found q ∙ ap (λ b. cond b (map.get after q) None) out) i) ((get-outside before m q ∙ ap (λ b. cond b None (map.get before q)) out) i))
 
   -- the bodies and births at and below m are as before
   own-outlines : (q : Path) → is_inside m q ≡ true → option_map outline_of (map.get before q) ≡ option_map outline_of (map.get after q)

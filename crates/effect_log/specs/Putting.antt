@@ -6,13 +6,13 @@ use Rattle.estelle_tree.specs.declared.link.Link.{Link}
 use Rattle.estelle_tree.specs.Paths.{Path, parent_of, last_of}
 use Rattle.estelle_tree.specs.Links.{route}
 use Rattle.estelle_model.specs.declared.image.Part.{Part}
-use Rattle.estelle_model.specs.declared.effect.Effect.{Effect as LoggedEffect}
+use Rattle.estelle_model.specs.declared.effect.Effect.{Effect}
 use Rattle.estelle_model.specs.declared.effect.Effect.TheVariants as logged
 use Rattle.estelle_model.specs.declared.job.Job.{Job}
 use Rattle.estelle_model.specs.declared.job.Done.{Done}
 use Rattle.estelle_model.specs.declared.job.Outcome.{Outcome}
 use Rattle.estelle_model.specs.declared.job.Outcome.TheVariants as outcome
-use Rattle.estelle_model.specs.Effects.{Effect, Output, Connect, Disconnect, Attach, Detach, Create, Remove}
+use Rattle.estelle_model.specs.Effects.{StatementEffect, Output, Connect, Disconnect, Attach, Detach, Create, Remove}
 use Rattle.estelle_model.specs.Subject.{Subject}
 use Rattle.estelle_model.specs.Situation.{Situation, Acting, acting_after}
 use Rattle.estelle_model.specs.Firing.{Firing, begun, untimed, transition_at, fire, start, bare}
@@ -25,7 +25,7 @@ abbrev pub IsRan : Outcome → Type 0
 IsRan (outcome.Ran image effects) = Unit {0}
 IsRan (outcome.Faulted kind) = ⊥
 
-abbrev pub log_of : Outcome → List LoggedEffect
+abbrev pub log_of : Outcome → List Effect
 log_of (outcome.Ran image effects) = effects
 log_of (outcome.Faulted kind) = []
 
@@ -34,7 +34,7 @@ parts_of (outcome.Ran image effects) = image.parts
 parts_of (outcome.Faulted kind) = []
 
 -- the effect that is logged so
-abbrev pub effect_of : LoggedEffect → Effect
+abbrev pub effect_of : Effect → StatementEffect
 effect_of (logged.Output from item out) = Output from out.ip item.name item.values
 effect_of (logged.Connect a b) = Connect a b
 effect_of (logged.Disconnect a) = Disconnect a
@@ -43,7 +43,7 @@ effect_of (logged.Detach upper) = Detach upper
 effect_of (logged.Create path part ips) = Create (parent_of path) (last_of path) (instance_of part)
 effect_of (logged.Remove path) = Remove (parent_of path) (last_of path)
 
-abbrev pub effects_of : List LoggedEffect → List Effect
+abbrev pub effects_of : List Effect → List StatementEffect
 effects_of = each effect_of
 
 -- ---- where it answers
@@ -74,12 +74,12 @@ path_of None = []
 path_of (Some a) = a.path ∷ []
 
 -- where an output arrives, if it does
-abbrev pub arrived_at : Effect → List Link → List Path
+abbrev pub arrived_at : StatementEffect → List Link → List Path
 arrived_at (Output from ip name values) links = path_of (route links from)
 arrived_at _ links = []
 
 -- where the outputs of these effects arrive, in order, each over the links of its moment
-abbrev pub arrivals : List Effect → Acting → List Path
+abbrev pub arrivals : List StatementEffect → Acting → List Path
 arrivals [] a = []
 arrivals (e ∷ es) a = arrived_at e a.situation.core.links ++ arrivals es (acting_after e a)
 

@@ -11,9 +11,9 @@ use Rattle.queue_store.specs.Queues.{Queue, is_declared, declared, pushed, taken
 use Rattle.estelle_model.specs.declared.image.Part.{Part}
 use Rattle.estelle_model.specs.declared.image.Interaction.{Interaction}
 use Rattle.estelle_model.specs.declared.effect.Out.{Out}
-use Rattle.estelle_model.specs.declared.effect.Effect.{Effect as LoggedEffect}
+use Rattle.estelle_model.specs.declared.effect.Effect.{Effect}
 use Rattle.estelle_model.specs.Core.{Instance}
-use Rattle.estelle_model.specs.Effects.{Effect, Remove}
+use Rattle.estelle_model.specs.Effects.{StatementEffect, Remove}
 use Rattle.estelle_model.specs.Subject.{Subject, ips_of, transition}
 use Rattle.estelle_model.specs.Situation.{Waiting, Situation, Acting, acting_after, outs_after}
 use Rattle.estelle_model.specs.Queues.{common_at}
@@ -91,15 +91,15 @@ pub record StandsBut (s : Subject) (m : Path) (shared : Shared) (g : Situation) 
 -- ---- one effect after another
 
 -- the effect of a block, logged as it is handed on
-abbrev pub IsLogged : Subject → LoggedEffect → Type 0
+abbrev pub IsLogged : Subject → Effect → Type 0
 IsLogged s e = e ≡ logged_as s (effect_of e)
 
-abbrev pub AreLogged : Subject → List LoggedEffect → Type 0
+abbrev pub AreLogged : Subject → List Effect → Type 0
 AreLogged s [] = Unit {0}
 AreLogged s (e ∷ es) = IsLogged s e × AreLogged s es
 
 -- in some situation these effects of the instance m can be made, and there is room for them
-pub record MayGoOn (s : Subject) (effects : List LoggedEffect) (shared : Shared) (notes : Notes) : Type 0 where
+pub record MayGoOn (s : Subject) (effects : List Effect) (shared : Shared) (notes : Notes) : Type 0 where
   pub by : Path
   pub acting : Acting
   pub stands : StandsBut s by shared acting.situation
@@ -160,7 +160,7 @@ Rises [] = Unit {0}
 Rises (n ∷ ns) = AllFrom n ns × Rises ns
 
 -- the numbers that an effect drops, in the order of the interactions
-abbrev pub dropped_by : Effect → List Waiting → List ℕ
+abbrev pub dropped_by : StatementEffect → List Waiting → List ℕ
 dropped_by (Remove p k) mail = each (λ w. w.item.number) (filter (waits_inside (child p k)) mail)
 dropped_by _ mail = []
 
@@ -171,7 +171,7 @@ pub record HasDropped (old new numbers : List ℕ) : Type 0 where
   pub same : (n : ℕ) → times n added ≡ times n numbers
 
 -- the effect was made: what is left may go on after it, and the notes have what it gave
-pub record WasMade (s : Subject) (e : LoggedEffect) (rest : List LoggedEffect) (old new : Notes) (shared : Shared) (by : Path) (a : Acting) : Type 0 where
+pub record WasMade (s : Subject) (e : Effect) (rest : List Effect) (old new : Notes) (shared : Shared) (by : Path) (a : Acting) : Type 0 where
   pub next : MayGoOn s rest shared new
   pub same : next.by ≡ by
   pub after : next.acting ≡ acting_after (effect_of e) a
@@ -190,7 +190,7 @@ pub record NotesDrops (before noted drops : List ℕ) : Type 0 where
   pub rises : Rises drops
 
 -- these effects were made, and the notes have what they gave
-pub record HaveBeenMade (s : Subject) (effects : List LoggedEffect) (old new : Notes) (shared : Shared) (by : Path) (a : Acting) : Type 0 where
+pub record HaveBeenMade (s : Subject) (effects : List Effect) (old new : Notes) (shared : Shared) (by : Path) (a : Acting) : Type 0 where
   pub stands : StandsBut s by shared (after_all (effects_of effects) a).situation
   pub outs : (before : List Out) → old.outs.items ≡ before ++ a.outs → new.outs.items ≡ before ++ (after_all (effects_of effects) a).outs
   pub drops : (before : List ℕ) → NotesDrops before old.drops.items a.drops → NotesDrops before new.drops.items (after_all (effects_of effects) a).drops
@@ -200,7 +200,7 @@ pub record HaveBeenMade (s : Subject) (effects : List LoggedEffect) (old new : N
   pub points : new.points.items ≡ []
 
 -- some of them were made, and those that are left may go on
-pub record IsOnTheWay (s : Subject) (effects : List LoggedEffect) (old new : Notes) (shared : Shared) (by : Path) (a : Acting) : Type 0 where
+pub record IsOnTheWay (s : Subject) (effects : List Effect) (old new : Notes) (shared : Shared) (by : Path) (a : Acting) : Type 0 where
   pub now : MayGoOn s (reverse new.log.items) shared new
   pub same : now.by ≡ by
   pub left : after_all (effects_of (reverse new.log.items)) now.acting ≡ after_all (effects_of effects) a
@@ -211,7 +211,7 @@ pub record IsOnTheWay (s : Subject) (effects : List LoggedEffect) (old new : Not
 -- ---- and then the records
 
 -- the effects were made, the records written and the drops sorted
-pub record HaveBeenPut (s : Subject) (effects : List LoggedEffect) (parts : List Part) (old new : Notes) (shared : Shared) (by : Path) (a : Acting) : Type 0 where
+pub record HaveBeenPut (s : Subject) (effects : List Effect) (parts : List Part) (old new : Notes) (shared : Shared) (by : Path) (a : Acting) : Type 0 where
   pub made : Shared
   pub stands : StandsBut s by made (after_all (effects_of effects) a).situation
   pub tree : shared.tree.instances ≡ written parts made.tree.instances

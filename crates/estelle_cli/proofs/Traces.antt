@@ -8,7 +8,8 @@ use Rattle.estelle_model.specs.Trace.{text}
 use Rattle.spec_accept.specs.declared.checked.Checked.{Checked}
 use Rattle.situation.specs.declared.limits.Limits.{Limits}
 use Rattle.outside.specs.Choices.{any_drawn}
-use Rattle.situation.specs.Runs.{subject as with_names, IsStopped}
+use Rattle.situation.specs.Runs.{IsStopped}
+use Rattle.estelle_model.specs.Subject.{subject as with_names}
 use Rattle.estelle_cli.specs.declared.contents.Contents.TheVariants.{Alone}
 use Rattle.estelle_cli.specs.Input.{subject, Reads}
 use Rattle.spec_maker.specs.Ring.{IsRing}

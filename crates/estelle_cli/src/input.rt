@@ -6,7 +6,7 @@ ghost use Rattle.outside.specs.Counts.{Rose};
 ghost use Rattle.estelle_tree.specs.Lexed.{FollowOneAnother};
 ghost use Rattle.estelle_lexer.specs.Tokens.{IsPlacedToken};
 ghost use Rattle.estelle_model_legality.specs.Instances.{LeadsToStates};
-ghost use Rattle.situation.specs.Runs.{subject};
+ghost use Rattle.estelle_model.specs.Subject.{subject};
 ghost use Rattle.estelle_cli.specs.declared.contents.Contents.TheVariants.{Alone};
 ghost use Rattle.estelle_cli.specs.Input as spec;
 ghost use Rattle.estelle_cli.specs.Input.{Reads, HasTokens, IsTextOf, IsBehind, IsOther, IsSeparated, IsUnseparated, IsTraceAt, Misses, HasStopped, TakesAtMost, place_of, input_limit};

@@ -3,7 +3,7 @@
 ghost use Rattle.std.specs.Prelude.{◌≡◌, ◌<◌, ◌≤◌, ◌+◌, ◌^◌, length, drop, IfOk, OnOk, IfErr, IfSome};
 ghost use Rattle.std.specs.Io.KnownBytes.{IsAtEnd};
 ghost use Rattle.estelle_model_legality.specs.Instances.{LeadsToStates};
-ghost use Rattle.situation.specs.Runs.{subject};
+ghost use Rattle.estelle_model.specs.Subject.{subject};
 ghost use Rattle.trace_text.specs.Readings.{IsTrace};
 ghost use Rattle.trace_check.specs.Judging.{IsRunTo};
 ghost use Rattle.estelle_cli.specs.declared.contents.Contents.TheVariants.{Traced};

@@ -7,7 +7,8 @@ ghost use Rattle.estelle_model.specs.declared.event.End.TheVariants.{Clock as By
 ghost use Rattle.estelle_model_legality.specs.Instances.{LeadsToStates};
 ghost use Rattle.estelle_cli.specs.Tasks.{AreLimits};
 ghost use Rattle.estelle_cli.specs.Answers.{chooser_by};
-ghost use Rattle.situation.specs.Runs.{subject, IsStopped};
+ghost use Rattle.situation.specs.Runs.{IsStopped};
+ghost use Rattle.estelle_model.specs.Subject.{subject};
 
 use estelle_model::{End, Run};
 use outside::{AnyChooser, Clock, FirstChooser, SeedChooser};

@@ -1,10 +1,11 @@
 -- Steps on two states that do the same: from related states they come to related states and related values, or to one fault.
-use Rattle.std.proofs.Common.{◌≡◌, ℕ, Bool, true, false, List, [], ◌∷◌, Result, Ok, Err, Option, Some, None, refl, ap, subst, cond}
+use Rattle.std.proofs.Common.{◌≡◌, ℕ, Bool, true, false, List, [], ◌∷◌, map, Result, Ok, Err, Option, Some, None, refl, ap, subst, cond}
 use Rattle.std.specs.Prelude.{◌-◌, nat_lt}
 use Rattle.pascal_values.specs.declared.fault.Fault.{Fault}
 use Rattle.pascal_values.specs.declared.fault.Fault.TheVariants.{StepLimit}
 use Rattle.pascal_values.specs.declared.value.Value.{Value}
-use Rattle.estelle_model.specs.Steps.{Running, Outcome, Step, Do, and_then, ◌>>=◌, pure, fail, checked, all, spend}
+use Rattle.estelle_tree.proofs.Folds.{Related}
+use Rattle.estelle_model.specs.Steps.{Running, StepResult, Step, Do, and_then, ◌>>=◌, pure, fail, checked, all, spend}
 
 -- the same value
 abbrev pub Same : {A : Type 0} → A → A → Type 0
@@ -23,6 +24,15 @@ MaybeAlike V None (Some b) = ⊥
 MaybeAlike V (Some a) None = ⊥
 MaybeAlike V (Some a) (Some b) = V a b
 
+-- each of some pairs is related, and each behind an operator
+pub each_related : {A B : Type 0} (V : A → B → Type 0) (xs : List (Related A B V)) → EachAlike V (map (λ (x : Related A B V). x.left) xs) (map (λ (x : Related A B V). x.right) xs)
+each_related V [] = tt
+each_related V (x ∷ xs) = (x.holds, each_related V xs)
+
+pub each_marked : {M A B : Type 0} (V : A → B → Type 0) (xs : List (M × Related A B V)) → EachAlike (λ (x : M × A) (y : M × B). (x.0 ≡ y.0) × V x.1 y.1) (map {B = M × A} (λ (x : M × Related A B V). (x.0, x.1.left)) xs) (map {B = M × B} (λ (x : M × Related A B V). (x.0, x.1.right)) xs)
+each_marked V [] = tt
+each_marked V (x ∷ xs) = ((refl, x.1.holds), each_marked V xs)
+
 module _ (S T : Type 0) (R : S → T → Type 0) where
   -- the states are related, with the same frames and units
   pub record RunningAlike (s : Running S) (t : Running T) : Type 0 where
@@ -30,7 +40,7 @@ module _ (S T : Type 0) (R : S → T → Type 0) where
     pub frames : s.frames ≡ t.frames
     pub left : s.left ≡ t.left
 
-  abbrev pub OutcomeAlike : {A B : Type 0} → (A → B → Type 0) → Outcome S A → Outcome T B → Type 0
+  abbrev pub OutcomeAlike : {A B : Type 0} → (A → B → Type 0) → StepResult S A → StepResult T B → Type 0
   OutcomeAlike V (Ok r) (Ok q) = V r.0 q.0 × RunningAlike r.1 q.1
   OutcomeAlike V (Err e) (Err f) = e ≡ f
   OutcomeAlike V (Ok r) (Err f) = ⊥
@@ -47,7 +57,7 @@ module _ (S T : Type 0) (R : S → T → Type 0) where
   abbrev pub ValueAlike : Step S Value → Step T Value → Type 0
   ValueAlike p q = StepAlike (Same {A = Value}) p q
 
-  pub and_then_alike : {A A' B B' : Type 0} (V : A → A' → Type 0) (W : B → B' → Type 0) (o : Outcome S A) (o' : Outcome T A') (f : A → Step S B) (g : A' → Step T B') → OutcomeAlike V o o' → ((a : A) (b : A') → V a b → StepAlike W (f a) (g b)) → OutcomeAlike W (and_then o f) (and_then o' g)
+  pub and_then_alike : {A A' B B' : Type 0} (V : A → A' → Type 0) (W : B → B' → Type 0) (o : StepResult S A) (o' : StepResult T A') (f : A → Step S B) (g : A' → Step T B') → OutcomeAlike V o o' → ((a : A) (b : A') → V a b → StepAlike W (f a) (g b)) → OutcomeAlike W (and_then o f) (and_then o' g)
   and_then_alike V W (Ok r) (Ok q) f g h k = k r.0 q.0 h.0 r.1 q.1 h.1
   and_then_alike V W (Err e) (Err x) f g h k = h
   and_then_alike V W (Ok r) (Err x) f g h k = absurd h

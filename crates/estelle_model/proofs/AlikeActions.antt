@@ -14,7 +14,7 @@ use Rattle.estelle_tree.specs.Paths.{Path, is_inside, child, last_of}
 use Rattle.estelle_tree.specs.Links.{above}
 use Rattle.estelle_model.specs.Core.{Instance, Core}
 use Rattle.estelle_model.specs.InteractionPoints.{point, connectable_at, external_at, may_connect, may_attach}
-use Rattle.estelle_model.specs.Effects.{Effect, Change, Store, Hold, Enter, core_after, core_kept}
+use Rattle.estelle_model.specs.Effects.{StatementEffect, Change, Store, Hold, Enter, core_after, core_kept}
 use Rattle.estelle_model.specs.Effects as effect
 use Rattle.estelle_model.specs.States.{Offers, IsFaithful}
 use Rattle.estelle_model.specs.Steps.{Do, ◌>>=◌, ◌>>◌, pure, checked, checked_at, spend}
@@ -32,7 +32,8 @@ use Rattle.estelle_model.specs.Statements.{Init, Release, Connect, Disconnect, A
 use Rattle.estelle_model.specs.Calls.{Enters}
 use Rattle.estelle_model.specs.Blocks.{block_step, clause_value}
 use Rattle.estelle_model.specs.Subject.{Subject, Child, child_of}
-use Rattle.estelle_model.specs.Actions.{is_bound, is_connected, is_upper, at, count_from, instance_at, types_of, empty_in, make, keep, read, fails_if, no_such, child_in, ip_of, part_of_child, ip_named, needs, is_sent_at, may_hold, connect_points, connect, disconnect_one, disconnect_if, detach_above, detach_if, for_each, external, disconnect_child, disconnect_point, disconnect_of, attach_points, attach, detach_point, detach, output_at, output, enter_state, create, init, init_of, release_child, release, act}
+use Rattle.estelle_model.specs.Actions.{is_bound, is_connected, is_upper, at, count_from, instance_at, empty_in, make, keep, read, fails_if, no_such, child_in, ip_of, part_of_child, ip_named, needs, is_sent_at, may_hold, connect_points, connect, disconnect_one, disconnect_if, detach_above, detach_if, for_each, external, disconnect_child, disconnect_point, disconnect_of, attach_points, attach, detach_point, detach, output_at, output, enter_state, create, init, init_of, release_child, release, act}
+use Rattle.estelle_model.specs.Definitions.{types_received}
 use Rattle.estelle_model.proofs.Alike.{Same, EachAlike, OutcomeAlike, StepAlike, DoAlike, ValueAlike, then_alike, then_same, pure_alike, fail_alike, checked_alike, if_alike, spend_alike}
 use Rattle.estelle_model.proofs.AlikePlaces.{ShowAlike}
 use Rattle.estelle_model.proofs.AlikeOperands.{GivenAlike, OperandAlike, give_all_alike}
@@ -64,7 +65,7 @@ module _ (S T : Type 0) (on : Offers S) (on' : Offers T) (faithful : IsFaithful 
     read_alike : {A : Type 0} (x : Core → Result A Fault) → StepAlike S T EqualCores (Same {A = A}) (read S on subject meant x) (read T on' subject meant x)
     read_alike {A} x s t r = subst (λ (c : Core). OutcomeAlike S T EqualCores (Same {A = A}) (checked_at (x (on.core s.state)) s) (checked_at (x c) t)) r.state (checked_alike S T EqualCores (x (on.core s.state)) s t r)
 
-    make_alike : (e : Effect) → DoAlike S T EqualCores (make S on subject meant e) (make T on' subject meant e)
+    make_alike : (e : StatementEffect) → DoAlike S T EqualCores (make S on subject meant e) (make T on' subject meant e)
     make_alike e s t r = (
       refl,
       record {
@@ -111,7 +112,7 @@ module _ (S T : Type 0) (on : Offers S) (on' : Offers T) (faithful : IsFaithful 
     with_links f g h = then_same S T EqualCores (Same {A = Unit {0}}) (read S on subject meant (λ c. Ok c.links)) (read T on' subject meant (λ c. Ok c.links)) f g (read_alike (λ c. Ok c.links)) h
 
     -- fails, or makes an effect
-    or_fails : (b : Bool) (f : Fault) (e : Effect) → DoAlike S T EqualCores (fails_if S on subject meant b f >>= λ _. make S on subject meant e) (fails_if T on' subject meant b f >>= λ _. make T on' subject meant e)
+    or_fails : (b : Bool) (f : Fault) (e : StatementEffect) → DoAlike S T EqualCores (fails_if S on subject meant b f >>= λ _. make S on subject meant e) (fails_if T on' subject meant b f >>= λ _. make T on' subject meant e)
     or_fails b f e = then_same S T EqualCores (Same {A = Unit {0}}) (fails_if S on subject meant b f) (fails_if T on' subject meant b f) (λ _. make S on subject meant e) (λ _. make T on' subject meant e) (fails_if_alike b f) (λ _. make_alike e)
 
     -- is as a name of another kind, or goes on
@@ -176,16 +177,16 @@ module _ (S T : Type 0) (on : Offers S) (on' : Offers T) (faithful : IsFaithful 
     detach_alike here p = then_same S T EqualCores (Same {A = Unit {0}}) (ip_of S on subject meant here.path (meant p)) (ip_of T on' subject meant here.path (meant p)) (detach_point S on subject meant) (detach_point T on' subject meant) (ip_of_alike here.path (meant p)) detach_point_alike
 
     output_at_alike : (p x : Name) (values : List Value) (a : IpAddr) → DoAlike S T EqualCores (output_at S on subject meant p x values a) (output_at T on' subject meant p x values a)
-    output_at_alike p x values a = needs_alike (λ c. is_sent_at (point subject c.instances a) (meant x) && are_values_of (types_of (meant x)) values) _ _ (make_alike (effect.Output a p.word x.word values))
+    output_at_alike p x values a = needs_alike (λ c. is_sent_at (point subject c.instances a) (meant x) && are_values_of (types_received (meant x)) values) _ _ (make_alike (effect.Output a p.word x.word values))
 
     output_alike : (here : Environment) (p x : Name) (es : List (Operand S)) (fs : List (Operand T)) → EachAlike (OperandAlike S T on on' [] EqualCores) es fs → DoAlike S T EqualCores (output S on subject meant here p x es) (output T on' subject meant here p x fs)
-    output_alike here p x es fs h = then_alike S T EqualCores (GivenAlike []) (Same {A = Unit {0}}) (give_all (map ByValue (types_of (meant x))) es no_arguments) (give_all (map ByValue (types_of (meant x))) fs no_arguments) (λ G. spend >>= λ spent. ip_of S on subject meant here.path (meant p) >>= λ a. output_at S on subject meant p x G.values a) (λ G. spend >>= λ spent. ip_of T on' subject meant here.path (meant p) >>= λ a. output_at T on' subject meant p x G.values a) (give_all_alike S T on on' [] EqualCores (map ByValue (types_of (meant x))) es fs no_arguments h tt) (λ g j gj. then_same S T EqualCores (Same {A = Unit {0}}) (spend) (spend) (λ spent. ip_of S on subject meant here.path (meant p) >>= λ a. output_at S on subject meant p x g.values a) (λ spent. ip_of T on' subject meant here.path (meant p) >>= λ a. output_at T on' subject meant p x j.values a) (spend_alike S T EqualCores) (λ spent. then_same S T EqualCores (Same {A = Unit {0}}) (ip_of S on subject meant here.path (meant p)) (ip_of T on' subject meant here.path (meant p)) (λ a. output_at S on subject meant p x g.values a) (λ a. output_at T on' subject meant p x j.values a) (ip_of_alike here.path (meant p)) (λ a. subst (λ (c : ActualParameters). DoAlike S T EqualCores (output_at S on subject meant p x g.values a) (output_at T on' subject meant p x c.values a)) gj.0 (output_at_alike p x g.values a))))
+    output_alike here p x es fs h = then_alike S T EqualCores (GivenAlike []) (Same {A = Unit {0}}) (give_all (map ByValue (types_received (meant x))) es no_arguments) (give_all (map ByValue (types_received (meant x))) fs no_arguments) (λ G. spend >>= λ spent. ip_of S on subject meant here.path (meant p) >>= λ a. output_at S on subject meant p x G.values a) (λ G. spend >>= λ spent. ip_of T on' subject meant here.path (meant p) >>= λ a. output_at T on' subject meant p x G.values a) (give_all_alike S T on on' [] EqualCores (map ByValue (types_received (meant x))) es fs no_arguments h tt) (λ g j gj. then_same S T EqualCores (Same {A = Unit {0}}) (spend) (spend) (λ spent. ip_of S on subject meant here.path (meant p) >>= λ a. output_at S on subject meant p x g.values a) (λ spent. ip_of T on' subject meant here.path (meant p) >>= λ a. output_at T on' subject meant p x j.values a) (spend_alike S T EqualCores) (λ spent. then_same S T EqualCores (Same {A = Unit {0}}) (ip_of S on subject meant here.path (meant p)) (ip_of T on' subject meant here.path (meant p)) (λ a. output_at S on subject meant p x g.values a) (λ a. output_at T on' subject meant p x j.values a) (ip_of_alike here.path (meant p)) (λ a. subst (λ (c : ActualParameters). DoAlike S T EqualCores (output_at S on subject meant p x g.values a) (output_at T on' subject meant p x c.values a)) gj.0 (output_at_alike p x g.values a))))
 
     pub enter_state_alike : (p : Path) (o : Option ℕ) → DoAlike S T EqualCores (enter_state S on subject meant p o) (enter_state T on' subject meant p o)
     enter_state_alike p None = nothing_alike
     enter_state_alike p (Some k) = keep_alike p (Enter k)
 
-    made_alike : (o : Option (Option Path)) (e : Effect) → DoAlike S T EqualCores (checked (empty_in o) >> make S on subject meant e) (checked (empty_in o) >> make T on' subject meant e)
+    made_alike : (o : Option (Option Path)) (e : StatementEffect) → DoAlike S T EqualCores (checked (empty_in o) >> make S on subject meant e) (checked (empty_in o) >> make T on' subject meant e)
     made_alike o e = seq_alike S T EqualCores (checked (empty_in o)) (make S on subject meant e) (checked (empty_in o)) (make T on' subject meant e) (checked_alike S T EqualCores (empty_in o)) (make_alike e)
 
     -- the child is made, runs, and is held
@@ -193,7 +194,7 @@ module _ (S T : Type 0) (on : Offers S) (on' : Offers T) (faithful : IsFaithful 
         → DoAlike S T EqualCores (create S on subject meant enters here k new values i) (create T on' subject meant enters' here k new values i)
     create_alike enters enters' into here k new values i =
         let p : Path = child here.path (suc i.births) in
-        let e : Effect = effect.Create here.path (suc i.births) (new.with_parameters values) in
+        let e : StatementEffect = effect.Create here.path (suc i.births) (new.with_parameters values) in
         let o : Option (Option Path) = slice_get i.module_variables k in
         then_same S T EqualCores (Same {A = Unit {0}}) (enters (checked (empty_in o) >> make S on subject meant e) p new.block no_arguments) (enters' (checked (empty_in o) >> make T on' subject meant e) p new.block no_arguments)
         (λ ran. enter_state S on subject meant p new.to >>= λ entered. keep S on subject meant here.path (Hold k (Some p))) (λ ran. enter_state T on' subject meant p new.to >>= λ entered. keep T on' subject meant here.path (Hold k (Some p)))

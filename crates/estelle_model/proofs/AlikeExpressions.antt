@@ -1,5 +1,5 @@
 -- Expressions mean alike on two states that show the same.
-use Rattle.std.proofs.Common.{◌≡◌, ℕ, List, [], ◌∷◌, map, Option, Some, None, refl, sym, ap, subst}
+use Rattle.std.proofs.Common.{◌≡◌, ℕ, List, [], ◌∷◌, Option, Some, None, refl, ap, subst}
 use Rattle.std.specs.Prelude.{slice_get}
 use Rattle.pascal_values.specs.declared.fault.Fault.TheVariants.{Unset}
 use Rattle.pascal_values.specs.declared.value.Value.{Value}
@@ -11,21 +11,18 @@ use Rattle.estelle_tree.specs.declared.tree.type_expr.Sign.{Sign}
 use Rattle.estelle_tree.specs.declared.tree.expression.Relation.{Relation}
 use Rattle.estelle_tree.specs.declared.tree.expression.Adding.{Adding}
 use Rattle.estelle_tree.specs.declared.tree.expression.Multiplying.{Multiplying}
-use Rattle.estelle_tree.specs.declared.tree.expression.Factor.{Factor, roll-Factor, map-Factor}
-use Rattle.estelle_tree.specs.declared.tree.expression.Selector.{Selector, roll-Selector}
-use Rattle.estelle_tree.specs.declared.tree.expression.Args.{Args, roll-Args}
-use Rattle.estelle_tree.specs.declared.tree.expression.Elem.{Elem, roll-Elem}
-use Rattle.estelle_tree.specs.declared.tree.expression.Expr.{Expr, roll-Expr}
-use Rattle.estelle_tree.specs.declared.tree.expression.Simple.{Simple, roll-Simple}
-use Rattle.estelle_tree.specs.declared.tree.expression.Term.{Term, roll-Term}
-use Rattle.estelle_tree.specs.declared.tree.expression.Variable.{Variable, roll-Variable}
-use Rattle.estelle_tree.specs.declared.tree.expression.Factor.TheOpen.{Factor-F, Selector-F, Args-F, Elem-F, Expr-F, Simple-F, Term-F, Variable-F}
-use Rattle.estelle_tree.specs.declared.tree.expression.Factor.TheFolds.{map-Selector, map-Args, map-Elem, map-Expr, map-Simple, map-Term, map-Variable, ind-Factor, ind-Selector, ind-Args, ind-Elem, ind-Expr, ind-Variable}
+use Rattle.estelle_tree.specs.declared.tree.expression.Args.{Args}
+use Rattle.estelle_tree.specs.declared.tree.expression.Expr.{Expr}
+use Rattle.estelle_tree.specs.declared.tree.expression.Variable.{Variable}
+use Rattle.estelle_tree.specs.declared.tree.expression.Factor.TheOpen.{Factor-F, Selector-F}
+use Rattle.estelle_tree.proofs.Folds.{Related, Pairs, KeepsAt, folds_related}
+use Rattle.estelle_tree.proofs.ExpressionFolds as kind
+use Rattle.estelle_tree.proofs.ExpressionFolds.{Kind, Layer, expressions}
 use Rattle.estelle_model.specs.declared.denoter.Host.{Host}
 use Rattle.estelle_model.specs.declared.denoter.Host.TheVariants as hosts
 use Rattle.estelle_model.specs.declared.denoter.Denoter.{Denoter}
 use Rattle.estelle_model.specs.Types.{host_of, item_of, field_of, bounds_of}
-use Rattle.estelle_model.specs.declared.meaning.Required.{Required}
+use Rattle.estelle_tree.specs.declared.required.Required.{Required}
 use Rattle.estelle_model.specs.Operators.{negation, signed, related, required_value, required_host}
 use Rattle.estelle_tree.specs.Paths.{Path}
 use Rattle.estelle_model.specs.States.{Offers}
@@ -40,10 +37,10 @@ use Rattle.estelle_model.specs.Places.{deeper, set_value, child_step}
 use Rattle.estelle_model.specs.declared.place.Environment.{Environment}
 use Rattle.estelle_model.specs.declared.place.ActualParameters.{ActualParameters}
 use Rattle.estelle_model.specs.Expressions.{Call, Operand, Access, Selecting, ordinal_step, multiplied, multiplied_host, added, added_host, computed, give_all, no_arguments, result_host, reference_at, index_step, indexed, fielded, selected, exported, behind_dot, behind_module, accessed, of_access, called, valued, required_of, designated, term_of, with_sign, simple_of, related_to, factor, selector, args, elem, expr, simple, term, variable}
-use Rattle.estelle_model.proofs.Alike.{Same, EachAlike, MaybeAlike, StepAlike, ValueAlike, then_alike, then_same, pure_alike, fail_alike, checked_alike}
+use Rattle.estelle_model.proofs.Alike.{Same, EachAlike, MaybeAlike, each_related, each_marked, StepAlike, ValueAlike, then_alike, then_same, pure_alike, fail_alike, checked_alike}
 use Rattle.estelle_model.proofs.AlikePlaces.{IsWithin, PlaceAlike, PathAlike, deeper_within, ShowAlike, load_alike, child_alike}
 use Rattle.estelle_model.proofs.AlikeOperands.{within_at, GivenAlike, IsHereWithin, OperandAlike, AccessAlike, SelectingAlike, WrittenAlike, CallAlike, ordinal_alike, of_value_alike, both_alike, multiplied_alike, added_alike, computed_alike, computed_with, give_all_alike, member_alike, set_alike}
-use Rattle.estelle_model.proofs.ExpressionEquations.{factor_at, factor_made, selector_at, selector_made, args_at, args_made, elem_at, elem_made, expr_at, expr_made, simple_at, simple_made, term_at, term_made, variable_at, variable_made}
+use Rattle.estelle_model.proofs.ExpressionEquations.{Results, layers}
 
 module _ (S T : Type 0) (on : Offers S) (on' : Offers T) (m : Path) (R : S → T → Type 0) (show : ShowAlike S T on on' m R) (meant : Meanings) (call : Call S) (call' : Call T) (calls : CallAlike S T on on' m R call call') (here : Environment) (within : IsHereWithin m here) where
   -- ---- variable accesses
@@ -189,177 +186,56 @@ module _ (S T : Type 0) (on : Offers S) (on' : Offers T) (m : Path) (R : S → T
 
   -- ---- trees
 
-  abbrev pub FactorAlike : Factor → Type 0
-  FactorAlike x = OperandAlike S T on on' m R (factor S on meant call here x) (factor T on' meant call' here x)
+  abbrev NodeAlike : (k : Kind) → Results S k → Results T k → Type 0
+  NodeAlike kind.selector = SelectingAlike S T on on' m R
+  NodeAlike kind.args = EachAlike OA
+  NodeAlike kind.elem = StepAlike S T R (Same {A = List ℕ})
+  NodeAlike kind.variable = WrittenAlike S T on on' m R
+  NodeAlike kind.factor = OA
+  NodeAlike kind.expr = OA
+  NodeAlike kind.simple = OA
+  NodeAlike kind.term = OA
 
-  abbrev pub SelectorAlike : Selector → Type 0
-  SelectorAlike x = SelectingAlike S T on on' m R (selector S on meant call here x) (selector T on' meant call' here x)
+  abbrev Keeps : (k : Kind) → Layer k (Pairs expressions (Results S) (Results T) (layers S on meant call here) (layers T on' meant call' here) NodeAlike) → Type 0
+  Keeps = KeepsAt expressions (Results S) (Results T) (layers S on meant call here) (layers T on' meant call' here) NodeAlike
 
-  abbrev pub ArgsAlike : Args → Type 0
-  ArgsAlike x = EachAlike (OperandAlike S T on on' m R) (args S on meant call here x) (args T on' meant call' here x)
+  at_elem : (first : Related (Operand S) (Operand T) OA) (last : Option (Related (Operand S) (Operand T) OA)) (span : Span) → Keeps kind.elem (record { first = first; last = last; span = span })
+  at_elem first None span = member_alike S T on on' m R _ _ None None first.holds tt
+  at_elem first (Some e) span = member_alike S T on on' m R _ _ (Some e.left) (Some e.right) first.holds e.holds
 
-  abbrev pub ElemAlike : Elem → Type 0
-  ElemAlike x = StepAlike S T R (Same {A = List ℕ}) (elem S on meant call here x) (elem T on' meant call' here x)
+  at_expr : (left : Related (Operand S) (Operand T) OA) (right : Option (Relation × Related (Operand S) (Operand T) OA)) (span : Span) → Keeps kind.expr (record { left = left; right = right; span = span })
+  at_expr left None span = left.holds
+  at_expr left (Some x) span = related_to_alike x.0 _ _ _ _ left.holds x.1.holds
 
-  abbrev pub ExprAlike : Expr → Type 0
-  ExprAlike x = OperandAlike S T on on' m R (expr S on meant call here x) (expr T on' meant call' here x)
+  keeps : (k : Kind) (l : Layer k (Pairs expressions (Results S) (Results T) (layers S on meant call here) (layers T on' meant call' here) NodeAlike)) → Keeps k l
+  keeps kind.factor (Factor-F.Number n span) = computed_alike S T on on' m R hosts.Integer _ _ (pure_alike S T R (Same {A = Value}) (pascal.Int n) (pascal.Int n) refl)
+  keeps kind.factor (Factor-F.Char n span) = computed_alike S T on on' m R hosts.Char _ _ (pure_alike S T R (Same {A = Value}) (pascal.Char n) (pascal.Char n) refl)
+  keeps kind.factor (Factor-F.Variable v) = subst (λ (x : Name). OA (valued S on meant call here (meant v.left.name) v.left.selectors) (valued T on' meant call' here (meant x) v.right.selectors)) v.holds.name (valued_alike (meant v.left.name) v.left.selectors v.right.selectors v.holds.selectors)
+  keeps kind.factor (Factor-F.Call x es span) = designated_alike (meant x) es.left es.right es.holds
+  keeps kind.factor (Factor-F.Paren e span) = computed_with S T on on' m R _ _ _ _ e.holds.host e.holds.value
+  keeps kind.factor (Factor-F.Not e span) = computed_alike S T on on' m R hosts.Boolean _ _ (of_value_alike S T on on' m R negation _ _ e.holds.value)
+  keeps kind.factor (Factor-F.Set elems span) = computed_alike S T on on' m R hosts.Integer _ _ (set_alike S T on on' m R [] _ _ (each_related (StepAlike S T R (Same {A = List ℕ})) elems))
+  keeps kind.selector (Selector-F.Index es) = record { over = λ a b ab. indexed_alike _ _ a b (each_related OA es) ab; name = refl }
+  keeps kind.selector (Selector-F.Field x) = record { over = λ a b ab. fielded_alike (meant x) a b ab; name = refl }
+  keeps kind.args l = each_related OA l.exprs
+  keeps kind.elem l = at_elem l.first l.last l.span
+  keeps kind.expr l = at_expr l.left l.right l.span
+  keeps kind.simple l = simple_of_alike _ _ _ _ (with_sign_alike l.sign _ _ l.first.holds) (each_marked OA l.others)
+  keeps kind.term l = term_of_alike _ _ _ _ l.first.holds (each_marked OA l.others)
+  keeps kind.variable l = record { name = refl; selectors = each_related (SelectingAlike S T on on' m R) l.selectors }
 
-  abbrev pub SimpleAlike : Simple → Type 0
-  SimpleAlike x = OperandAlike S T on on' m R (simple S on meant call here x) (simple T on' meant call' here x)
-
-  abbrev pub TermAlike : Term → Type 0
-  TermAlike x = OperandAlike S T on on' m R (term S on meant call here x) (term T on' meant call' here x)
-
-  abbrev pub VariableAlike : Variable → Type 0
-  VariableAlike x = WrittenAlike S T on on' m R (variable S on meant call here x) (variable T on' meant call' here x)
-
-  abbrev ShownFactor : Type 0
-  ShownFactor = (x : Factor) × FactorAlike x
-
-  abbrev ShownSelector : Type 0
-  ShownSelector = (x : Selector) × SelectorAlike x
-
-  abbrev ShownArgs : Type 0
-  ShownArgs = (x : Args) × ArgsAlike x
-
-  abbrev ShownElem : Type 0
-  ShownElem = (x : Elem) × ElemAlike x
-
-  abbrev ShownExpr : Type 0
-  ShownExpr = (x : Expr) × ExprAlike x
-
-  abbrev ShownSimple : Type 0
-  ShownSimple = (x : Simple) × SimpleAlike x
-
-  abbrev ShownTerm : Type 0
-  ShownTerm = (x : Term) × TermAlike x
-
-  abbrev ShownVariable : Type 0
-  ShownVariable = (x : Variable) × VariableAlike x
-
-  -- what is shown of each of some is shown of all
-  shown_exprs : (xs : List ShownExpr) → EachAlike (OperandAlike S T on on' m R) (map (expr S on meant call here) (map (λ e. e.0) xs)) (map (expr T on' meant call' here) (map (λ e. e.0) xs))
-  shown_exprs [] = tt
-  shown_exprs (x ∷ xs) = (x.1, shown_exprs xs)
-
-  shown_selectors : (xs : List ShownSelector) → EachAlike (SelectingAlike S T on on' m R) (map (selector S on meant call here) (map (λ e. e.0) xs)) (map (selector T on' meant call' here) (map (λ e. e.0) xs))
-  shown_selectors [] = tt
-  shown_selectors (x ∷ xs) = (x.1, shown_selectors xs)
-
-  shown_elems : (xs : List ShownElem) → EachAlike (StepAlike S T R (Same {A = List ℕ})) (map (elem S on meant call here) (map (λ e. e.0) xs)) (map (elem T on' meant call' here) (map (λ e. e.0) xs))
-  shown_elems [] = tt
-  shown_elems (x ∷ xs) = (x.1, shown_elems xs)
-
-  shown_factors : (xs : List (Multiplying × ShownFactor)) → EachAlike MarkedAlike (map (λ (e : Multiplying × Factor). (e.0, factor S on meant call here e.1)) (map (λ (e : Multiplying × ShownFactor). (e.0, e.1.0)) xs)) (map (λ (e : Multiplying × Factor). (e.0, factor T on' meant call' here e.1)) (map (λ (e : Multiplying × ShownFactor). (e.0, e.1.0)) xs))
-  shown_factors [] = tt
-  shown_factors (x ∷ xs) = ((refl, x.1.1), shown_factors xs)
-
-  shown_terms : (xs : List (Adding × ShownTerm)) → EachAlike AddedAlike (map (λ (e : Adding × Term). (e.0, term S on meant call here e.1)) (map (λ (e : Adding × ShownTerm). (e.0, e.1.0)) xs)) (map (λ (e : Adding × Term). (e.0, term T on' meant call' here e.1)) (map (λ (e : Adding × ShownTerm). (e.0, e.1.0)) xs))
-  shown_terms [] = tt
-  shown_terms (x ∷ xs) = ((refl, x.1.1), shown_terms xs)
-
-  factor_shown : (x : Factor-F Factor Selector Args Elem Expr Simple Term Variable) (y : Factor-F ShownFactor ShownSelector ShownArgs ShownElem ShownExpr ShownSimple ShownTerm ShownVariable) → map-Factor ShownFactor ShownSelector ShownArgs ShownElem ShownExpr ShownSimple ShownTerm ShownVariable Factor Selector Args Elem Expr Simple Term Variable (λ e. e.0) (λ e. e.0) (λ e. e.0) (λ e. e.0) (λ e. e.0) (λ e. e.0) (λ e. e.0) (λ e. e.0) y ≡ x → FactorAlike (roll-Factor x)
-  factor_shown x y is = subst (λ (z : Factor-F Factor Selector Args Elem Expr Simple Term Variable). FactorAlike (roll-Factor z)) is (rolled (map-Factor ShownFactor ShownSelector ShownArgs ShownElem ShownExpr ShownSimple ShownTerm ShownVariable Factor Selector Args Elem Expr Simple Term Variable (λ e. e.0) (λ e. e.0) (λ e. e.0) (λ e. e.0) (λ e. e.0) (λ e. e.0) (λ e. e.0) (λ e. e.0) y) (go y))
-    where
-      rolled : (z : Factor-F Factor Selector Args Elem Expr Simple Term Variable) → OperandAlike S T on on' m R (factor_at S on meant call here z) (factor_at T on' meant call' here z) → FactorAlike (roll-Factor z)
-      rolled z h = subst (λ a. OperandAlike S T on on' m R a (factor T on' meant call' here (roll-Factor z))) (sym (factor_made S on meant call here z)) (subst (λ b. OperandAlike S T on on' m R (factor_at S on meant call here z) b) (sym (factor_made T on' meant call' here z)) h)
-
-      go : (z : Factor-F ShownFactor ShownSelector ShownArgs ShownElem ShownExpr ShownSimple ShownTerm ShownVariable) → OperandAlike S T on on' m R (factor_at S on meant call here (map-Factor ShownFactor ShownSelector ShownArgs ShownElem ShownExpr ShownSimple ShownTerm ShownVariable Factor Selector Args Elem Expr Simple Term Variable (λ e. e.0) (λ e. e.0) (λ e. e.0) (λ e. e.0) (λ e. e.0) (λ e. e.0) (λ e. e.0) (λ e. e.0) z)) (factor_at T on' meant call' here (map-Factor ShownFactor ShownSelector ShownArgs ShownElem ShownExpr ShownSimple ShownTerm ShownVariable Factor Selector Args Elem Expr Simple Term Variable (λ e. e.0) (λ e. e.0) (λ e. e.0) (λ e. e.0) (λ e. e.0) (λ e. e.0) (λ e. e.0) (λ e. e.0) z))
-      go (Factor-F.Number n span) = computed_alike S T on on' m R hosts.Integer _ _ (pure_alike S T R (Same {A = Value}) (pascal.Int n) (pascal.Int n) refl)
-      go (Factor-F.Char n span) = computed_alike S T on on' m R hosts.Char _ _ (pure_alike S T R (Same {A = Value}) (pascal.Char n) (pascal.Char n) refl)
-      go (Factor-F.Variable v) = subst (λ (x : Name). OA (valued S on meant call here (meant (variable S on meant call here v.0).name) (variable S on meant call here v.0).selectors) (valued T on' meant call' here (meant x) (variable T on' meant call' here v.0).selectors)) v.1.name (valued_alike (meant (variable S on meant call here v.0).name) (variable S on meant call here v.0).selectors (variable T on' meant call' here v.0).selectors v.1.selectors)
-      go (Factor-F.Call x es span) = designated_alike (meant x) (args S on meant call here es.0) (args T on' meant call' here es.0) es.1
-      go (Factor-F.Paren e span) = computed_with S T on on' m R _ _ _ _ e.1.host e.1.value
-      go (Factor-F.Not e span) = computed_alike S T on on' m R hosts.Boolean _ _ (of_value_alike S T on on' m R negation _ _ e.1.value)
-      go (Factor-F.Set elems span) = computed_alike S T on on' m R hosts.Integer _ _ (set_alike S T on on' m R [] _ _ (shown_elems elems))
-
-  selector_shown : (x : Selector-F Factor Selector Args Elem Expr Simple Term Variable) (y : Selector-F ShownFactor ShownSelector ShownArgs ShownElem ShownExpr ShownSimple ShownTerm ShownVariable) → map-Selector ShownFactor ShownSelector ShownArgs ShownElem ShownExpr ShownSimple ShownTerm ShownVariable Factor Selector Args Elem Expr Simple Term Variable (λ e. e.0) (λ e. e.0) (λ e. e.0) (λ e. e.0) (λ e. e.0) (λ e. e.0) (λ e. e.0) (λ e. e.0) y ≡ x → SelectorAlike (roll-Selector x)
-  selector_shown x y is = subst (λ (z : Selector-F Factor Selector Args Elem Expr Simple Term Variable). SelectorAlike (roll-Selector z)) is (rolled (map-Selector ShownFactor ShownSelector ShownArgs ShownElem ShownExpr ShownSimple ShownTerm ShownVariable Factor Selector Args Elem Expr Simple Term Variable (λ e. e.0) (λ e. e.0) (λ e. e.0) (λ e. e.0) (λ e. e.0) (λ e. e.0) (λ e. e.0) (λ e. e.0) y) (go y))
-    where
-      rolled : (z : Selector-F Factor Selector Args Elem Expr Simple Term Variable) → SelectingAlike S T on on' m R (selector_at S on meant call here z) (selector_at T on' meant call' here z) → SelectorAlike (roll-Selector z)
-      rolled z h = subst (λ a. SelectingAlike S T on on' m R a (selector T on' meant call' here (roll-Selector z))) (sym (selector_made S on meant call here z)) (subst (λ b. SelectingAlike S T on on' m R (selector_at S on meant call here z) b) (sym (selector_made T on' meant call' here z)) h)
-
-      go : (z : Selector-F ShownFactor ShownSelector ShownArgs ShownElem ShownExpr ShownSimple ShownTerm ShownVariable) → SelectingAlike S T on on' m R (selector_at S on meant call here (map-Selector ShownFactor ShownSelector ShownArgs ShownElem ShownExpr ShownSimple ShownTerm ShownVariable Factor Selector Args Elem Expr Simple Term Variable (λ e. e.0) (λ e. e.0) (λ e. e.0) (λ e. e.0) (λ e. e.0) (λ e. e.0) (λ e. e.0) (λ e. e.0) z)) (selector_at T on' meant call' here (map-Selector ShownFactor ShownSelector ShownArgs ShownElem ShownExpr ShownSimple ShownTerm ShownVariable Factor Selector Args Elem Expr Simple Term Variable (λ e. e.0) (λ e. e.0) (λ e. e.0) (λ e. e.0) (λ e. e.0) (λ e. e.0) (λ e. e.0) (λ e. e.0) z))
-      go (Selector-F.Index es) = record { over = λ a b ab. indexed_alike _ _ a b (shown_exprs es) ab; name = refl }
-      go (Selector-F.Field x) = record { over = λ a b ab. fielded_alike (meant x) a b ab; name = refl }
-
-  args_shown : (x : Args-F Factor Selector Args Elem Expr Simple Term Variable) (y : Args-F ShownFactor ShownSelector ShownArgs ShownElem ShownExpr ShownSimple ShownTerm ShownVariable) → map-Args ShownFactor ShownSelector ShownArgs ShownElem ShownExpr ShownSimple ShownTerm ShownVariable Factor Selector Args Elem Expr Simple Term Variable (λ e. e.0) (λ e. e.0) (λ e. e.0) (λ e. e.0) (λ e. e.0) (λ e. e.0) (λ e. e.0) (λ e. e.0) y ≡ x → ArgsAlike (roll-Args x)
-  args_shown x y is = subst (λ (z : Args-F Factor Selector Args Elem Expr Simple Term Variable). ArgsAlike (roll-Args z)) is (rolled (map-Args ShownFactor ShownSelector ShownArgs ShownElem ShownExpr ShownSimple ShownTerm ShownVariable Factor Selector Args Elem Expr Simple Term Variable (λ e. e.0) (λ e. e.0) (λ e. e.0) (λ e. e.0) (λ e. e.0) (λ e. e.0) (λ e. e.0) (λ e. e.0) y) (go y))
-    where
-      rolled : (z : Args-F Factor Selector Args Elem Expr Simple Term Variable) → EachAlike (OperandAlike S T on on' m R) (args_at S on meant call here z) (args_at T on' meant call' here z) → ArgsAlike (roll-Args z)
-      rolled z h = subst (λ a. EachAlike (OperandAlike S T on on' m R) a (args T on' meant call' here (roll-Args z))) (sym (args_made S on meant call here z)) (subst (λ b. EachAlike (OperandAlike S T on on' m R) (args_at S on meant call here z) b) (sym (args_made T on' meant call' here z)) h)
-
-      go : (z : Args-F ShownFactor ShownSelector ShownArgs ShownElem ShownExpr ShownSimple ShownTerm ShownVariable) → EachAlike (OperandAlike S T on on' m R) (args_at S on meant call here (map-Args ShownFactor ShownSelector ShownArgs ShownElem ShownExpr ShownSimple ShownTerm ShownVariable Factor Selector Args Elem Expr Simple Term Variable (λ e. e.0) (λ e. e.0) (λ e. e.0) (λ e. e.0) (λ e. e.0) (λ e. e.0) (λ e. e.0) (λ e. e.0) z)) (args_at T on' meant call' here (map-Args ShownFactor ShownSelector ShownArgs ShownElem ShownExpr ShownSimple ShownTerm ShownVariable Factor Selector Args Elem Expr Simple Term Variable (λ e. e.0) (λ e. e.0) (λ e. e.0) (λ e. e.0) (λ e. e.0) (λ e. e.0) (λ e. e.0) (λ e. e.0) z))
-      go z = shown_exprs z.exprs
-
-  elem_shown : (x : Elem-F Factor Selector Args Elem Expr Simple Term Variable) (y : Elem-F ShownFactor ShownSelector ShownArgs ShownElem ShownExpr ShownSimple ShownTerm ShownVariable) → map-Elem ShownFactor ShownSelector ShownArgs ShownElem ShownExpr ShownSimple ShownTerm ShownVariable Factor Selector Args Elem Expr Simple Term Variable (λ e. e.0) (λ e. e.0) (λ e. e.0) (λ e. e.0) (λ e. e.0) (λ e. e.0) (λ e. e.0) (λ e. e.0) y ≡ x → ElemAlike (roll-Elem x)
-  elem_shown x y is = subst (λ (z : Elem-F Factor Selector Args Elem Expr Simple Term Variable). ElemAlike (roll-Elem z)) is (rolled (map-Elem ShownFactor ShownSelector ShownArgs ShownElem ShownExpr ShownSimple ShownTerm ShownVariable Factor Selector Args Elem Expr Simple Term Variable (λ e. e.0) (λ e. e.0) (λ e. e.0) (λ e. e.0) (λ e. e.0) (λ e. e.0) (λ e. e.0) (λ e. e.0) y) (go y))
-    where
-      rolled : (z : Elem-F Factor Selector Args Elem Expr Simple Term Variable) → StepAlike S T R (Same {A = List ℕ}) (elem_at S on meant call here z) (elem_at T on' meant call' here z) → ElemAlike (roll-Elem z)
-      rolled z h = subst (λ a. StepAlike S T R (Same {A = List ℕ}) a (elem T on' meant call' here (roll-Elem z))) (sym (elem_made S on meant call here z)) (subst (λ b. StepAlike S T R (Same {A = List ℕ}) (elem_at S on meant call here z) b) (sym (elem_made T on' meant call' here z)) h)
-
-      go : (z : Elem-F ShownFactor ShownSelector ShownArgs ShownElem ShownExpr ShownSimple ShownTerm ShownVariable) → StepAlike S T R (Same {A = List ℕ}) (elem_at S on meant call here (map-Elem ShownFactor ShownSelector ShownArgs ShownElem ShownExpr ShownSimple ShownTerm ShownVariable Factor Selector Args Elem Expr Simple Term Variable (λ e. e.0) (λ e. e.0) (λ e. e.0) (λ e. e.0) (λ e. e.0) (λ e. e.0) (λ e. e.0) (λ e. e.0) z)) (elem_at T on' meant call' here (map-Elem ShownFactor ShownSelector ShownArgs ShownElem ShownExpr ShownSimple ShownTerm ShownVariable Factor Selector Args Elem Expr Simple Term Variable (λ e. e.0) (λ e. e.0) (λ e. e.0) (λ e. e.0) (λ e. e.0) (λ e. e.0) (λ e. e.0) (λ e. e.0) z))
-      go z = parts z.first z.last z.span
-        where
-          parts : (first : ShownExpr) (last : Option ShownExpr) (span : Span) → StepAlike S T R (Same {A = List ℕ}) (elem_at S on meant call here (map-Elem ShownFactor ShownSelector ShownArgs ShownElem ShownExpr ShownSimple ShownTerm ShownVariable Factor Selector Args Elem Expr Simple Term Variable (λ e. e.0) (λ e. e.0) (λ e. e.0) (λ e. e.0) (λ e. e.0) (λ e. e.0) (λ e. e.0) (λ e. e.0) (record { first = first; last = last; span = span }))) (elem_at T on' meant call' here (map-Elem ShownFactor ShownSelector ShownArgs ShownElem ShownExpr ShownSimple ShownTerm ShownVariable Factor Selector Args Elem Expr Simple Term Variable (λ e. e.0) (λ e. e.0) (λ e. e.0) (λ e. e.0) (λ e. e.0) (λ e. e.0) (λ e. e.0) (λ e. e.0) (record { first = first; last = last; span = span })))
-          parts first None span = member_alike S T on on' m R _ _ None None first.1 tt
-          parts first (Some e) span = member_alike S T on on' m R _ _ (Some (expr S on meant call here e.0)) (Some (expr T on' meant call' here e.0)) first.1 e.1
-
-  expr_shown : (x : Expr-F Factor Selector Args Elem Expr Simple Term Variable) (y : Expr-F ShownFactor ShownSelector ShownArgs ShownElem ShownExpr ShownSimple ShownTerm ShownVariable) → map-Expr ShownFactor ShownSelector ShownArgs ShownElem ShownExpr ShownSimple ShownTerm ShownVariable Factor Selector Args Elem Expr Simple Term Variable (λ e. e.0) (λ e. e.0) (λ e. e.0) (λ e. e.0) (λ e. e.0) (λ e. e.0) (λ e. e.0) (λ e. e.0) y ≡ x → ExprAlike (roll-Expr x)
-  expr_shown x y is = subst (λ (z : Expr-F Factor Selector Args Elem Expr Simple Term Variable). ExprAlike (roll-Expr z)) is (rolled (map-Expr ShownFactor ShownSelector ShownArgs ShownElem ShownExpr ShownSimple ShownTerm ShownVariable Factor Selector Args Elem Expr Simple Term Variable (λ e. e.0) (λ e. e.0) (λ e. e.0) (λ e. e.0) (λ e. e.0) (λ e. e.0) (λ e. e.0) (λ e. e.0) y) (go y))
-    where
-      rolled : (z : Expr-F Factor Selector Args Elem Expr Simple Term Variable) → OperandAlike S T on on' m R (expr_at S on meant call here z) (expr_at T on' meant call' here z) → ExprAlike (roll-Expr z)
-      rolled z h = subst (λ a. OperandAlike S T on on' m R a (expr T on' meant call' here (roll-Expr z))) (sym (expr_made S on meant call here z)) (subst (λ b. OperandAlike S T on on' m R (expr_at S on meant call here z) b) (sym (expr_made T on' meant call' here z)) h)
-
-      go : (z : Expr-F ShownFactor ShownSelector ShownArgs ShownElem ShownExpr ShownSimple ShownTerm ShownVariable) → OperandAlike S T on on' m R (expr_at S on meant call here (map-Expr ShownFactor ShownSelector ShownArgs ShownElem ShownExpr ShownSimple ShownTerm ShownVariable Factor Selector Args Elem Expr Simple Term Variable (λ e. e.0) (λ e. e.0) (λ e. e.0) (λ e. e.0) (λ e. e.0) (λ e. e.0) (λ e. e.0) (λ e. e.0) z)) (expr_at T on' meant call' here (map-Expr ShownFactor ShownSelector ShownArgs ShownElem ShownExpr ShownSimple ShownTerm ShownVariable Factor Selector Args Elem Expr Simple Term Variable (λ e. e.0) (λ e. e.0) (λ e. e.0) (λ e. e.0) (λ e. e.0) (λ e. e.0) (λ e. e.0) (λ e. e.0) z))
-      go z = parts z.left z.right z.span
-        where
-          parts : (left : ShownSimple) (right : Option (Relation × ShownSimple)) (span : Span) → OperandAlike S T on on' m R (expr_at S on meant call here (map-Expr ShownFactor ShownSelector ShownArgs ShownElem ShownExpr ShownSimple ShownTerm ShownVariable Factor Selector Args Elem Expr Simple Term Variable (λ e. e.0) (λ e. e.0) (λ e. e.0) (λ e. e.0) (λ e. e.0) (λ e. e.0) (λ e. e.0) (λ e. e.0) (record { left = left; right = right; span = span }))) (expr_at T on' meant call' here (map-Expr ShownFactor ShownSelector ShownArgs ShownElem ShownExpr ShownSimple ShownTerm ShownVariable Factor Selector Args Elem Expr Simple Term Variable (λ e. e.0) (λ e. e.0) (λ e. e.0) (λ e. e.0) (λ e. e.0) (λ e. e.0) (λ e. e.0) (λ e. e.0) (record { left = left; right = right; span = span })))
-          parts left None span = left.1
-          parts left (Some x) span = related_to_alike x.0 _ _ _ _ left.1 x.1.1
-
-  simple_shown : (x : Simple-F Factor Selector Args Elem Expr Simple Term Variable) (y : Simple-F ShownFactor ShownSelector ShownArgs ShownElem ShownExpr ShownSimple ShownTerm ShownVariable) → map-Simple ShownFactor ShownSelector ShownArgs ShownElem ShownExpr ShownSimple ShownTerm ShownVariable Factor Selector Args Elem Expr Simple Term Variable (λ e. e.0) (λ e. e.0) (λ e. e.0) (λ e. e.0) (λ e. e.0) (λ e. e.0) (λ e. e.0) (λ e. e.0) y ≡ x → SimpleAlike (roll-Simple x)
-  simple_shown x y is = subst (λ (z : Simple-F Factor Selector Args Elem Expr Simple Term Variable). SimpleAlike (roll-Simple z)) is (rolled (map-Simple ShownFactor ShownSelector ShownArgs ShownElem ShownExpr ShownSimple ShownTerm ShownVariable Factor Selector Args Elem Expr Simple Term Variable (λ e. e.0) (λ e. e.0) (λ e. e.0) (λ e. e.0) (λ e. e.0) (λ e. e.0) (λ e. e.0) (λ e. e.0) y) (go y))
-    where
-      rolled : (z : Simple-F Factor Selector Args Elem Expr Simple Term Variable) → OperandAlike S T on on' m R (simple_at S on meant call here z) (simple_at T on' meant call' here z) → SimpleAlike (roll-Simple z)
-      rolled z h = subst (λ a. OperandAlike S T on on' m R a (simple T on' meant call' here (roll-Simple z))) (sym (simple_made S on meant call here z)) (subst (λ b. OperandAlike S T on on' m R (simple_at S on meant call here z) b) (sym (simple_made T on' meant call' here z)) h)
-
-      go : (z : Simple-F ShownFactor ShownSelector ShownArgs ShownElem ShownExpr ShownSimple ShownTerm ShownVariable) → OperandAlike S T on on' m R (simple_at S on meant call here (map-Simple ShownFactor ShownSelector ShownArgs ShownElem ShownExpr ShownSimple ShownTerm ShownVariable Factor Selector Args Elem Expr Simple Term Variable (λ e. e.0) (λ e. e.0) (λ e. e.0) (λ e. e.0) (λ e. e.0) (λ e. e.0) (λ e. e.0) (λ e. e.0) z)) (simple_at T on' meant call' here (map-Simple ShownFactor ShownSelector ShownArgs ShownElem ShownExpr ShownSimple ShownTerm ShownVariable Factor Selector Args Elem Expr Simple Term Variable (λ e. e.0) (λ e. e.0) (λ e. e.0) (λ e. e.0) (λ e. e.0) (λ e. e.0) (λ e. e.0) (λ e. e.0) z))
-      go z = simple_of_alike _ _ _ _ (with_sign_alike z.sign _ _ z.first.1) (shown_terms z.others)
-
-  term_shown : (x : Term-F Factor Selector Args Elem Expr Simple Term Variable) (y : Term-F ShownFactor ShownSelector ShownArgs ShownElem ShownExpr ShownSimple ShownTerm ShownVariable) → map-Term ShownFactor ShownSelector ShownArgs ShownElem ShownExpr ShownSimple ShownTerm ShownVariable Factor Selector Args Elem Expr Simple Term Variable (λ e. e.0) (λ e. e.0) (λ e. e.0) (λ e. e.0) (λ e. e.0) (λ e. e.0) (λ e. e.0) (λ e. e.0) y ≡ x → TermAlike (roll-Term x)
-  term_shown x y is = subst (λ (z : Term-F Factor Selector Args Elem Expr Simple Term Variable). TermAlike (roll-Term z)) is (rolled (map-Term ShownFactor ShownSelector ShownArgs ShownElem ShownExpr ShownSimple ShownTerm ShownVariable Factor Selector Args Elem Expr Simple Term Variable (λ e. e.0) (λ e. e.0) (λ e. e.0) (λ e. e.0) (λ e. e.0) (λ e. e.0) (λ e. e.0) (λ e. e.0) y) (go y))
-    where
-      rolled : (z : Term-F Factor Selector Args Elem Expr Simple Term Variable) → OperandAlike S T on on' m R (term_at S on meant call here z) (term_at T on' meant call' here z) → TermAlike (roll-Term z)
-      rolled z h = subst (λ a. OperandAlike S T on on' m R a (term T on' meant call' here (roll-Term z))) (sym (term_made S on meant call here z)) (subst (λ b. OperandAlike S T on on' m R (term_at S on meant call here z) b) (sym (term_made T on' meant call' here z)) h)
-
-      go : (z : Term-F ShownFactor ShownSelector ShownArgs ShownElem ShownExpr ShownSimple ShownTerm ShownVariable) → OperandAlike S T on on' m R (term_at S on meant call here (map-Term ShownFactor ShownSelector ShownArgs ShownElem ShownExpr ShownSimple ShownTerm ShownVariable Factor Selector Args Elem Expr Simple Term Variable (λ e. e.0) (λ e. e.0) (λ e. e.0) (λ e. e.0) (λ e. e.0) (λ e. e.0) (λ e. e.0) (λ e. e.0) z)) (term_at T on' meant call' here (map-Term ShownFactor ShownSelector ShownArgs ShownElem ShownExpr ShownSimple ShownTerm ShownVariable Factor Selector Args Elem Expr Simple Term Variable (λ e. e.0) (λ e. e.0) (λ e. e.0) (λ e. e.0) (λ e. e.0) (λ e. e.0) (λ e. e.0) (λ e. e.0) z))
-      go z = term_of_alike _ _ _ _ z.first.1 (shown_factors z.others)
-
-  variable_shown : (x : Variable-F Factor Selector Args Elem Expr Simple Term Variable) (y : Variable-F ShownFactor ShownSelector ShownArgs ShownElem ShownExpr ShownSimple ShownTerm ShownVariable) → map-Variable ShownFactor ShownSelector ShownArgs ShownElem ShownExpr ShownSimple ShownTerm ShownVariable Factor Selector Args Elem Expr Simple Term Variable (λ e. e.0) (λ e. e.0) (λ e. e.0) (λ e. e.0) (λ e. e.0) (λ e. e.0) (λ e. e.0) (λ e. e.0) y ≡ x → VariableAlike (roll-Variable x)
-  variable_shown x y is = subst (λ (z : Variable-F Factor Selector Args Elem Expr Simple Term Variable). VariableAlike (roll-Variable z)) is (rolled (map-Variable ShownFactor ShownSelector ShownArgs ShownElem ShownExpr ShownSimple ShownTerm ShownVariable Factor Selector Args Elem Expr Simple Term Variable (λ e. e.0) (λ e. e.0) (λ e. e.0) (λ e. e.0) (λ e. e.0) (λ e. e.0) (λ e. e.0) (λ e. e.0) y) (go y))
-    where
-      rolled : (z : Variable-F Factor Selector Args Elem Expr Simple Term Variable) → WrittenAlike S T on on' m R (variable_at S on meant call here z) (variable_at T on' meant call' here z) → VariableAlike (roll-Variable z)
-      rolled z h = subst (λ a. WrittenAlike S T on on' m R a (variable T on' meant call' here (roll-Variable z))) (sym (variable_made S on meant call here z)) (subst (λ b. WrittenAlike S T on on' m R (variable_at S on meant call here z) b) (sym (variable_made T on' meant call' here z)) h)
-
-      go : (z : Variable-F ShownFactor ShownSelector ShownArgs ShownElem ShownExpr ShownSimple ShownTerm ShownVariable) → WrittenAlike S T on on' m R (variable_at S on meant call here (map-Variable ShownFactor ShownSelector ShownArgs ShownElem ShownExpr ShownSimple ShownTerm ShownVariable Factor Selector Args Elem Expr Simple Term Variable (λ e. e.0) (λ e. e.0) (λ e. e.0) (λ e. e.0) (λ e. e.0) (λ e. e.0) (λ e. e.0) (λ e. e.0) z)) (variable_at T on' meant call' here (map-Variable ShownFactor ShownSelector ShownArgs ShownElem ShownExpr ShownSimple ShownTerm ShownVariable Factor Selector Args Elem Expr Simple Term Variable (λ e. e.0) (λ e. e.0) (λ e. e.0) (λ e. e.0) (λ e. e.0) (λ e. e.0) (λ e. e.0) (λ e. e.0) z))
-      go z = record { name = refl; selectors = shown_selectors z.selectors }
+  nodes_alike : (k : Kind) (x : kind.Tree k) → NodeAlike k (kind.folded (Results S) (layers S on meant call here) k x) (kind.folded (Results T) (layers T on' meant call' here) k x)
+  nodes_alike = folds_related expressions (Results S) (Results T) (layers S on meant call here) (layers T on' meant call' here) NodeAlike keeps
 
   -- every form of expression does alike
-  pub factor_alike : (x : Factor) → FactorAlike x
-  factor_alike = ind-Factor FactorAlike SelectorAlike ArgsAlike ElemAlike ExprAlike SimpleAlike TermAlike VariableAlike factor_shown selector_shown args_shown elem_shown expr_shown simple_shown term_shown variable_shown
+  pub args_alike : (x : Args) → EachAlike (OperandAlike S T on on' m R) (args S on meant call here x) (args T on' meant call' here x)
+  unfolding factor selector args elem expr simple term variable
+  args_alike = nodes_alike kind.args
 
-  pub selector_alike : (x : Selector) → SelectorAlike x
-  selector_alike = ind-Selector FactorAlike SelectorAlike ArgsAlike ElemAlike ExprAlike SimpleAlike TermAlike VariableAlike factor_shown selector_shown args_shown elem_shown expr_shown simple_shown term_shown variable_shown
+  pub expr_alike : (x : Expr) → OperandAlike S T on on' m R (expr S on meant call here x) (expr T on' meant call' here x)
+  unfolding factor selector args elem expr simple term variable
+  expr_alike = nodes_alike kind.expr
 
-  pub args_alike : (x : Args) → ArgsAlike x
-  args_alike = ind-Args FactorAlike SelectorAlike ArgsAlike ElemAlike ExprAlike SimpleAlike TermAlike VariableAlike factor_shown selector_shown args_shown elem_shown expr_shown simple_shown term_shown variable_shown
-
-  pub elem_alike : (x : Elem) → ElemAlike x
-  elem_alike = ind-Elem FactorAlike SelectorAlike ArgsAlike ElemAlike ExprAlike SimpleAlike TermAlike VariableAlike factor_shown selector_shown args_shown elem_shown expr_shown simple_shown term_shown variable_shown
-
-  pub expr_alike : (x : Expr) → ExprAlike x
-  expr_alike = ind-Expr FactorAlike SelectorAlike ArgsAlike ElemAlike ExprAlike SimpleAlike TermAlike VariableAlike factor_shown selector_shown args_shown elem_shown expr_shown simple_shown term_shown variable_shown
-
-  pub variable_alike : (x : Variable) → VariableAlike x
-  variable_alike = ind-Variable FactorAlike SelectorAlike ArgsAlike ElemAlike ExprAlike SimpleAlike TermAlike VariableAlike factor_shown selector_shown args_shown elem_shown expr_shown simple_shown term_shown variable_shown
+  pub variable_alike : (x : Variable) → WrittenAlike S T on on' m R (variable S on meant call here x) (variable T on' meant call' here x)
+  unfolding factor selector args elem expr simple term variable
+  variable_alike = nodes_alike kind.variable

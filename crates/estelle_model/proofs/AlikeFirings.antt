@@ -8,7 +8,7 @@ use Rattle.estelle_model.specs.declared.job.Guard.{Guard}
 use Rattle.estelle_model.specs.declared.job.Guard.TheVariants.{Off, Faulted}
 use Rattle.estelle_tree.specs.Paths.{Path}
 use Rattle.estelle_model.specs.States.{Offers, IsFaithful, Logged, on_log}
-use Rattle.estelle_model.specs.Steps.{Outcome, pure, checked}
+use Rattle.estelle_model.specs.Steps.{StepResult, pure, checked}
 use Rattle.estelle_model.specs.Operators.{int_of}
 use Rattle.estelle_model.specs.Blocks.{fresh, block_step}
 use Rattle.estelle_model.specs.Actions.{act, enter_state}
@@ -65,7 +65,7 @@ module _ (S T : Type 0) (on : Offers S) (on' : Offers T) (f : IsFaithful S on) (
         (λ holds. cond holds (delay_step S on s p t vs timed t.delay) (pure Off)) (λ holds. cond holds (delay_step T on' s p t vs timed t.delay) (pure Off)) (provided_alike t.provided)
         (λ holds. if_alike S T R (Same {A = Guard}) holds (delay_step S on s p t vs timed t.delay) (pure Off) (delay_step T on' s p t vs timed t.delay) (pure Off) (delay_alike timed t.delay) (pure_alike S T R (Same {A = Guard}) Off Off refl))
 
-same_answer : (S T : Type 0) (R : S → T → Type 0) (o : Outcome S Guard) (o' : Outcome T Guard) → OutcomeAlike S T R (Same {A = Guard}) o o' → answered o ≡ answered o'
+same_answer : (S T : Type 0) (R : S → T → Type 0) (o : StepResult S Guard) (o' : StepResult T Guard) → OutcomeAlike S T R (Same {A = Guard}) o o' → answered o ≡ answered o'
 same_answer S T R (Ok r) (Ok q) h = h.0
 same_answer S T R (Err e) (Err x) h = ap (λ y. Faulted y.0) h
 same_answer S T R (Ok r) (Err x) h = absurd h

@@ -17,7 +17,7 @@ use Rattle.estelle_model.specs.States.{Offers}
 use Rattle.estelle_model.specs.Steps.{Running, checked, checked_at}
 use Rattle.estelle_model.specs.declared.place.Place.{Place}
 use Rattle.estelle_model.specs.declared.place.Place.TheVariants.{Of, In}
-use Rattle.estelle_model.specs.Places.{deeper, of_variables, known, held_in, module_variables_of, load, put, put_at, store, store_ordinal, child_step}
+use Rattle.estelle_model.specs.Places.{deeper, of_variables, known, held_in, module_variables_of, load, put, put_in_instance, store, store_ordinal, child_step}
 use Rattle.estelle_model.proofs.Alike.{Same, RunningAlike, OutcomeAlike, StepAlike, DoAlike, ValueAlike, then_same, checked_alike}
 
 -- the place is in a frame, or in an instance at or below m
@@ -58,9 +58,9 @@ module _ (S T : Type 0) (on : Offers S) (on' : Offers T) (m : Path) (R : S → T
   pub load_alike : (a b : Place) → PlaceAlike m a b → ValueAlike S T R (load S on a) (load T on' b)
   load_alike a b h = subst (λ (c : Place). ValueAlike S T R (load S on a) (load T on' c)) h.0 (load_same a h.1)
 
-  put_at_alike : (o : Option Instance) (p : Path) (x : ℕ) (way : List ℕ) (v : Value) → is_inside m p ≡ true → DoAlike S T R (put_at S on o p x way v) (put_at T on' o p x way v)
-  put_at_alike None p x way v h s t r = ap (λ n. (NoModule, n)) r.left
-  put_at_alike (Some i) p x way v h s t r = subst (λ (types : ℕ → List Denoter). OutcomeAlike S T R (Same {A = Unit {0}}) (put_at S on (Some i) p x way v s) (cond (may_store (types i.body) x way v) (Ok (tt, record t { state = on'.keeps p (Store x way v) t.state })) (Err (Unset, t.left)))) (show.types s.state t.state r.state) (by (may_store ((on.core s.state).types i.body) x way v))
+  put_in_instance_alike : (o : Option Instance) (p : Path) (x : ℕ) (way : List ℕ) (v : Value) → is_inside m p ≡ true → DoAlike S T R (put_in_instance S on o p x way v) (put_in_instance T on' o p x way v)
+  put_in_instance_alike None p x way v h s t r = ap (λ n. (NoModule, n)) r.left
+  put_in_instance_alike (Some i) p x way v h s t r = subst (λ (types : ℕ → List Denoter). OutcomeAlike S T R (Same {A = Unit {0}}) (put_in_instance S on (Some i) p x way v s) (cond (may_store (types i.body) x way v) (Ok (tt, record t { state = on'.keeps p (Store x way v) t.state })) (Err (Unset, t.left)))) (show.types s.state t.state r.state) (by (may_store ((on.core s.state).types i.body) x way v))
     where
       by : (b : Bool) → OutcomeAlike S T R (Same {A = Unit {0}}) (cond b (Ok (tt, record s { state = on.keeps p (Store x way v) s.state })) (Err (Unset, s.left))) (cond b (Ok (tt, record t { state = on'.keeps p (Store x way v) t.state })) (Err (Unset, t.left)))
       by true = (refl, record { state = show.stored s.state t.state r.state p x way v h; frames = r.frames; left = r.left })
@@ -68,7 +68,7 @@ module _ (S T : Type 0) (on : Offers S) (on' : Offers T) (m : Path) (R : S → T
 
   put_same : (a : Place) (v : Value) → IsWithin m a → DoAlike S T R (put S on a v) (put T on' a v)
   unfolding put
-  put_same (Of p x way) v h s t r = subst (λ (o : Option Instance). OutcomeAlike S T R (Same {A = Unit {0}}) (put_at S on (map.get (on.core s.state).instances p) p x way v s) (put_at T on' o p x way v t)) (show.instances s.state t.state r.state p h) (put_at_alike (map.get (on.core s.state).instances p) p x way v h s t r)
+  put_same (Of p x way) v h s t r = subst (λ (o : Option Instance). OutcomeAlike S T R (Same {A = Unit {0}}) (put_in_instance S on (map.get (on.core s.state).instances p) p x way v s) (put_in_instance T on' o p x way v t)) (show.instances s.state t.state r.state p h) (put_in_instance_alike (map.get (on.core s.state).instances p) p x way v h s t r)
   put_same (In f x way) v h s t r = (refl, record { state = r.state; frames = ap (λ fs. changed_at fs f (λ frame. with_part frame (x ∷ way) v)) r.frames; left = r.left })
 
   pub put_alike : (a b : Place) (v : Value) → PlaceAlike m a b → DoAlike S T R (put S on a v) (put T on' b v)

@@ -1,5 +1,5 @@
 -- Statements mean alike on two states that show the same.
-use Rattle.std.proofs.Common.{◌≡◌, ℕ, zero, suc, Bool, List, [], ◌∷◌, map, ℤ, Option, Some, None, refl, sym, subst, cond}
+use Rattle.std.proofs.Common.{◌≡◌, ℕ, zero, suc, Bool, List, [], ◌∷◌, ℤ, Option, Some, None, refl, subst, cond}
 use Rattle.pascal_values.specs.declared.fault.Fault.TheVariants as fault
 use Rattle.pascal_values.specs.declared.value.Value.{Value}
 use Rattle.pascal_values.specs.declared.value.Value.TheVariants as pascal
@@ -9,11 +9,12 @@ use Rattle.estelle_tree.specs.declared.tree.expression.Expr.{Expr}
 use Rattle.estelle_tree.specs.declared.tree.expression.Args.{Args}
 use Rattle.estelle_tree.specs.declared.tree.expression.Variable.{Variable}
 use Rattle.estelle_tree.specs.declared.tree.statement.Direction.{Direction}
-use Rattle.estelle_tree.specs.declared.tree.statement.Stmt.{Stmt, roll-Stmt, map-Stmt}
-use Rattle.estelle_tree.specs.declared.tree.statement.Case.{Case, roll-Case}
-use Rattle.estelle_tree.specs.declared.tree.statement.Stmts.{Stmts, roll-Stmts}
-use Rattle.estelle_tree.specs.declared.tree.statement.Stmt.TheOpen.{Stmt-F, Case-F, Stmts-F}
-use Rattle.estelle_tree.specs.declared.tree.statement.Stmt.TheFolds.{map-Case, map-Stmts, ind-Stmt, ind-Stmts}
+use Rattle.estelle_tree.specs.declared.tree.statement.Stmt.{Stmt}
+use Rattle.estelle_tree.specs.declared.tree.statement.Stmts.{Stmts}
+use Rattle.estelle_tree.specs.declared.tree.statement.Stmt.TheOpen.{Stmt-F}
+use Rattle.estelle_tree.proofs.Folds.{Pairs, KeepsAt, folds_related}
+use Rattle.estelle_tree.proofs.StatementFolds as kind
+use Rattle.estelle_tree.proofs.StatementFolds.{Kind, Layer, statements}
 use Rattle.estelle_model.specs.declared.denoter.Denoter.{Denoter}
 use Rattle.estelle_tree.specs.Paths.{Path}
 use Rattle.estelle_model.specs.States.{Offers}
@@ -29,11 +30,11 @@ use Rattle.estelle_model.specs.declared.place.ActualParameters.{ActualParameters
 use Rattle.estelle_model.specs.Expressions.{Call, Operand, Access, Selecting, ordinal_step, give_all, no_arguments, result_of, assigned, target, variable}
 use Rattle.estelle_model.specs.Loops.{while_turns, repeat_turns, while_loop, repeat_loop, next_of, turns_of, count_turns, count_loop}
 use Rattle.estelle_model.specs.Statements.{Action, Init, Release, Connect, Disconnect, Attach, Detach, Output, is_labelled, chosen, or_nothing, value_of_expr, arguments, assign_to, assign, invoke_of, invoke, choose, count_over, count, select, stmt, branch, stmts}
-use Rattle.estelle_model.proofs.Alike.{Same, EachAlike, MaybeAlike, OutcomeAlike, StepAlike, DoAlike, ValueAlike, then_alike, then_same, pure_alike, fail_alike, if_alike, all_alike, spend_alike}
+use Rattle.estelle_model.proofs.Alike.{Same, EachAlike, MaybeAlike, each_related, OutcomeAlike, StepAlike, DoAlike, ValueAlike, then_alike, then_same, pure_alike, fail_alike, if_alike, all_alike, spend_alike}
 use Rattle.estelle_model.proofs.AlikePlaces.{PlaceAlike, ShowAlike, put_alike, store_alike, store_ordinal_alike}
 use Rattle.estelle_model.proofs.AlikeOperands.{GivenAlike, IsHereWithin, OperandAlike, AccessAlike, SelectingAlike, CallAlike, bool_alike, ordinal_alike, give_all_alike}
 use Rattle.estelle_model.proofs.AlikeExpressions.{accessed_alike, expr_alike, args_alike, variable_alike}
-use Rattle.estelle_model.proofs.StatementEquations.{stmt_at, stmt_made, branch_at, branch_made, stmts_at, stmts_made}
+use Rattle.estelle_model.proofs.StatementEquations.{Results, layers}
 
 -- ---- loops
 
@@ -171,78 +172,37 @@ module _ (S T : Type 0) (on : Offers S) (on' : Offers T) (m : Path) (R : S → T
 
   -- ---- trees
 
-  abbrev pub StmtAlike : Stmt → Type 0
-  StmtAlike x = DoAlike S T R (stmt S on meant act call here x) (stmt T on' meant act' call' here x)
+  abbrev NodeAlike : (k : Kind) → Results S k → Results T k → Type 0
+  NodeAlike kind.stmt = DoAlike S T R
+  NodeAlike kind.branch = CaseAlike
+  NodeAlike kind.stmts = DoAlike S T R
 
-  abbrev pub BranchAlike : Case → Type 0
-  BranchAlike x = CaseAlike (branch S on meant act call here x) (branch T on' meant act' call' here x)
-
-  abbrev pub StmtsAlike : Stmts → Type 0
-  StmtsAlike x = DoAlike S T R (stmts S on meant act call here x) (stmts T on' meant act' call' here x)
-
-  abbrev ShownStmt : Type 0
-  ShownStmt = (x : Stmt) × StmtAlike x
-
-  abbrev ShownCase : Type 0
-  ShownCase = (x : Case) × BranchAlike x
-
-  abbrev ShownStmts : Type 0
-  ShownStmts = (x : Stmts) × StmtsAlike x
-
-  shown_stmts : (xs : List ShownStmt) → EachAlike (DoAlike S T R) (map (stmt S on meant act call here) (map (λ e. e.0) xs)) (map (stmt T on' meant act' call' here) (map (λ e. e.0) xs))
-  shown_stmts [] = tt
-  shown_stmts (x ∷ xs) = (x.1, shown_stmts xs)
-
-  shown_cases : (xs : List ShownCase) → EachAlike CaseAlike (map (branch S on meant act call here) (map (λ e. e.0) xs)) (map (branch T on' meant act' call' here) (map (λ e. e.0) xs))
-  shown_cases [] = tt
-  shown_cases (x ∷ xs) = (x.1, shown_cases xs)
-
-  stmt_shown : (x : Stmt-F Stmt Case Stmts) (y : Stmt-F ShownStmt ShownCase ShownStmts) → map-Stmt ShownStmt ShownCase ShownStmts Stmt Case Stmts (λ e. e.0) (λ e. e.0) (λ e. e.0) y ≡ x → StmtAlike (roll-Stmt x)
-  stmt_shown x y is = subst (λ (z : Stmt-F Stmt Case Stmts). StmtAlike (roll-Stmt z)) is (rolled (map-Stmt ShownStmt ShownCase ShownStmts Stmt Case Stmts (λ e. e.0) (λ e. e.0) (λ e. e.0) y) (go y))
-    where
-      rolled : (z : Stmt-F Stmt Case Stmts) → DoAlike S T R (stmt_at S on meant act call here z) (stmt_at T on' meant act' call' here z) → StmtAlike (roll-Stmt z)
-      rolled z h = subst (λ a. DoAlike S T R a (stmt T on' meant act' call' here (roll-Stmt z))) (sym (stmt_made S on meant act call here z)) (subst (λ b. DoAlike S T R (stmt_at S on meant act call here z) b) (sym (stmt_made T on' meant act' call' here z)) h)
-
-      go : (z : Stmt-F ShownStmt ShownCase ShownStmts) → DoAlike S T R (stmt_at S on meant act call here (map-Stmt ShownStmt ShownCase ShownStmts Stmt Case Stmts (λ e. e.0) (λ e. e.0) (λ e. e.0) z)) (stmt_at T on' meant act' call' here (map-Stmt ShownStmt ShownCase ShownStmts Stmt Case Stmts (λ e. e.0) (λ e. e.0) (λ e. e.0) z))
-      go Stmt-F.Empty = pure_alike S T R (Same {A = Unit {0}}) tt tt refl
-      go (Stmt-F.Assign v e span) = assign_alike v e
-      go (Stmt-F.Call x es span) = invoke_alike x es
-      go (Stmt-F.Begin body span) = body.1
-      go (Stmt-F.If test then_part None span) = choose_alike test _ _ None None then_part.1 tt
-      go (Stmt-F.If test then_part (Some p) span) = choose_alike test _ _ (Some (stmt S on meant act call here p.0)) (Some (stmt T on' meant act' call' here p.0)) then_part.1 p.1
-      go (Stmt-F.While test body span) = while_alike S T R _ _ _ _ (bool_alike S T on on' m R _ _ (value_alike test)) body.1
-      go (Stmt-F.Repeat body test span) = repeat_alike S T R _ _ _ _ body.1 (bool_alike S T on on' m R _ _ (value_alike test))
-      go (Stmt-F.Count x first dir last body span) = for_alike x first dir last _ _ body.1
-      go (Stmt-F.Case e cases semicolon span) = select_alike e _ _ (shown_cases cases)
-      go (Stmt-F.Init x b es span) = acts here within _ _ (refl, refl, arguments_alike es)
-      go (Stmt-F.Release x span) = acts here within (Release x) (Release x) refl
-      go (Stmt-F.Connect p q span) = acts here within (Connect p q) (Connect p q) (refl, refl)
-      go (Stmt-F.Disconnect p span) = acts here within (Disconnect p) (Disconnect p) refl
-      go (Stmt-F.Attach p x q span) = acts here within (Attach p x q) (Attach p x q) (refl, refl, refl)
-      go (Stmt-F.Detach p span) = acts here within (Detach p) (Detach p) refl
-      go (Stmt-F.Output p n es span) = acts here within _ _ (refl, refl, arguments_alike es)
-
-  branch_shown : (x : Case-F Stmt Case Stmts) (y : Case-F ShownStmt ShownCase ShownStmts) → map-Case ShownStmt ShownCase ShownStmts Stmt Case Stmts (λ e. e.0) (λ e. e.0) (λ e. e.0) y ≡ x → BranchAlike (roll-Case x)
-  branch_shown x y is = subst (λ (z : Case-F Stmt Case Stmts). BranchAlike (roll-Case z)) is (rolled (map-Case ShownStmt ShownCase ShownStmts Stmt Case Stmts (λ e. e.0) (λ e. e.0) (λ e. e.0) y) (go y))
-    where
-      rolled : (z : Case-F Stmt Case Stmts) → CaseAlike (branch_at S on meant act call here z) (branch_at T on' meant act' call' here z) → BranchAlike (roll-Case z)
-      rolled z h = subst (λ a. CaseAlike a (branch T on' meant act' call' here (roll-Case z))) (sym (branch_made S on meant act call here z)) (subst (λ b. CaseAlike (branch_at S on meant act call here z) b) (sym (branch_made T on' meant act' call' here z)) h)
-
-      go : (z : Case-F ShownStmt ShownCase ShownStmts) → CaseAlike (branch_at S on meant act call here (map-Case ShownStmt ShownCase ShownStmts Stmt Case Stmts (λ e. e.0) (λ e. e.0) (λ e. e.0) z)) (branch_at T on' meant act' call' here (map-Case ShownStmt ShownCase ShownStmts Stmt Case Stmts (λ e. e.0) (λ e. e.0) (λ e. e.0) z))
-      go z = (refl, z.body.1)
-
-  stmts_shown : (x : Stmts-F Stmt Case Stmts) (y : Stmts-F ShownStmt ShownCase ShownStmts) → map-Stmts ShownStmt ShownCase ShownStmts Stmt Case Stmts (λ e. e.0) (λ e. e.0) (λ e. e.0) y ≡ x → StmtsAlike (roll-Stmts x)
-  stmts_shown x y is = subst (λ (z : Stmts-F Stmt Case Stmts). StmtsAlike (roll-Stmts z)) is (rolled (map-Stmts ShownStmt ShownCase ShownStmts Stmt Case Stmts (λ e. e.0) (λ e. e.0) (λ e. e.0) y) (go y))
-    where
-      rolled : (z : Stmts-F Stmt Case Stmts) → DoAlike S T R (stmts_at S on meant act call here z) (stmts_at T on' meant act' call' here z) → StmtsAlike (roll-Stmts z)
-      rolled z h = subst (λ a. DoAlike S T R a (stmts T on' meant act' call' here (roll-Stmts z))) (sym (stmts_made S on meant act call here z)) (subst (λ b. DoAlike S T R (stmts_at S on meant act call here z) b) (sym (stmts_made T on' meant act' call' here z)) h)
-
-      go : (z : Stmts-F ShownStmt ShownCase ShownStmts) → DoAlike S T R (stmts_at S on meant act call here (map-Stmts ShownStmt ShownCase ShownStmts Stmt Case Stmts (λ e. e.0) (λ e. e.0) (λ e. e.0) z)) (stmts_at T on' meant act' call' here (map-Stmts ShownStmt ShownCase ShownStmts Stmt Case Stmts (λ e. e.0) (λ e. e.0) (λ e. e.0) z))
-      go z = all_alike S T R _ _ (shown_stmts z.stmts)
+  keeps : (k : Kind) (l : Layer k (Pairs statements (Results S) (Results T) (layers S on meant act call here) (layers T on' meant act' call' here) NodeAlike)) → KeepsAt statements (Results S) (Results T) (layers S on meant act call here) (layers T on' meant act' call' here) NodeAlike k l
+  keeps kind.stmt Stmt-F.Empty = pure_alike S T R (Same {A = Unit {0}}) tt tt refl
+  keeps kind.stmt (Stmt-F.Assign v e span) = assign_alike v e
+  keeps kind.stmt (Stmt-F.Call x es span) = invoke_alike x es
+  keeps kind.stmt (Stmt-F.Begin body span) = body.holds
+  keeps kind.stmt (Stmt-F.If test then_part None span) = choose_alike test _ _ None None then_part.holds tt
+  keeps kind.stmt (Stmt-F.If test then_part (Some p) span) = choose_alike test _ _ (Some p.left) (Some p.right) then_part.holds p.holds
+  keeps kind.stmt (Stmt-F.While test body span) = while_alike S T R _ _ _ _ (bool_alike S T on on' m R _ _ (value_alike test)) body.holds
+  keeps kind.stmt (Stmt-F.Repeat body test span) = repeat_alike S T R _ _ _ _ body.holds (bool_alike S T on on' m R _ _ (value_alike test))
+  keeps kind.stmt (Stmt-F.Count x first dir last body span) = for_alike x first dir last _ _ body.holds
+  keeps kind.stmt (Stmt-F.Case e cases semicolon span) = select_alike e _ _ (each_related CaseAlike cases)
+  keeps kind.stmt (Stmt-F.Init x b es span) = acts here within _ _ (refl, refl, arguments_alike es)
+  keeps kind.stmt (Stmt-F.Release x span) = acts here within (Release x) (Release x) refl
+  keeps kind.stmt (Stmt-F.Connect p q span) = acts here within (Connect p q) (Connect p q) (refl, refl)
+  keeps kind.stmt (Stmt-F.Disconnect p span) = acts here within (Disconnect p) (Disconnect p) refl
+  keeps kind.stmt (Stmt-F.Attach p x q span) = acts here within (Attach p x q) (Attach p x q) (refl, refl, refl)
+  keeps kind.stmt (Stmt-F.Detach p span) = acts here within (Detach p) (Detach p) refl
+  keeps kind.stmt (Stmt-F.Output p n es span) = acts here within _ _ (refl, refl, arguments_alike es)
+  keeps kind.branch l = (refl, l.body.holds)
+  keeps kind.stmts l = all_alike S T R _ _ (each_related (DoAlike S T R) l.stmts)
 
   -- every form of statement does alike
-  pub stmt_alike : (x : Stmt) → StmtAlike x
-  stmt_alike = ind-Stmt StmtAlike BranchAlike StmtsAlike stmt_shown branch_shown stmts_shown
+  pub stmt_alike : (x : Stmt) → DoAlike S T R (stmt S on meant act call here x) (stmt T on' meant act' call' here x)
+  unfolding stmt branch stmts
+  stmt_alike = folds_related statements (Results S) (Results T) (layers S on meant act call here) (layers T on' meant act' call' here) NodeAlike keeps kind.stmt
 
-  pub stmts_alike : (x : Stmts) → StmtsAlike x
-  stmts_alike = ind-Stmts StmtAlike BranchAlike StmtsAlike stmt_shown branch_shown stmts_shown
+  pub stmts_alike : (x : Stmts) → DoAlike S T R (stmts S on meant act call here x) (stmts T on' meant act' call' here x)
+  unfolding stmt branch stmts
+  stmts_alike = folds_related statements (Results S) (Results T) (layers S on meant act call here) (layers T on' meant act' call' here) NodeAlike keeps kind.stmts

@@ -10,11 +10,33 @@ use Rattle.estelle_tree.specs.declared.tree.expression.Term.{Term, out-Term, rol
 use Rattle.estelle_tree.specs.declared.tree.expression.Variable.{Variable, out-Variable, roll-Variable}
 use Rattle.estelle_tree.specs.declared.tree.expression.Factor.TheOpen.{Factor-F, Selector-F, Args-F, Elem-F, Expr-F, Simple-F, Term-F, Variable-F}
 use Rattle.estelle_tree.specs.declared.tree.expression.Factor.TheFolds.{map-Selector, map-Args, map-Elem, map-Expr, map-Simple, map-Term, map-Variable, fold_out-Selector, fold_out-Args, fold_out-Elem, fold_out-Expr, fold_out-Simple, fold_out-Term, fold_out-Variable, fold-roll-Selector, fold-roll-Args, fold-roll-Elem, fold-roll-Expr, fold-roll-Simple, fold-roll-Term, fold-roll-Variable}
+use Rattle.estelle_tree.proofs.ExpressionFolds as kind
+use Rattle.estelle_tree.proofs.ExpressionFolds.{Kind, Layer}
 use Rattle.estelle_model.specs.States.{Offers}
 use Rattle.estelle_model.specs.Steps.{Step}
 use Rattle.estelle_model.specs.Meant.{Meanings}
 use Rattle.estelle_model.specs.declared.place.Environment.{Environment}
 use Rattle.estelle_model.specs.Expressions.{Call, Operand, Selecting, Written, factor_layer, selector_layer, args_layer, elem_layer, expr_layer, simple_layer, term_layer, variable_layer, factor, selector, args, elem, expr, simple, term, variable}
+
+module _ (S : Type 0) where
+  -- what each type of node comes to
+  abbrev pub Results : Kind → Type 0
+  Results kind.selector = Selecting S
+  Results kind.args = List (Operand S)
+  Results kind.elem = Step S (List ℕ)
+  Results kind.variable = Written S
+  Results _ = Operand S
+
+module _ (S : Type 0) (on : Offers S) (meant : Meanings) (call : Call S) (here : Environment) where
+  abbrev pub layers : (k : Kind) → Layer k (Results S) → Results S k
+  layers kind.factor = factor_layer S on meant call here
+  layers kind.selector = selector_layer S on meant call here
+  layers kind.args = args_layer S on meant call here
+  layers kind.elem = elem_layer S on meant call here
+  layers kind.expr = expr_layer S on meant call here
+  layers kind.simple = simple_layer S on meant call here
+  layers kind.term = term_layer S on meant call here
+  layers kind.variable = variable_layer S on meant call here
 
 module _ (S : Type 0) (on : Offers S) (meant : Meanings) (call : Call S) (here : Environment) where
   -- one layer

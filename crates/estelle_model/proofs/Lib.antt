@@ -10,15 +10,20 @@ pub mod AlikeStatements
 pub mod AlikeCalls
 pub mod AlikeActions
 pub mod AlikeFirings
--- ---- maps of instances, pairs, and private parts
+-- ---- maps of instances, pairs, private parts, and the body of the specification
 pub mod Members
 pub mod Maps
 pub mod Pairs
 pub mod PrivateParts
+pub mod RootBodies
+-- ---- a property of steps that every expression and statement has
+pub mod Kept
+pub mod KeptExpressions
+pub mod KeptStatements
+pub mod KeptActions
 -- ---- loops, units and frames
 pub mod LoopLaws
 pub mod Units
-pub mod UnitsOfExpressions
 pub mod UnitsOfBlocks
 pub mod UnitsOfActions
 pub mod FrameLemmas

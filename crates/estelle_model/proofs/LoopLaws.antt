@@ -2,11 +2,11 @@
 use Rattle.std.proofs.Common.{◌≡◌, ℕ, zero, suc, ◌-◌, ◌≤◌, Bool, true, false, Ok, Err, refl, sym, ap, ◌∙◌, arith, cond}
 use Rattle.std.specs.Prelude.{nat_lt}
 use Rattle.pascal_values.specs.declared.fault.Fault.TheVariants.{StepLimit}
-use Rattle.estelle_model.specs.Steps.{Running, Outcome, Step, Do, and_then, ◌>>=◌, ◌>>◌, pure, fail, spend}
+use Rattle.estelle_model.specs.Steps.{Running, StepResult, Step, Do, and_then, ◌>>=◌, ◌>>◌, pure, fail, spend}
 use Rattle.estelle_model.specs.Loops.{while_turns, repeat_turns, while_loop, repeat_loop}
 
 -- no more than so many units are left
-abbrev pub AtMost : {S A : Type 0} → ℕ → Outcome S A → Type 0
+abbrev pub AtMost : {S A : Type 0} → ℕ → StepResult S A → Type 0
 AtMost n (Ok r) = r.1.left ≤ n
 AtMost n (Err e) = Unit {0}
 
@@ -31,15 +31,15 @@ unfolding spend
 spend_none s h = grind (arith)
 
 module _ (S A : Type 0) where
-  and_then_agree : (n : ℕ) (o : Outcome S A) (p q : Do S) → AtMost n o → AgreeUpTo n p q → and_then o (λ _. p) ≡ and_then o (λ _. q)
+  and_then_agree : (n : ℕ) (o : StepResult S A) (p q : Do S) → AtMost n o → AgreeUpTo n p q → and_then o (λ _. p) ≡ and_then o (λ _. q)
   and_then_agree n (Ok r) p q h agree = agree r.1 h
   and_then_agree n (Err e) p q h agree = refl
 
   -- a step that never raises, and then two steps that agree
-  then_agree : (n : ℕ) (o : Outcome S A) (body p q : Do S) → NeverRaises body → AtMost n o → AgreeUpTo n p q → and_then (and_then o (λ _. body)) (λ _. p) ≡ and_then (and_then o (λ _. body)) (λ _. q)
+  then_agree : (n : ℕ) (o : StepResult S A) (body p q : Do S) → NeverRaises body → AtMost n o → AgreeUpTo n p q → and_then (and_then o (λ _. body)) (λ _. p) ≡ and_then (and_then o (λ _. body)) (λ _. q)
   then_agree n (Ok r) body p q b h agree = go (body r.1) (b r.1)
     where
-      go : (o : Outcome S (Unit {0})) → AtMost r.1.left o → and_then o (λ _. p) ≡ and_then o (λ _. q)
+      go : (o : StepResult S (Unit {0})) → AtMost r.1.left o → and_then o (λ _. p) ≡ and_then o (λ _. q)
       go (Ok x) k = agree x.1 (omega (arith, k, h))
       go (Err e) k = refl
   then_agree n (Err e) body p q b h agree = refl
@@ -54,7 +54,7 @@ module _ (S : Type 0) (test : Step S Bool) (body : Do S) (never : NeverRaises te
   turns_agree : (n : ℕ) (p q : Do S) → AgreeUpTo n p q → AgreeUpTo (suc n) (turn_and p) (turn_and q)
   turns_agree n p q agree s h = go (test s) (never s)
     where
-      go : (o : Outcome S Bool) → AtMost s.left o → and_then o (λ again. cond again (spend >> body >> p) (pure tt)) ≡ and_then o (λ again. cond again (spend >> body >> q) (pure tt))
+      go : (o : StepResult S Bool) → AtMost s.left o → and_then o (λ again. cond again (spend >> body >> p) (pure tt)) ≡ and_then o (λ again. cond again (spend >> body >> q) (pure tt))
       go (Err e) k = refl
       go (Ok r) k = by r.0
         where
@@ -66,7 +66,7 @@ module _ (S : Type 0) (test : Step S Bool) (body : Do S) (never : NeverRaises te
   no_turns : (rest : Do S) → AgreeUpTo 0 (while_turns zero test body) (turn_and rest)
   no_turns rest s h = go (test s) (never s)
     where
-      go : (o : Outcome S Bool) → AtMost s.left o → and_then o (λ again. cond again (fail StepLimit) (pure tt)) ≡ and_then o (λ again. cond again (spend >> body >> rest) (pure tt))
+      go : (o : StepResult S Bool) → AtMost s.left o → and_then o (λ again. cond again (fail StepLimit) (pure tt)) ≡ and_then o (λ again. cond again (spend >> body >> rest) (pure tt))
       go (Err e) k = refl
       go (Ok r) k = by r.0
         where
@@ -97,7 +97,7 @@ module _ (S : Type 0) (body : Do S) (test : Step S Bool) (never : NeverRaises bo
   rounds_agree : (n : ℕ) (p q : Do S) → AgreeUpTo n p q → AgreeUpTo (suc n) (round_and p) (round_and q)
   rounds_agree n p q agree s h = first (spend s) (spend_lowers s n h)
     where
-      last : (k : ℕ) (o : Outcome S Bool) → AtMost k o → k ≤ n → and_then o (λ done. cond done (pure tt) p) ≡ and_then o (λ done. cond done (pure tt) q)
+      last : (k : ℕ) (o : StepResult S Bool) → AtMost k o → k ≤ n → and_then o (λ done. cond done (pure tt) p) ≡ and_then o (λ done. cond done (pure tt) q)
       last k (Err e) i j = refl
       last k (Ok r) i j = by r.0
         where
@@ -105,11 +105,11 @@ module _ (S : Type 0) (body : Do S) (test : Step S Bool) (never : NeverRaises bo
           by true = refl
           by false = agree r.1 (omega (arith, i, j))
 
-      then_test : (k : ℕ) (o : Outcome S (Unit {0})) → AtMost k o → k ≤ n → and_then (and_then o (λ _. test)) (λ done. cond done (pure tt) p) ≡ and_then (and_then o (λ _. test)) (λ done. cond done (pure tt) q)
+      then_test : (k : ℕ) (o : StepResult S (Unit {0})) → AtMost k o → k ≤ n → and_then (and_then o (λ _. test)) (λ done. cond done (pure tt) p) ≡ and_then (and_then o (λ _. test)) (λ done. cond done (pure tt) q)
       then_test k (Err e) i j = refl
       then_test k (Ok r) i j = last r.1.left (test r.1) (nor r.1) (omega (arith, i, j))
 
-      first : (o : Outcome S (Unit {0})) → AtMost n o → and_then (and_then (and_then o (λ _. body)) (λ _. test)) (λ done. cond done (pure tt) p) ≡ and_then (and_then (and_then o (λ _. body)) (λ _. test)) (λ done. cond done (pure tt) q)
+      first : (o : StepResult S (Unit {0})) → AtMost n o → and_then (and_then (and_then o (λ _. body)) (λ _. test)) (λ done. cond done (pure tt) p) ≡ and_then (and_then (and_then o (λ _. body)) (λ _. test)) (λ done. cond done (pure tt) q)
       first (Err e) i = refl
       first (Ok r) i = then_test r.1.left (body r.1) (never r.1) i
 

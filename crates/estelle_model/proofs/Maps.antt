@@ -1,6 +1,7 @@
 -- Maps of instances by what is found in them: changes, entries put one after another, and what all records of a list tell.
-use Rattle.std.proofs.Common.{◌≡◌, Bool, true, false, List, [], ◌∷◌, map as each, Option, Some, None, refl, sym, ap, subst, cond, ◌∙◌}
+use Rattle.std.proofs.Common.{◌≡◌, Bool, true, false, List, [], ◌∷◌, map as each, Some, None, refl, sym, ap, subst, cond, ◌∙◌}
 use Rattle.std.specs.Prelude.{◌&&◌, fold, option_map, T}
+use Rattle.std.specs.Option.{option_or}
 use Rattle.std.specs.FinMap as map
 use Rattle.std.specs.FinMap.{find, is_sorted, nat_cmp-IsAntisymmetric, slice_cmp-IsAntisymmetric, IsAntisymmetric}
 use Rattle.std.specs.Cmp.{IsTotalOrder}
@@ -17,10 +18,6 @@ total = nat_list_cmp_total
 
 pub apart : IsAntisymmetric path_cmp
 apart = slice_cmp-IsAntisymmetric nat_cmp-IsAntisymmetric
-
-abbrev pub or_else : {A : Type 0} → Option A → Option A → Option A
-or_else None o = o
-or_else (Some a) o = Some a
 
 pub left_of : (a b : Bool) → T (a && b) → T a
 left_of true b h = tt
@@ -49,14 +46,14 @@ abbrev inserted : Instances → List (Path × Instance) → Instances
 inserted m es = fold insert_part m (each part_of_entry es)
 
 -- what is found, where entries are put one after another
-pub get_inserted : (m : Instances) (es : List (Path × Instance)) → T (is_sorted path_cmp es) → (q : Path) → map.get (inserted m es) q ≡ or_else (find path_cmp q es) (map.get m q)
+pub get_inserted : (m : Instances) (es : List (Path × Instance)) → T (is_sorted path_cmp es) → (q : Path) → map.get (inserted m es) q ≡ option_or (find path_cmp q es) (map.get m q)
 get_inserted m [] h q = refl
 get_inserted m (e ∷ es) h q =
-    get_inserted (map.insert m e.0 e.1) es (right_of (map.Entries.below_all path_cmp e.0 es) _ h) q ∙ ap (or_else (find path_cmp q es)) (map.get-insert total m e.0 e.1 q)
+    get_inserted (map.insert m e.0 e.1) es (right_of (map.Entries.below_all path_cmp e.0 es) _ h) q ∙ ap (option_or (find path_cmp q es)) (map.get-insert total m e.0 e.1 q)
     ∙ by (eq_by_cmp path_cmp q e.0) refl
   where
-    by : (b : Bool) → eq_by_cmp path_cmp q e.0 ≡ b → or_else (find path_cmp q es) (cond b (Some e.1) (map.get m q)) ≡ or_else (cond b (Some e.1) (find path_cmp q es)) (map.get m q)
-    by true k = ap (λ o. or_else o (Some e.1)) (ap (λ p. find path_cmp p es) (apart q e.0 (equal_of _ k)) ∙ below_none e.0 es (left_of _ _ h))
+    by : (b : Bool) → eq_by_cmp path_cmp q e.0 ≡ b → option_or (find path_cmp q es) (cond b (Some e.1) (map.get m q)) ≡ option_or (cond b (Some e.1) (find path_cmp q es)) (map.get m q)
+    by true k = ap (λ o. option_or o (Some e.1)) (ap (λ p. find path_cmp p es) (apart q e.0 (equal_of _ k)) ∙ below_none e.0 es (left_of _ _ h))
     by false k = refl
 
 -- ---- what all records tell

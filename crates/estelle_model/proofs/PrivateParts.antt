@@ -18,7 +18,8 @@ use Rattle.estelle_model.specs.InteractionPoints.{point_of, internal_at}
 use Rattle.estelle_model.specs.Jobs.{part_of_entry, insert_part, is_internal, is_below_or_own, is_private, private, Shows, outline_of_parts}
 use Rattle.estelle_model.specs.Computed.{core_of}
 use Rattle.estelle_model.proofs.Pairs.{pairs_total}
-use Rattle.estelle_model.proofs.Maps.{total, apart, equal_of, or_else, get_inserted, told}
+use Rattle.estelle_model.proofs.Maps.{total, apart, equal_of, get_inserted, told}
+use Rattle.std.specs.Option.{option_or}
 
 -- ---- paths
 
@@ -51,7 +52,7 @@ get_changed p f x q = by (map.get x p) refl
 
 -- ---- what an image shows
 
-pub none_else : {A : Type 0} (o : Option A) → or_else o None ≡ o
+pub none_else : {A : Type 0} (o : Option A) → option_or o None ≡ o
 none_else None = refl
 none_else (Some a) = refl
 
@@ -67,7 +68,7 @@ pub core_private : (s : Subject) (c : Core) (m : Path) (image : Image) → Shows
 core_private s c m image shows =
     let x : Instances = map.retain_keys c.instances (is_inside m) in
     ap (λ (ps : List Part). fold insert_part map.empty ps) shows.parts
-    ∙ map.same_map total apart _ _ (λ q. get_inserted map.empty (map.entries x) (map.entries_sorted x) q ∙ (λ i. or_else (sym (map.get-entries x q) i) (map.get-empty path_cmp q i)) ∙ none_else (map.get x q))
+    ∙ map.same_map total apart _ _ (λ q. get_inserted map.empty (map.entries x) (map.entries_sorted x) q ∙ (λ i. option_or (sym (map.get-entries x q) i) (map.get-empty path_cmp q i)) ∙ none_else (map.get x q))
 
 -- ---- links
 

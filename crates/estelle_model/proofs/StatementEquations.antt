@@ -6,12 +6,27 @@ use Rattle.estelle_tree.specs.declared.tree.statement.Case.{Case, out-Case, roll
 use Rattle.estelle_tree.specs.declared.tree.statement.Stmts.{Stmts, out-Stmts, roll-Stmts}
 use Rattle.estelle_tree.specs.declared.tree.statement.Stmt.TheOpen.{Stmt-F, Case-F, Stmts-F}
 use Rattle.estelle_tree.specs.declared.tree.statement.Stmt.TheFolds.{map-Case, map-Stmts, fold_out-Case, fold_out-Stmts, fold-roll-Case, fold-roll-Stmts}
+use Rattle.estelle_tree.proofs.StatementFolds as kind
+use Rattle.estelle_tree.proofs.StatementFolds.{Kind, Layer}
 use Rattle.estelle_model.specs.States.{Offers}
 use Rattle.estelle_model.specs.Steps.{Do}
 use Rattle.estelle_model.specs.Meant.{Meanings}
 use Rattle.estelle_model.specs.declared.place.Environment.{Environment}
 use Rattle.estelle_model.specs.Expressions.{Call}
 use Rattle.estelle_model.specs.Statements.{Action, stmt_layer, case_layer, stmts_layer, stmt, branch, stmts}
+
+module _ (S : Type 0) where
+  -- what each type of node comes to
+  abbrev pub Results : Kind → Type 0
+  Results kind.stmt = Do S
+  Results kind.branch = List Const × Do S
+  Results kind.stmts = Do S
+
+module _ (S : Type 0) (on : Offers S) (meant : Meanings) (act : Environment → Action S → Do S) (call : Call S) (here : Environment) where
+  abbrev pub layers : (k : Kind) → Layer k (Results S) → Results S k
+  layers kind.stmt = stmt_layer S on meant act call here
+  layers kind.branch = case_layer S on meant act call here
+  layers kind.stmts = stmts_layer S on meant act call here
 
 module _ (S : Type 0) (on : Offers S) (meant : Meanings) (act : Environment → Action S → Do S) (call : Call S) (here : Environment) where
   -- one layer

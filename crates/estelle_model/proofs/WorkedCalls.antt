@@ -9,7 +9,7 @@ use Rattle.estelle_tree.specs.declared.tree.statement.Stmt.{Stmt}
 use Rattle.estelle_model.specs.declared.denoter.Denoter.TheVariants.{outs-Array as outs-ArrayType}
 use Rattle.estelle_tree.specs.Paths.{Path}
 use Rattle.estelle_model.specs.States.{Offers}
-use Rattle.estelle_model.specs.Steps.{Running, Outcome, Do, and_then, pure, fail, spend}
+use Rattle.estelle_model.specs.Steps.{Running, StepResult, Do, and_then, pure, fail, spend}
 use Rattle.estelle_model.specs.declared.meaning.Passing.TheVariants.{ByPlace}
 use Rattle.estelle_model.specs.declared.meaning.Routine.{Routine}
 use Rattle.estelle_model.specs.declared.meaning.Meaning.TheVariants.{Local, Var, Called}
@@ -65,7 +65,7 @@ module _ (S : Type 0) (on : Offers S) (act : Enters S → Environment → Action
   running vs n = record { state = st; frames = pascal.Fields vs ∷ []; left = n }
 
   -- what a statement of a block does
-  abbrev pub does : Meanings → Stmt → List Value → ℕ → Outcome S (Unit {0})
+  abbrev pub does : Meanings → Stmt → List Value → ℕ → StepResult S (Unit {0})
   does meant p vs n = run S on meant (act (nested S on meant act max_depth)) (call_by (nested S on meant act max_depth) path) (record { path = path; frame = 0; references = [] }) p (running vs n)
 
   abbrev pub aliasing : Meanings
@@ -86,7 +86,7 @@ module _ (S : Type 0) (on : Offers S) (act : Enters S → Environment → Action
   fixed_at_call v w = simp (call_at, alone_is, access_is, index_at, sequence_at, assignment_at, number_at, outs-Int, outs-Fields, outs-Array, outs-ArrayType, shape_ordinal, within_int)
 
   -- what an expression of a block comes to
-  abbrev pub comes_to : Meanings → Expr → ℕ → Outcome S Value
+  abbrev pub comes_to : Meanings → Expr → ℕ → StepResult S Value
   comes_to meant e n = (mean S on meant (call_by (nested S on meant act max_depth) path) (record { path = path; frame = 0; references = [] }) e).value (running [] n)
 
   -- a function that did not assign its result

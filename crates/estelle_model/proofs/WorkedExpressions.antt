@@ -14,7 +14,7 @@ use Rattle.estelle_tree.specs.declared.tree.expression.Factor.{Factor}
 use Rattle.estelle_model.specs.declared.denoter.Host.TheVariants as host
 use Rattle.estelle_model.specs.Operators.{plus, divided, modulo, signed}
 use Rattle.estelle_model.specs.States.{Offers}
-use Rattle.estelle_model.specs.Steps.{Running, Outcome, Step, ◌>>=◌, pure, checked}
+use Rattle.estelle_model.specs.Steps.{Running, StepResult, Step, ◌>>=◌, pure, checked}
 use Rattle.estelle_model.specs.declared.meaning.Meaning.{Meaning}
 use Rattle.estelle_model.specs.declared.meaning.Meaning.TheVariants.{Constant}
 use Rattle.estelle_model.specs.Meant.{Meanings}
@@ -25,7 +25,7 @@ use Rattle.estelle_model.proofs.Forms.{mean, mean_factor, number_is, parenthesis
 
 module _ (S : Type 0) (on : Offers S) (meant : Meanings) (call : Call S) (here : Environment) (s : Running S) where
   -- what an expression comes to
-  abbrev pub value : Expr → Outcome S Value
+  abbrev pub value : Expr → StepResult S Value
   value e = (mean S on meant call here e).value s
 
   abbrev int : ℤ → Step S Value

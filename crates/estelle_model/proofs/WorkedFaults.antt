@@ -12,11 +12,11 @@ use Rattle.estelle_model.specs.declared.denoter.Host.TheVariants as host
 use Rattle.estelle_model.specs.declared.denoter.Denoter.TheVariants as denoter
 use Rattle.estelle_model.specs.declared.denoter.Denoter.TheVariants.{outs-Ordinal}
 use Rattle.estelle_model.specs.Types.{whole}
-use Rattle.estelle_model.specs.declared.meaning.Required.TheVariants.{Succ, Chr}
+use Rattle.estelle_tree.specs.declared.required.Required.TheVariants.{Succ, Chr}
 use Rattle.estelle_model.specs.Operators.{required_value, one_member, members_from, related}
 use Rattle.estelle_tree.specs.Paths.{Path}
 use Rattle.estelle_model.specs.States.{Offers}
-use Rattle.estelle_model.specs.Steps.{Running, Outcome, Do}
+use Rattle.estelle_model.specs.Steps.{Running, StepResult, Do}
 use Rattle.estelle_model.specs.declared.meaning.Meaning.{Meaning}
 use Rattle.estelle_model.specs.declared.meaning.Meaning.TheVariants.{Local, RequiredFunction}
 use Rattle.estelle_model.specs.Places.{load}
@@ -36,10 +36,10 @@ module _ (S : Type 0) (on : Offers S) (act : Environment → Action S → Do S) 
   abbrev pub here : Environment
   here = record { path = path; frame = 0; references = [] }
 
-  abbrev pub value : List Meaning → Expr → List Value → ℕ → Outcome S Value
+  abbrev pub value : List Meaning → Expr → List Value → ℕ → StepResult S Value
   value ms e vs n = (mean S on (meanings ms) call here e).value (running vs n)
 
-  abbrev pub does : List Meaning → Stmt → List Value → ℕ → Outcome S (Unit {0})
+  abbrev pub does : List Meaning → Stmt → List Value → ℕ → StepResult S (Unit {0})
   does ms p vs n = run S on (meanings ms) act call here p (running vs n)
 
   abbrev pub num : ℤ → Expr

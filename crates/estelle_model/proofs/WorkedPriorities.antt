@@ -3,7 +3,7 @@
 --   trans from go to d1 priority 5 begin end;
 --   trans any i: 1..1 do from go to d2 priority i begin end;
 -- go, d1 and d2 are declared at 10, 11 and 12, and i at 20.
-use Rattle.std.proofs.Common.{◌≡◌, ◌∙◌, ℕ, zero, suc, Bool, true, false, List, [], ◌∷◌, map, ℤ, pos, Option, Some, None, refl, ap, sym, subst}
+use Rattle.std.proofs.Common.{◌≡◌, ◌∙◌, ℕ, zero, suc, true, false, List, [], ◌∷◌, map, ℤ, pos, Option, Some, None, refl, ap, sym}
 use Rattle.std.specs.Prelude.{flat_map, slice_get, option_and_then}
 use Rattle.std.specs.FinMap as fin_map
 use Rattle.pascal_values.specs.declared.value.Value.TheVariants.{outs-Int}

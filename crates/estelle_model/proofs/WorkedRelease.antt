@@ -6,7 +6,7 @@ use Rattle.estelle_tree.specs.declared.link.Link.{Link}
 use Rattle.estelle_tree.specs.Paths.{is_inside}
 use Rattle.estelle_tree.specs.Links.{connection}
 use Rattle.estelle_model.specs.Core.{Instance, Instances}
-use Rattle.estelle_model.specs.Effects.{Effect, Disconnect, Attach, Detach, Remove, Hold, changed, changed_in, links_after, instances_after}
+use Rattle.estelle_model.specs.Effects.{StatementEffect, Disconnect, Attach, Detach, Remove, Hold, changed, changed_in, links_after, instances_after}
 use Rattle.estelle_model.specs.States.{Logged, on_log}
 use Rattle.estelle_model.specs.Steps.{Running}
 use Rattle.estelle_model.specs.Meant.{Meanings}
@@ -19,7 +19,7 @@ use Rattle.estelle_model.proofs.WorkedLinks.{waits, o, p, q, r, t, connected, at
 
 module _ (subject : Subject) (meant : Meanings) (instances : Instances) (left : ℕ) where
   -- the instances and these links, with these effects so far
-  abbrev logged : Instances → List Link → List Effect → Running Logged
+  abbrev logged : Instances → List Link → List StatementEffect → Running Logged
   logged is links log = record { state = record { image = record { instances = is; links = links; types = types_of_variables subject }; log = log }; frames = []; left = left }
 
   pub attaches : may_attach subject instances p q ≡ true → attach_points Logged on_log subject meant p q (logged instances connected []) ≡ Ok (tt, logged instances attached (Attach p q ∷ []))

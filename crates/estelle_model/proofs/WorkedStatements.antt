@@ -18,7 +18,7 @@ use Rattle.estelle_model.specs.Types.{whole, item_of}
 use Rattle.estelle_model.specs.Operators.{bool_of, divided}
 use Rattle.estelle_tree.specs.Paths.{Path}
 use Rattle.estelle_model.specs.States.{Offers}
-use Rattle.estelle_model.specs.Steps.{Running, Outcome, Step, Do, and_then, pure, checked_at, spend}
+use Rattle.estelle_model.specs.Steps.{Running, StepResult, Step, Do, and_then, pure, checked_at, spend}
 use Rattle.estelle_model.specs.declared.meaning.Meaning.{Meaning}
 use Rattle.estelle_model.specs.declared.meaning.Meaning.TheVariants.{Constant, Local}
 use Rattle.estelle_model.specs.Meant.{Meanings}
@@ -57,11 +57,11 @@ module _ (S : Type 0) (on : Offers S) (act : Environment → Action S → Do S) 
   here = record { path = path; frame = 0; references = [] }
 
   -- what an expression comes to
-  abbrev pub value : List Meaning → Expr → List Value → ℕ → Outcome S Value
+  abbrev pub value : List Meaning → Expr → List Value → ℕ → StepResult S Value
   value ms e vs n = (mean S on (meanings ms) call here e).value (running vs n)
 
   -- what a statement does
-  abbrev pub does : List Meaning → Stmt → List Value → ℕ → Outcome S (Unit {0})
+  abbrev pub does : List Meaning → Stmt → List Value → ℕ → StepResult S (Unit {0})
   does ms p vs n = run S on (meanings ms) act call here p (running vs n)
 
   -- ---- unset variables

@@ -1,5 +1,6 @@
 -- The statements of Estelle (ISO/IEC 9074): what each does, and the order in which it is refused.
 use Rattle.std.specs.Prelude.{ℕ, zero, suc, Bool, true, false, ◌&&◌, ◌||◌, nat_eq, if◌then◌else◌, List, [], ◌∷◌, map, slice_get, is_some, Option, Some, None, Result, Ok, Err}
+use Rattle.std.specs.Option.{ok_or}
 use Rattle.std.specs.List.{list_any}
 use Rattle.std.specs.FinMap as map
 use Rattle.pascal_values.specs.declared.fault.Fault.{Fault}
@@ -9,11 +10,10 @@ use Rattle.estelle_tree.specs.declared.link.IpAddr.{IpAddr}
 use Rattle.estelle_tree.specs.declared.link.Link.{Link}
 use Rattle.estelle_tree.specs.declared.tree.name.Name.{Name}
 use Rattle.estelle_tree.specs.declared.tree.statement.Ip.{Ip as IpTree}
-use Rattle.estelle_model.specs.declared.denoter.Denoter.{Denoter}
 use Rattle.estelle_tree.specs.Paths.{Path, child, last_of}
 use Rattle.estelle_tree.specs.Links.{joins, is_upper_of, is_lower_of, above}
 use Rattle.estelle_model.specs.Core.{Instance, Core}
-use Rattle.estelle_model.specs.Effects.{Effect, Change, Hold, Enter}
+use Rattle.estelle_model.specs.Effects.{StatementEffect, Change, Hold, Enter}
 use Rattle.estelle_model.specs.Effects as effect
 use Rattle.estelle_model.specs.States.{Offers}
 use Rattle.estelle_model.specs.Steps.{Step, Do, ◌>>=◌, ◌>>◌, pure, fail, checked, checked_at, spend}
@@ -22,6 +22,7 @@ use Rattle.estelle_model.specs.declared.meaning.Meaning.{Meaning}
 use Rattle.estelle_model.specs.declared.meaning.Meaning.TheVariants.{Module, Ip, Body, Interaction}
 use Rattle.estelle_model.specs.Meant.{Meanings}
 use Rattle.estelle_model.specs.declared.meaning.InteractionPoint.{InteractionPoint}
+use Rattle.estelle_model.specs.Definitions.{types_received}
 use Rattle.estelle_model.specs.Subject.{Subject, Child, body, headers_of, child_of}
 use Rattle.estelle_model.specs.Attributes.{allows, attribute, may_have_transitions}
 use Rattle.estelle_model.specs.InteractionPoints.{point, sent_at, connectable_at, external_at, may_connect, may_attach}
@@ -50,16 +51,12 @@ abbrev pub count_from : ℕ → ℕ → List ℕ
 count_from k zero = []
 count_from k (suc n) = k ∷ count_from (suc k) n
 
-abbrev pub found : Option Instance → Result Instance Fault
-found None = Err fault.NoModule
-found (Some i) = Ok i
+-- an instance that is there
+abbrev pub or_no_module : Option Instance → Result Instance Fault
+or_no_module i = ok_or i fault.NoModule
 
 abbrev pub instance_at : Path → Core → Result Instance Fault
-instance_at p c = found (map.get c.instances p)
-
-abbrev pub types_of : Meaning → List Denoter
-types_of (Interaction kind) = kind.parameters
-types_of _ = []
+instance_at p c = or_no_module (map.get c.instances p)
 
 -- the interaction that a name means may be sent at the interaction point
 abbrev pub is_sent_at : Option InteractionPoint → Meaning → Bool
@@ -88,7 +85,7 @@ module _ (S : Type 0) (on : Offers S) (subject : Subject) (meant : Meanings) whe
   abbrev pub change : (S → S) → Do S
   change f = λ s. Ok (tt, record s { state = f s.state })
 
-  abbrev pub make : Effect → Do S
+  abbrev pub make : StatementEffect → Do S
   make e = change (on.does e)
 
   abbrev pub keep : Path → Change → Do S
@@ -218,13 +215,13 @@ module _ (S : Type 0) (on : Offers S) (subject : Subject) (meant : Meanings) whe
 
   abbrev pub output_at : Name → Name → List Value → IpAddr → Do S
   output_at p m values a = do
-    allowed ← needs (λ c. is_sent_at (point subject c.instances a) (meant m) && are_values_of (types_of (meant m)) values)
+    allowed ← needs (λ c. is_sent_at (point subject c.instances a) (meant m) && are_values_of (types_received (meant m)) values)
     make (effect.Output a p.word m.word values)
 
   -- the arguments, then the unit
   abbrev pub output : Environment → Name → Name → List (Operand S) → Do S
   output here p m es = do
-    given ← give_all (map ByValue (types_of (meant m))) es no_arguments
+    given ← give_all (map ByValue (types_received (meant m))) es no_arguments
     spent ← spend
     a ← ip_of here.path (meant p)
     output_at p m given.values a

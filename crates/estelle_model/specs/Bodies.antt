@@ -228,8 +228,12 @@ module_headers known b = map (λ x. (heading_of (known x)).at) (module_headers_i
 abbrev pub own_from : Meanings → BodyAlone → ℕ
 own_from known b = length ((heading known b.header).parameters ++ (heading known b.header).exports)
 
+-- the ways to the blocks behind each `trans`, in text order
+abbrev pub ways_in : List Trans → List Way
+ways_in = flat_map (λ t. ways t.body)
+
 abbrev pub ways_of : BodyAlone → List Way
-ways_of b = flat_map (λ t. ways t.body) b.trans
+ways_of b = ways_in b.trans
 
 abbrev pub clauses_in : BodyAlone → List Clause
 clauses_in b = flat_map (λ t. clauses t.body) b.trans

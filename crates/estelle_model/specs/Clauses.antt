@@ -12,7 +12,7 @@ use Rattle.estelle_model.specs.declared.job.Guard.{Guard}
 use Rattle.estelle_model.specs.declared.job.Guard.TheVariants.{Off, On, Faulted}
 use Rattle.estelle_tree.specs.Paths.{Path}
 use Rattle.estelle_model.specs.States.{Offers}
-use Rattle.estelle_model.specs.Steps.{Outcome, Step, Do, ◌>>=◌, ◌>>◌, pure, checked}
+use Rattle.estelle_model.specs.Steps.{StepResult, Step, Do, ◌>>=◌, ◌>>◌, pure, checked}
 use Rattle.estelle_model.specs.Operators.{int_of}
 use Rattle.estelle_model.specs.Expressions.{bool_step}
 use Rattle.estelle_model.specs.Actions.{act, enter_state}
@@ -76,6 +76,6 @@ module _ (S : Type 0) (on : Offers S) (s : Subject) where
     if holds then delay_step p t values timed t.delay else pure Off
 
 -- a guard as it is answered: a fault is an answer too
-abbrev pub answered : {S : Type 0} → Outcome S Guard → Guard
+abbrev pub answered : {S : Type 0} → StepResult S Guard → Guard
 answered (Ok r) = r.0
 answered (Err e) = Faulted e.0

@@ -31,15 +31,15 @@ values_of None = []
 values_of (Some i) = i.values
 
 -- the start on a log
-abbrev pub start_run : Subject → ℕ → step.Outcome Logged (Unit {0})
+abbrev pub start_run : Subject → ℕ → step.StepResult Logged (Unit {0})
 start_run s budget = start_step Logged on_log s (fresh (log_from (bare s).core) budget)
 
 -- the transition of a job on a log
-abbrev pub job_run : Subject → Job → Transition → step.Outcome Logged (Unit {0})
+abbrev pub job_run : Subject → Job → Transition → step.StepResult Logged (Unit {0})
 job_run s job t = fire_step Logged on_log s job.path t (values_of job.head) (fresh (log_from (core_of s job.image)) job.budget)
 
 -- the outcome is what a run on the log came to: its image, and all its effects
-abbrev pub IsMadeBy : Subject → step.Outcome Logged (Unit {0}) → Outcome → ℕ → Type 0
+abbrev pub IsMadeBy : Subject → step.StepResult Logged (Unit {0}) → Outcome → ℕ → Type 0
 IsMadeBy s (Ok r) (outcome.Ran image effects) left = Shows image r.1.state.image × (effects ≡ all_logged s r.1.state.log) × (left ≡ r.1.left)
 IsMadeBy s (Err e) (outcome.Faulted kind) left = (kind ≡ e.0) × (left ≡ e.1)
 IsMadeBy s _ _ left = ⊥

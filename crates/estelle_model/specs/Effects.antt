@@ -10,17 +10,17 @@ use Rattle.estelle_tree.specs.Links.{joins, is_upper_of, touches, connection, at
 use Rattle.estelle_model.specs.Core.{Instance, Instances, Core}
 
 -- the effects of the statements of Estelle (ISO/IEC 9074)
-pub data Effect : Type 0 where
+pub data StatementEffect : Type 0 where
   -- by the names of the interaction point and of the interaction
-  Output : (from : IpAddr) (ip name : List ℕ) (values : List Value) → Effect
-  Connect : (first second : IpAddr) → Effect
-  Disconnect : (a : IpAddr) → Effect
-  Attach : (upper lower : IpAddr) → Effect
-  Detach : (upper : IpAddr) → Effect
+  Output : (from : IpAddr) (ip name : List ℕ) (values : List Value) → StatementEffect
+  Connect : (first second : IpAddr) → StatementEffect
+  Disconnect : (a : IpAddr) → StatementEffect
+  Attach : (upper lower : IpAddr) → StatementEffect
+  Detach : (upper : IpAddr) → StatementEffect
   -- a child with the next birth number, as `init` makes it
-  Create : (parent : Path) (number : ℕ) (instance : Instance) → Effect
+  Create : (parent : Path) (number : ℕ) (instance : Instance) → StatementEffect
   -- the child and all below it
-  Remove : (parent : Path) (number : ℕ) → Effect
+  Remove : (parent : Path) (number : ℕ) → StatementEffect
 
 -- what a block does to the record of an instance
 pub data Change : Type 0 where
@@ -47,12 +47,12 @@ put_back instances p f (Some i) = map.insert instances p (f i)
 abbrev pub changed_in : Path → (Instance → Instance) → Instances → Instances
 changed_in p f instances = put_back instances p f (map.get instances p)
 
-unfoldable pub instances_after : Effect → Instances → Instances
+unfoldable pub instances_after : StatementEffect → Instances → Instances
 instances_after (Create p k i) instances = map.insert (changed_in p born instances) (child p k) i
 instances_after (Remove p k) instances = map.retain_keys instances (λ q. not (is_inside (child p k) q))
 instances_after _ instances = instances
 
-unfoldable pub links_after : Effect → List Link → List Link
+unfoldable pub links_after : StatementEffect → List Link → List Link
 links_after (Connect a b) links = links ++ connection a b ∷ []
 links_after (Disconnect a) links = filter (λ l. not (joins a l)) links
 links_after (Attach upper lower) links = links ++ attachment upper lower ∷ []
@@ -60,7 +60,7 @@ links_after (Detach upper) links = filter (λ l. not (is_upper_of upper l)) link
 links_after (Remove p k) links = filter (λ l. not (touches (child p k) l)) links
 links_after _ links = links
 
-abbrev pub core_after : Effect → Core → Core
+abbrev pub core_after : StatementEffect → Core → Core
 core_after e c = record c { instances = instances_after e c.instances; links = links_after e c.links }
 
 abbrev pub core_kept : Path → Change → Core → Core

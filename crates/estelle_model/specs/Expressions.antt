@@ -27,7 +27,7 @@ use Rattle.estelle_model.specs.declared.denoter.Host.{Host}
 use Rattle.estelle_model.specs.declared.denoter.Host.TheVariants as hosts
 use Rattle.estelle_model.specs.declared.denoter.Denoter.{Denoter}
 use Rattle.estelle_model.specs.Types.{ordinal_of, shape_of, host_of, item_of, field_of, bounds_of}
-use Rattle.estelle_model.specs.declared.meaning.Required.{Required}
+use Rattle.estelle_tree.specs.declared.required.Required.{Required}
 use Rattle.estelle_model.specs.Operators.{bool_of, plus, minus, times, divided, modulo, signed, negation, related, one_member, members_from, required_value, required_host}
 use Rattle.estelle_model.specs.States.{Offers}
 use Rattle.estelle_model.specs.Steps.{Step, ◌>>=◌, pure, fail, checked}

@@ -9,7 +9,7 @@ use Rattle.estelle_model.specs.declared.job.Guard.{Guard}
 use Rattle.estelle_model.specs.declared.job.Guard.TheVariants.{Off}
 use Rattle.estelle_tree.specs.Paths.{Path, path_cmp}
 use Rattle.estelle_model.specs.Core.{Instance}
-use Rattle.estelle_model.specs.Steps.{Outcome}
+use Rattle.estelle_model.specs.Steps.{StepResult}
 use Rattle.estelle_model.specs.Blocks.{fresh}
 use Rattle.estelle_model.specs.Transitions.{Transition, When}
 use Rattle.estelle_model.specs.Subject.{Subject, body, transition, types_of_variables, new_instance}
@@ -31,7 +31,7 @@ pub data Firing : Type 0 where
 abbrev pub begun : Situation → Acting
 begun g = record { situation = g; outs = []; drops = [] }
 
-abbrev pub done : Outcome Acting (Unit {0}) → Firing
+abbrev pub done : StepResult Acting (Unit {0}) → Firing
 done (Ok r) = Ran r.1.state.situation r.1.state.outs r.1.state.drops r.1.left
 done (Err e) = Failed e.0 e.1
 

@@ -1,5 +1,5 @@
 -- Which interaction points may be linked, and what each may send and receive (ISO/IEC 9074: channels, connect, attach).
-use Rattle.std.specs.Prelude.{ℕ, Bool, true, false, not, ◌&&◌, ◌||◌, nat_eq, if◌then◌else◌, List, slice_get, Option, Some, None}
+use Rattle.std.specs.Prelude.{ℕ, Bool, true, false, not, ◌&&◌, ◌||◌, nat_eq, if◌then◌else◌, slice_get, Option, Some, None}
 use Rattle.std.specs.FinMap as map
 use Rattle.std.specs.Str.{bytes_eq}
 use Rattle.estelle_tree.specs.declared.link.IpAddr.{IpAddr}

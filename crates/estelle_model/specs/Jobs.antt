@@ -6,7 +6,7 @@ use Rattle.estelle_tree.specs.declared.link.Link.{Link}
 use Rattle.estelle_model.specs.declared.image.Part.{Part}
 use Rattle.estelle_model.specs.declared.image.Image.{Image}
 use Rattle.estelle_model.specs.declared.image.Interaction.{Interaction}
-use Rattle.estelle_model.specs.declared.effect.Effect.{Effect as LoggedEffect}
+use Rattle.estelle_model.specs.declared.effect.Effect.{Effect}
 use Rattle.estelle_model.specs.declared.effect.Effect.TheVariants as logged
 use Rattle.estelle_model.specs.declared.job.Job.{Job}
 use Rattle.estelle_model.specs.declared.job.Done.{Done}
@@ -16,7 +16,7 @@ use Rattle.estelle_tree.specs.Paths.{Path, child, is_inside}
 use Rattle.estelle_tree.specs.Links.{is_connection, is_lower_of}
 use Rattle.estelle_model.specs.declared.meaning.InteractionPoint.{InteractionPoint}
 use Rattle.estelle_model.specs.Core.{Instance, Instances, Core}
-use Rattle.estelle_model.specs.Effects.{Effect, Output, Connect, Disconnect, Attach, Detach, Create, Remove}
+use Rattle.estelle_model.specs.Effects.{StatementEffect, Output, Connect, Disconnect, Attach, Detach, Create, Remove}
 use Rattle.estelle_model.specs.Transitions.{Transition}
 use Rattle.estelle_model.specs.Subject.{Subject, types_of_variables, ips_of}
 use Rattle.estelle_model.specs.InteractionPoints.{point, internal_at, may_connect, may_attach}
@@ -71,7 +71,7 @@ pub record MayActAlone (s : Subject) (c : Core) (m : Path) : Type 0 where
 
 -- An effect of a block as it is logged. Until it is put into a situation an output has the number 0 and is not lost;
 -- a new instance is as it was made, with its interaction points in declaration order.
-abbrev pub logged_as : Subject → Effect → LoggedEffect
+abbrev pub logged_as : Subject → StatementEffect → Effect
 logged_as s (Output from ip name values) = logged.Output from (record { number = 0; name = name; values = values }) (record { path = from.path; ip = ip; name = name; values = values; lost = false })
 logged_as s (Connect a b) = logged.Connect a b
 logged_as s (Disconnect a) = logged.Disconnect a
@@ -81,7 +81,7 @@ logged_as s (Create p k i) = logged.Create (child p k) (part_of_entry (child p k
 logged_as s (Remove p k) = logged.Remove (child p k)
 
 -- the log of a block as it is handed on
-abbrev pub all_logged : Subject → List Effect → List LoggedEffect
+abbrev pub all_logged : Subject → List StatementEffect → List Effect
 all_logged s = each (logged_as s)
 
 -- ---- what is put into a situation
@@ -118,7 +118,7 @@ abbrev pub IsNextOf : Instances → Path → ℕ → Type 0
 IsNextOf instances p k = (i : Instance) × (map.get instances p ≡ Some i) × (k ≡ suc i.births)
 
 -- an effect of the instance m, or of one below it, can be made as it says
-abbrev pub CanBeMade : Subject → Path → Effect → Core → Type 0
+abbrev pub CanBeMade : Subject → Path → StatementEffect → Core → Type 0
 CanBeMade s m (Output from ip name values) c = (is_inside m from.path ≡ true) × IsIp s c.instances from
 CanBeMade s m (Connect a b) c = MayBeConnected s m c.instances a b × (is_bound a c.links ≡ false) × (is_bound b c.links ≡ false)
 CanBeMade s m (Disconnect a) c = (is_inside m a.path ≡ true) × (is_connected a c.links ≡ true)
@@ -128,12 +128,12 @@ CanBeMade s m (Create p k i) c = (is_inside m p ≡ true) × IsNextOf c.instance
 CanBeMade s m (Remove p k) c = (is_inside m p ≡ true) × IsThere c.instances (child p k)
 
 -- each at its turn
-abbrev pub CanAllBeMade : Subject → Path → List Effect → Acting → Type 0
+abbrev pub CanAllBeMade : Subject → Path → List StatementEffect → Acting → Type 0
 CanAllBeMade s m [] a = Unit {0}
 CanAllBeMade s m (e ∷ es) a = CanBeMade s m e a.situation.core × CanAllBeMade s m es (acting_after e a)
 
 -- the effects in order
-abbrev pub after_all : List Effect → Acting → Acting
+abbrev pub after_all : List StatementEffect → Acting → Acting
 after_all es a = fold (λ b e. acting_after e b) a es
 
 abbrev pub insert_part : Instances → Part → Instances
@@ -157,13 +157,13 @@ abbrev pub ran : Acting → ℕ → Firing
 ran a left = Ran a.situation a.outs a.drops left
 
 -- the situation once the effects are made and the records are those of the image
-abbrev pub put : Path → List Effect → List Part → Acting → Acting
+abbrev pub put : Path → List StatementEffect → List Part → Acting → Acting
 put m log parts a = with_records m parts (after_all log a)
 
 -- What is computed is put into a situation in which the head is taken, and then this is the firing: its effects are those of a block,
 -- each of which can be made at its turn, and then the image is the private part.
-pub record IsPut (s : Subject) (m : Path) (n : ℕ) (g : Situation) (image : Image) (effects : List LoggedEffect) (left : ℕ) (firing : Firing) : Type 0 where
-  pub log : List Effect
+pub record IsPut (s : Subject) (m : Path) (n : ℕ) (g : Situation) (image : Image) (effects : List Effect) (left : ℕ) (firing : Firing) : Type 0 where
+  pub log : List StatementEffect
   pub logged : effects ≡ all_logged s log
   pub can_be_made : CanAllBeMade s m log (begun g)
   pub outline : outline m (after_all log (begun g)).situation.core.instances ≡ outline_of_parts image.parts

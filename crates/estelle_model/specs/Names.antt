@@ -1,27 +1,34 @@
 -- What each name in use means: what its declaration says of it.
-use Rattle.std.specs.Prelude.{ℕ, ◌-◌, ◌^◌, nat_eq, true, false, if◌then◌else◌, List, [], ◌∷◌, fold, codes, pos, Option, Some, None}
+use Rattle.std.specs.Prelude.{ℕ, nat_eq, true, false, if◌then◌else◌, List, [], ◌∷◌, fold, map, Option, Some, None}
 use Rattle.std.specs.Str.{bytes_eq}
 use Rattle.std.specs.Map.{lookup}
 use Rattle.pascal_values.specs.declared.value.Value.TheVariants as pascal
 use Rattle.estelle_tree.specs.declared.span.Span.{Span}
 use Rattle.estelle_tree.specs.declared.names.Use.{Use}
+use Rattle.estelle_tree.specs.declared.required.RequiredIdentifier.{RequiredIdentifier}
+use Rattle.estelle_tree.specs.declared.required.RequiredIdentifier.TheVariants as identifier
+use Rattle.estelle_tree.specs.Required.{identifiers}
 use Rattle.estelle_tree.specs.declared.tree.name.Name.{Name}
 use Rattle.estelle_model.specs.declared.denoter.Host.TheVariants as host
-use Rattle.estelle_model.specs.Types.{whole}
-use Rattle.estelle_model.specs.declared.meaning.Required.TheVariants.{Abs, Sqr, Odd, Succ, Pred, Ord, Chr}
+use Rattle.estelle_model.specs.Types.{greatest, whole}
 use Rattle.estelle_model.specs.declared.meaning.Meaning.{Meaning}
 use Rattle.estelle_model.specs.declared.meaning.Meaning.TheVariants.{Constant, TypeName, RequiredFunction, Other}
 use Rattle.estelle_model.specs.Meant.{Meanings}
 use Rattle.estelle_model.specs.Denoted.{Declaration, Declarations}
 
--- the required identifiers (ISO 7185, 6.1.3, 6.3, 6.4.2.2 and 6.6.6), by their words
+-- what the required identifiers mean (ISO 7185, 6.3, 6.4.2.2 and 6.6.6)
+abbrev pub meaning_of_required : RequiredIdentifier → Meaning
+meaning_of_required identifier.Integer = TypeName (whole host.Integer)
+meaning_of_required identifier.Boolean = TypeName (whole host.Boolean)
+meaning_of_required identifier.Char = TypeName (whole host.Char)
+meaning_of_required identifier.False = Constant (pascal.Bool false) host.Boolean
+meaning_of_required identifier.True = Constant (pascal.Bool true) host.Boolean
+meaning_of_required identifier.Maxint = Constant (pascal.Int (greatest host.Integer)) host.Integer
+meaning_of_required (identifier.Function f) = RequiredFunction f
+
+-- by their words
 abbrev pub required : List (List ℕ × Meaning)
-required =
-    (codes "integer", TypeName (whole host.Integer)) ∷ (codes "boolean", TypeName (whole host.Boolean)) ∷ (codes "char", TypeName (whole host.Char))
-    ∷ (codes "false", Constant (pascal.Bool false) host.Boolean) ∷ (codes "true", Constant (pascal.Bool true) host.Boolean)
-    ∷ (codes "maxint", Constant (pascal.Int (pos (2 ^ 63 - 1))) host.Integer)
-    ∷ (codes "abs", RequiredFunction Abs) ∷ (codes "sqr", RequiredFunction Sqr) ∷ (codes "odd", RequiredFunction Odd)
-    ∷ (codes "succ", RequiredFunction Succ) ∷ (codes "pred", RequiredFunction Pred) ∷ (codes "ord", RequiredFunction Ord) ∷ (codes "chr", RequiredFunction Chr) ∷ []
+required = map (λ e. (e.0, meaning_of_required e.1)) identifiers
 
 abbrev pub or_other : Option Meaning → Meaning
 or_other None = Other

@@ -18,8 +18,8 @@ use Rattle.estelle_tree.specs.declared.tree.expression.Relation.TheVariants as r
 use Rattle.estelle_model.specs.declared.denoter.Host.{Host}
 use Rattle.estelle_model.specs.declared.denoter.Host.TheVariants as host
 use Rattle.estelle_model.specs.Types.{least, greatest, ordinal_of, value_of}
-use Rattle.estelle_model.specs.declared.meaning.Required.{Required}
-use Rattle.estelle_model.specs.declared.meaning.Required.TheVariants.{Abs, Sqr, Odd, Succ, Pred, Ord, Chr}
+use Rattle.estelle_tree.specs.declared.required.Required.{Required}
+use Rattle.estelle_tree.specs.declared.required.Required.TheVariants.{Abs, Sqr, Odd, Succ, Pred, Ord, Chr}
 
 -- ---- operands. An accepted tree has none of another kind; here it counts as unset.
 

@@ -135,8 +135,8 @@ IsRun s budget (e ∷ es) = Begins s budget (start s budget) e es
 -- ---- the situation after the events of a run
 
 -- from a situation on
-abbrev pub after_all : Subject → ℕ → Situation → List Event → Situation
-after_all s budget = fold (next s budget)
+abbrev pub after_events : Subject → ℕ → Situation → List Event → Situation
+after_events s budget = fold (next s budget)
 
 -- the situation that the start comes to; where it faults there is none
 abbrev pub started : Subject → Firing → Situation
@@ -146,7 +146,7 @@ started s Undefined = bare s
 
 abbrev pub after_first : Subject → ℕ → Situation → List Event → Situation
 after_first s budget g [] = g
-after_first s budget g (e ∷ es) = after_all s budget g es
+after_first s budget g (e ∷ es) = after_events s budget g es
 
 -- after all of them
 abbrev pub situation : Subject → ℕ → List Event → Situation

@@ -10,16 +10,16 @@ pub record Running (S : Type 0) : Type 0 where
   pub frames : List Value
   pub left : ℕ
 
-abbrev pub Outcome : Type 0 → Type 0 → Type 0
-Outcome S A = Result (A × Running S) (Fault × ℕ)
+abbrev pub StepResult : Type 0 → Type 0 → Type 0
+StepResult S A = Result (A × Running S) (Fault × ℕ)
 
 abbrev pub Step : Type 0 → Type 0 → Type 0
-Step S A = Running S → Outcome S A
+Step S A = Running S → StepResult S A
 
 abbrev pub Do : Type 0 → Type 0
 Do S = Step S (Unit {0})
 
-abbrev pub and_then : {S A B : Type 0} → Outcome S A → (A → Step S B) → Outcome S B
+abbrev pub and_then : {S A B : Type 0} → StepResult S A → (A → Step S B) → StepResult S B
 and_then (Ok r) f = f r.0 r.1
 and_then (Err e) f = Err e
 

@@ -3,6 +3,7 @@
 use Rattle.std.specs.Prelude.{ℕ, zero, suc, List, [], ◌++◌, length, map, replicate, drop, slice_get, option_map, option_and_then, unwrap_or, Option, Some, None}
 use Rattle.pascal_values.specs.declared.value.Value.{Value}
 use Rattle.pascal_values.specs.Shapes.{blank_of}
+use Rattle.estelle_tree.specs.declared.names.Names.{Names}
 use Rattle.estelle_tree.specs.declared.names.Use.{Use}
 use Rattle.estelle_tree.specs.declared.tree.name.Name.{Name}
 use Rattle.estelle_tree.specs.declared.tree.clause.Block.{Block}
@@ -27,6 +28,10 @@ pub record Subject : Type 0 where
   pub specification : Spec
   -- for each name in use, the name in its declaration
   pub names : List Use
+
+-- of a specification with the names that were found
+abbrev pub subject : Spec → Names → Subject
+subject spec names = record { specification = spec; names = names.uses }
 
 abbrev pub declared_in : Subject → Declared
 declared_in s = declared s.names (bodies_declare 0 (bodies s.specification))

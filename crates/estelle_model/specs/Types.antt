@@ -1,5 +1,5 @@
 -- Types, and the values that belong to them (ISO 7185, 6.4).
-use Rattle.std.specs.Prelude.{ℕ, if◌then◌else◌, ◌^◌, ◌-◌, nat_abs, nat_eq, slice_get, Option, Some, None, ℤ, pos, negsuc, Result, Ok, Err}
+use Rattle.std.specs.Prelude.{ℕ, if◌then◌else◌, nat_abs, nat_eq, slice_get, unwrap_or, ℤ, pos, Result, Ok, Err}
 use Rattle.pascal_values.specs.declared.fault.Fault.{Fault}
 use Rattle.pascal_values.specs.declared.fault.Fault.TheVariants as fault
 use Rattle.pascal_values.specs.declared.value.Value.{Value, out-Value}
@@ -9,6 +9,7 @@ use Rattle.pascal_values.specs.declared.value.Shape.{Shape}
 use Rattle.pascal_values.specs.declared.value.Shape.TheVariants as shape
 use Rattle.pascal_values.specs.Integers.{is_between}
 use Rattle.pascal_values.specs.Shapes.{bool_ordinal}
+use Rattle.estelle_tree.specs.Required.{maxint, least_integer}
 use Rattle.estelle_model.specs.declared.denoter.Host.{Host}
 use Rattle.estelle_model.specs.declared.denoter.Host.TheVariants as host
 use Rattle.estelle_model.specs.declared.denoter.Denoter.{Denoter, out-Denoter}
@@ -20,11 +21,11 @@ use Rattle.estelle_model.specs.declared.denoter.Denoter.TheFolds.{fold-Denoter}
 
 -- the least and the greatest ordinal of a host type
 abbrev pub least : Host → ℤ
-least host.Integer = negsuc (2 ^ 63 - 2)
+least host.Integer = least_integer
 least _ = pos 0
 
 abbrev pub greatest : Host → ℤ
-greatest host.Integer = pos (2 ^ 63 - 1)
+greatest host.Integer = maxint
 greatest host.Boolean = pos 1
 greatest host.Char = pos 255
 greatest (host.Enumeration last) = pos last
@@ -90,12 +91,8 @@ item_at _ t = t
 abbrev pub item_of : Denoter → Denoter
 item_of t = item_at (out-Denoter t) t
 
-abbrev pub or_else : {A : Type 0} → Option A → A → A
-or_else None a = a
-or_else (Some b) a = b
-
 abbrev pub field_at : Denoter-F Denoter → ℕ → Denoter → Denoter
-field_at (Denoter-F.Fields fields) k t = or_else (slice_get fields k) t
+field_at (Denoter-F.Fields fields) k t = unwrap_or (slice_get fields k) t
 field_at _ k t = t
 
 -- the type of a record's field

@@ -1,3 +1,6 @@
+ghost use Rattle.std.specs.Prelude.{◌≡◌};
+ghost use Rattle.estelle_model.specs.Types.{host_of, range_of};
+
 use estelle_tree::{Boxed, Items};
 
 /// The type that an ordinal type is a part of (ISO 7185, 6.4.2.4: the host type).
@@ -32,4 +35,24 @@ pub enum Denoter {
     },
     /// A record, by the types of its fields in the order of their declaration.
     Fields(Items<Denoter>),
+}
+
+/// The host type of an ordinal type, or of a set's base. Another type counts as integer.
+pub fn host_of(denoter: &Denoter) -> Host
+    ensures { result ≡ host_of denoter.now }
+{
+    match denoter {
+        Denoter::Ordinal { host, .. } | Denoter::Set { host, .. } => *host,
+        _ => Host::Integer,
+    }
+}
+
+/// The least and the greatest ordinal of an ordinal type.
+pub fn range_of(denoter: &Denoter) -> (i64, i64)
+    ensures { result ≡ range_of denoter.now }
+{
+    match denoter {
+        Denoter::Ordinal { low, high, .. } => (*low, *high),
+        _ => (1, 0),
+    }
 }

@@ -5,24 +5,26 @@
 //! Here are the definitions, in `specs/`, and the types of what is computed.
 #![tactic(auto)]
 
+#[tactic(auto, using(crate::specs::declared::denoter::Denoter::the_lemmas))]
 mod denoter;
 mod effect;
 mod event;
 mod image;
 mod job;
 mod meaning;
+mod ordinals;
 mod place;
 mod shared;
 
-pub use denoter::{Denoter, Host};
+pub use denoter::{Denoter, Host, host_of, range_of};
 pub use effect::{Effect, Out};
-pub use estelle_tree::{Pair, Wanted};
+pub use estelle_tree::{Pair, Required, Wanted};
 pub use event::{End, Event, Run};
 pub use image::{Image, Interaction, Part};
 pub use job::{Done, Guard, Job, Outcome};
 pub use meaning::{
-    Attribute, Heading, InteractionKind, InteractionPoint, Meaning, Passing, Required, Role,
-    Routine, Senders,
+    Attribute, Heading, InteractionKind, InteractionPoint, Meaning, Passing, Role, Routine, Senders,
 };
+pub use ordinals::{greatest, has_value, least, value_at};
 pub use place::{ActualParameters, Environment, Place};
 pub use shared::{Statements, Type};

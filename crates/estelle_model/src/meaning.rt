@@ -1,6 +1,6 @@
 use crate::denoter::Host;
 use crate::shared::{Statements, Type};
-use estelle_tree::Items;
+use estelle_tree::{Items, Required};
 use pascal_values::Value;
 
 /// How a parameter is passed (ISO 7185, 6.6.3).
@@ -74,18 +74,6 @@ pub struct Heading {
     pub parameters: Items<Type>,
     pub exports: Items<Type>,
     pub ips: Items<InteractionPoint>,
-}
-
-/// A required function (ISO 7185, 6.6.6).
-#[derive(Clone, Copy, Debug, PartialEq, Eq)]
-pub enum Required {
-    Abs,
-    Sqr,
-    Odd,
-    Succ,
-    Pred,
-    Ord,
-    Chr,
 }
 
 /// What a name can mean.

@@ -15,10 +15,10 @@ use Rattle.estelle_tree.specs.Paths.{Path, is_inside, child, last_of}
 use Rattle.estelle_tree.specs.Links.{is_lower_of, is_upper_of, above}
 use Rattle.estelle_model.specs.Core.{Instance, Instances, Core}
 use Rattle.estelle_model.specs.InteractionPoints.{point_of, point, may_join, connectable_at, external_at, may_connect, may_attach_points, may_attach}
-use Rattle.estelle_model.specs.Effects.{Effect, Create, Disconnect as Disconnected, Detach as Detached, Change, Store, Hold, Enter, core_after}
+use Rattle.estelle_model.specs.Effects.{StatementEffect, Create, Disconnect as Disconnected, Detach as Detached, Change, Store, Hold, Enter, core_after}
 use Rattle.estelle_model.specs.Effects as effect
 use Rattle.estelle_model.specs.States.{Offers, IsFaithful}
-use Rattle.estelle_model.specs.Steps.{Running, Outcome, Do, and_then, ◌>>=◌, ◌>>◌, pure, checked, checked_at, spend}
+use Rattle.estelle_model.specs.Steps.{Running, StepResult, Do, and_then, ◌>>=◌, ◌>>◌, pure, checked, checked_at, spend}
 use Rattle.estelle_model.specs.declared.meaning.Passing.TheVariants.{ByValue}
 use Rattle.estelle_model.specs.declared.meaning.Routine.{Routine}
 use Rattle.estelle_model.specs.declared.meaning.Meaning.{Meaning}
@@ -33,7 +33,8 @@ use Rattle.estelle_model.specs.Statements.{Init, Release, Connect, Disconnect, A
 use Rattle.estelle_model.specs.Calls.{Enters}
 use Rattle.estelle_model.specs.Blocks.{block_step, clause_value}
 use Rattle.estelle_model.specs.Subject.{Subject, child_of}
-use Rattle.estelle_model.specs.Actions.{is_bound, is_connected, is_upper, at, count_from, found, instance_at, types_of, empty_in, make, keep, read, fails_if, no_such, child_in, ip_of, part_of_child, ip_named, needs, is_sent_at, may_hold, connect_points, connect, disconnect_if, detach_above, detach_if, for_each, disconnect_child, disconnect_point, disconnect_of, attach_points, attach, detach_point, detach, output_at, output, enter_state, create, init, init_of, release_child, release, act}
+use Rattle.estelle_model.specs.Actions.{is_bound, is_connected, is_upper, at, count_from, or_no_module, instance_at, empty_in, make, keep, read, fails_if, no_such, child_in, ip_of, part_of_child, ip_named, needs, is_sent_at, may_hold, connect_points, connect, disconnect_if, detach_above, detach_if, for_each, disconnect_child, disconnect_point, disconnect_of, attach_points, attach, detach_point, detach, output_at, output, enter_state, create, init, init_of, release_child, release, act}
+use Rattle.estelle_model.specs.Definitions.{types_received}
 use Rattle.estelle_model.specs.Jobs.{is_below_or_own, IsOwnOrChild, CanBeMade, IsThere}
 use Rattle.estelle_model.proofs.Alike.{Same, EachAlike, RunningAlike, OutcomeAlike, StepAlike, DoAlike, ValueAlike, and_then_alike, then_alike, then_same, pure_alike, fail_alike, spend_alike}
 use Rattle.estelle_model.proofs.AlikePlaces.{ShowAlike}
@@ -45,7 +46,7 @@ use Rattle.estelle_model.proofs.PrivateParts.{child_inside, left_true, right_tru
 use Rattle.estelle_model_answers.proofs.Owned.{left_false, right_false, any_among, last_child, own_path, child_owned, linked_owned, not_itself, sent_there, upper_of, none_held}
 
 -- a new instance holds nothing
-abbrev pub IsBare : Effect → Type 0
+abbrev pub IsBare : StatementEffect → Type 0
 IsBare (Create p k i) = (v : ℕ) (held : Path) → slice_get i.module_variables v ≢ Some (Some held)
 IsBare _ = Unit {0}
 
@@ -64,21 +65,21 @@ pub record KeepsAlike (S T : Type 0) (on : Offers S) (on' : Offers T) (s : Subje
   pub upper : (x : S) (y : T) → R x y → (a : IpAddr) → is_inside m a.path ≡ true → is_upper a (on.core x).links ≡ is_upper a (on'.core y).links
   pub above_is : (x : S) (y : T) → R x y → (a : IpAddr) → is_below_or_own s (on.core x).instances m a ≡ true → above (on.core x).links a ≡ above (on'.core y).links a
   pub above_in : (x : S) (y : T) → R x y → (a b : IpAddr) → is_below_or_own s (on.core x).instances m a ≡ true → above (on.core x).links a ≡ Some b → is_inside m b.path ≡ true
-  pub made : (e : Effect) (x : S) (y : T) → R x y → CanBeMade s m e (on.core x) → IsBare e → R (on.does e x) (on'.does e y)
+  pub made : (e : StatementEffect) (x : S) (y : T) → R x y → CanBeMade s m e (on.core x) → IsBare e → R (on.does e x) (on'.does e y)
   pub kept : (p : Path) (change : Change) (x : S) (y : T) → R x y → is_inside m p ≡ true → HoldsChild p change → R (on.keeps p change x) (on'.keeps p change y)
 
 abbrev passed : {U : Type 0} → Do U
 passed = pure tt
 
 -- a unit is taken, and so many are left; or none is there
-abbrev left_with : {U : Type 0} → Running U → ℕ → Outcome U (Unit {0})
+abbrev left_with : {U : Type 0} → Running U → ℕ → StepResult U (Unit {0})
 left_with x n = Ok (tt, record x { left = n })
 
-abbrev no_unit : {U : Type 0} → Running U → ℕ → Outcome U (Unit {0})
+abbrev no_unit : {U : Type 0} → Running U → ℕ → StepResult U (Unit {0})
 no_unit x n = Err (fault.StepLimit, n)
 
 -- a disconnect or a detach
-abbrev IsUnlink : Effect → Type 0
+abbrev IsUnlink : StatementEffect → Type 0
 IsUnlink (Disconnected a) = Unit {0}
 IsUnlink (Detached a) = Unit {0}
 IsUnlink _ = ⊥
@@ -108,7 +109,7 @@ module _ (S T : Type 0) (on : Offers S) (on' : Offers T) (faithful : IsFaithful 
     none_alike : (A : Type 0) → StepAlike S T R (Same {A = A}) (no_such S on s known) (no_such T on' s known)
     none_alike A = fail_alike S T R (Same {A = A}) fault.Unset
 
-    make_at : (e : Effect) (x : Running S) (y : Running T) → RunningAlike S T R x y → CanBeMade s m e (on.core x.state) → IsBare e → ComesAlike x y (make S on s known e) (make T on' s known e)
+    make_at : (e : StatementEffect) (x : Running S) (y : Running T) → RunningAlike S T R x y → CanBeMade s m e (on.core x.state) → IsBare e → ComesAlike x y (make S on s known e) (make T on' s known e)
     make_at e x y r can bare = (refl, record { state = keeps.made e x.state y.state r.state can bare; frames = r.frames; left = r.left })
 
     keep_alike : (p : Path) (change : Change) → is_inside m p ≡ true → HoldsChild p change → DoesAlike (keep S on s known p change) (keep T on' s known p change)
@@ -126,7 +127,7 @@ module _ (S T : Type 0) (on : Offers S) (on' : Offers T) (faithful : IsFaithful 
         by false true e h = absurd (cc)
 
     -- fails, or makes an effect
-    or_fails : (b c : Bool) (f : Fault) (e : Effect) (x : Running S) (y : Running T) → RunningAlike S T R x y → b ≡ c → (b ≡ false → CanBeMade s m e (on.core x.state)) → IsBare e
+    or_fails : (b c : Bool) (f : Fault) (e : StatementEffect) (x : Running S) (y : Running T) → RunningAlike S T R x y → b ≡ c → (b ≡ false → CanBeMade s m e (on.core x.state)) → IsBare e
         → ComesAlike x y (fails_if S on s known b f >>= λ _. make S on s known e) (fails_if T on' s known c f >>= λ _. make T on' s known e)
     or_fails true true f e x y r is can bare = ap (λ n. (f, n)) r.left
     or_fails false false f e x y r is can bare = make_at e x y r (can refl) bare
@@ -205,8 +206,8 @@ module _ (S T : Type 0) (on : Offers S) (on' : Offers T) (faithful : IsFaithful 
 
     -- ---- disconnect and detach, with what is known of the state beside
 
-    module _ (Q : S → T → Type 0) (within : (x : S) (y : T) → Q x y → R x y) (stays : (e : Effect) (x : S) (y : T) → Q x y → CanBeMade s m e (on.core x) → IsUnlink e → Q (on.does e x) (on'.does e y)) where
-      unmake_at : (e : Effect) → IsUnlink e → (x : Running S) (y : Running T) → RunningAlike S T Q x y → CanBeMade s m e (on.core x.state) → OutcomeAlike S T Q (Same {A = Unit {0}}) (make S on s known e x) (make T on' s known e y)
+    module _ (Q : S → T → Type 0) (within : (x : S) (y : T) → Q x y → R x y) (stays : (e : StatementEffect) (x : S) (y : T) → Q x y → CanBeMade s m e (on.core x) → IsUnlink e → Q (on.does e x) (on'.does e y)) where
+      unmake_at : (e : StatementEffect) → IsUnlink e → (x : Running S) (y : Running T) → RunningAlike S T Q x y → CanBeMade s m e (on.core x.state) → OutcomeAlike S T Q (Same {A = Unit {0}}) (make S on s known e x) (make T on' s known e y)
       unmake_at e un x y r can = (refl, record { state = stays e x.state y.state r.state can un; frames = r.frames; left = r.left })
 
       disconnect_if_at : (a : IpAddr) → is_inside m a.path ≡ true → ((z : Instances) → is_below_or_own s z m a ≡ true) → DoAlike S T Q (disconnect_if S on s known a) (disconnect_if T on' s known a)
@@ -242,7 +243,7 @@ module _ (S T : Type 0) (on : Offers S) (on' : Offers T) (faithful : IsFaithful 
       for_each_at c f g h (k ∷ ks) = seq_alike S T Q (f (at c k)) (for_each S on s known f (map (at c) ks)) (g (at c k)) (for_each T on' s known g (map (at c) ks)) (h k) (for_each_at c f g h ks)
 
     -- the instance is read, and then it goes on
-    found_at : (o o' : Option Instance) → o ≡ o' → (x : Running S) (y : Running T) → RunningAlike S T R x y → (f : Instance → Do S) (g : Instance → Do T) → ((i : Instance) → o ≡ Some i → ComesAlike x y (f i) (g i)) → OutcomeAlike S T R (Same {A = Unit {0}}) (and_then (checked_at (found o) x) f) (and_then (checked_at (found o') y) g)
+    found_at : (o o' : Option Instance) → o ≡ o' → (x : Running S) (y : Running T) → RunningAlike S T R x y → (f : Instance → Do S) (g : Instance → Do T) → ((i : Instance) → o ≡ Some i → ComesAlike x y (f i) (g i)) → OutcomeAlike S T R (Same {A = Unit {0}}) (and_then (checked_at (or_no_module o) x) f) (and_then (checked_at (or_no_module o') y) g)
     found_at None None e x y r f g h = ap (λ n. (fault.NoModule, n)) r.left
     found_at (Some i) (Some j) e x y r f g h = let same : i ≡ j = cc in subst (λ (k : Instance). ComesAlike x y (f i) (g k)) same (h i refl)
     found_at None (Some j) e x y r f g h = absurd (cc)
@@ -252,13 +253,13 @@ module _ (S T : Type 0) (on : Offers S) (on' : Offers T) (faithful : IsFaithful 
     points_of c i = map (at c) (count_from 0 (child_of s i.body).external)
 
     external_at_then : (c : Path) (o o' : Option Instance) → o ≡ o' → (x : Running S) (y : Running T) → RunningAlike S T R x y → (f : List IpAddr → Do S) (g : List IpAddr → Do T) → ((i : Instance) → o ≡ Some i → ComesAlike x y (f (points_of c i)) (g (points_of c i)))
-        → OutcomeAlike S T R (Same {A = Unit {0}}) (and_then (and_then (checked_at (found o) x) (λ i. pure (points_of c i))) f) (and_then (and_then (checked_at (found o') y) (λ i. pure (points_of c i))) g)
+        → OutcomeAlike S T R (Same {A = Unit {0}}) (and_then (and_then (checked_at (or_no_module o) x) (λ i. pure (points_of c i))) f) (and_then (and_then (checked_at (or_no_module o') y) (λ i. pure (points_of c i))) g)
     external_at_then c None None e x y r f g h = ap (λ n. (fault.NoModule, n)) r.left
     external_at_then c (Some i) (Some j) e x y r f g h = let same : i ≡ j = cc in subst (λ (k : Instance). ComesAlike x y (f (points_of c i)) (g (points_of c k))) same (h i refl)
     external_at_then c None (Some j) e x y r f g h = absurd (cc)
     external_at_then c (Some i) None e x y r f g h = absurd (cc)
 
-    unlinks : (e : Effect) → IsUnlink e → IsBare e
+    unlinks : (e : StatementEffect) → IsUnlink e → IsBare e
     unlinks (Disconnected a) h = tt
     unlinks (Detached a) h = tt
     unlinks _ h = absurd h
@@ -329,12 +330,12 @@ module _ (S T : Type 0) (on : Offers S) (on' : Offers T) (faithful : IsFaithful 
     -- ---- output
 
     output_at_alike : (p x : Name) (values : List Value) (a : IpAddr) → is_inside m a.path ≡ true → DoesAlike (output_at S on s known p x values a) (output_at T on' s known p x values a)
-    output_at_alike p w values a inside x y r = needs_at (λ c. is_sent_at (point s c.instances a) (known w) && are_values_of (types_of (known w)) values) _ _ x y r (ap (λ o. is_sent_at o (known w) && are_values_of (types_of (known w)) values) (point_alike x.state y.state r.state a inside))
-        (λ allowed. make_at (effect.Output a p.word w.word values) x y r (inside, sent_there (point s (on.core x.state).instances a) (known w) (left_true (is_sent_at (point s (on.core x.state).instances a) (known w)) (are_values_of (types_of (known w)) values) allowed)) tt)
+    output_at_alike p w values a inside x y r = needs_at (λ c. is_sent_at (point s c.instances a) (known w) && are_values_of (types_received (known w)) values) _ _ x y r (ap (λ o. is_sent_at o (known w) && are_values_of (types_received (known w)) values) (point_alike x.state y.state r.state a inside))
+        (λ allowed. make_at (effect.Output a p.word w.word values) x y r (inside, sent_there (point s (on.core x.state).instances a) (known w) (left_true (is_sent_at (point s (on.core x.state).instances a) (known w)) (are_values_of (types_received (known w)) values) allowed)) tt)
 
     output_alike : (here : Environment) (p w : Name) (es : List (Operand S)) (fs : List (Operand T)) → is_inside m here.path ≡ true → EachAlike (OperandAlike S T on on' m R) es fs → DoesAlike (output S on s known here p w es) (output T on' s known here p w fs)
-    output_alike here p w es fs inside h = then_alike S T R (GivenAlike m) (Same {A = Unit {0}}) (give_all (map ByValue (types_of (known w))) es no_arguments) (give_all (map ByValue (types_of (known w))) fs no_arguments) (λ G. spend >>= λ spent. ip_of S on s known here.path (known p) >>= λ a. output_at S on s known p w G.values a) (λ G. spend >>= λ spent. ip_of T on' s known here.path (known p) >>= λ a. output_at T on' s known p w G.values a)
-        (give_all_alike S T on on' m R (map ByValue (types_of (known w))) es fs no_arguments h tt)
+    output_alike here p w es fs inside h = then_alike S T R (GivenAlike m) (Same {A = Unit {0}}) (give_all (map ByValue (types_received (known w))) es no_arguments) (give_all (map ByValue (types_received (known w))) fs no_arguments) (λ G. spend >>= λ spent. ip_of S on s known here.path (known p) >>= λ a. output_at S on s known p w G.values a) (λ G. spend >>= λ spent. ip_of T on' s known here.path (known p) >>= λ a. output_at T on' s known p w G.values a)
+        (give_all_alike S T on on' m R (map ByValue (types_received (known w))) es fs no_arguments h tt)
         (λ g j gj. then_same S T R (Same {A = Unit {0}}) spend spend (λ spent. ip_of S on s known here.path (known p) >>= λ a. output_at S on s known p w g.values a) (λ spent. ip_of T on' s known here.path (known p) >>= λ a. output_at T on' s known p w j.values a) (spend_alike S T R)
         (λ spent. then_alike S T R (PointOf (λ r. is_inside m r ≡ true)) (Same {A = Unit {0}}) (ip_of S on s known here.path (known p)) (ip_of T on' s known here.path (known p)) (λ a. output_at S on s known p w g.values a) (λ a. output_at T on' s known p w j.values a) (ip_of_alike (λ r. is_inside m r ≡ true) here.path (known p) inside)
         (λ a b is. subst (λ (e : IpAddr). DoesAlike (output_at S on s known p w g.values a) (output_at T on' s known p w j.values e)) is.0
@@ -355,7 +356,7 @@ module _ (S T : Type 0) (on : Offers S) (on' : Offers T) (faithful : IsFaithful 
         go true = h (x.left - 1)
         go false = refl
 
-    made_at : (v : Result (Unit {0}) Fault) (e : Effect) (x : Running S) (y : Running T) → RunningAlike S T R x y → CanBeMade s m e (on.core x.state) → IsBare e → ComesAlike x y (checked v >> make S on s known e) (checked v >> make T on' s known e)
+    made_at : (v : Result (Unit {0}) Fault) (e : StatementEffect) (x : Running S) (y : Running T) → RunningAlike S T R x y → CanBeMade s m e (on.core x.state) → IsBare e → ComesAlike x y (checked v >> make S on s known e) (checked v >> make T on' s known e)
     made_at (Ok a) e x y r can bare = make_at e x y r can bare
     made_at (Err f) e x y r can bare = ap (λ n. (f, n)) r.left
 
@@ -363,7 +364,7 @@ module _ (S T : Type 0) (on : Offers S) (on' : Offers T) (faithful : IsFaithful 
         → ComesAlike x y (create S on s known enters here k (child_of s n) values i) (create T on' s known enters' here k (child_of s n) values i)
     create_at enters enters' into here h k n values i x y r there =
         let p : Path = child here.path (suc i.births) in
-        let e : Effect = effect.Create here.path (suc i.births) ((child_of s n).with_parameters values) in
+        let e : StatementEffect = effect.Create here.path (suc i.births) ((child_of s n).with_parameters values) in
         let inside : is_inside m p ≡ true = child_inside m here.path (suc i.births) h in
         and_then_alike S T R (Same {A = Value}) (Same {A = Unit {0}})
         (enters (checked (empty_in (slice_get i.module_variables k)) >> make S on s known e) p (child_of s n).block no_arguments x) (enters' (checked (empty_in (slice_get i.module_variables k)) >> make T on' s known e) p (child_of s n).block no_arguments y)
@@ -397,16 +398,16 @@ module _ (S T : Type 0) (on : Offers S) (on' : Offers T) (faithful : IsFaithful 
     abbrev WithChild : Path → S → T → Type 0
     WithChild c x y = R x y × IsThere (on.core x).instances c
 
-    still_there : (c : Path) (e : Effect) (x : S) → IsUnlink e → IsThere (on.core x).instances c → IsThere (on.core (on.does e x)).instances c
+    still_there : (c : Path) (e : StatementEffect) (x : S) → IsUnlink e → IsThere (on.core x).instances c → IsThere (on.core (on.does e x)).instances c
     unfolding effect.instances_after
     still_there c e x un there = (there.0, subst (λ (d : Core). fin.get d.instances c ≡ Some there.0) (sym (faithful.does_core e x)) (by e un))
       where
-        by : (e : Effect) → IsUnlink e → fin.get (core_after e (on.core x)).instances c ≡ Some there.0
+        by : (e : StatementEffect) → IsUnlink e → fin.get (core_after e (on.core x)).instances c ≡ Some there.0
         by (Disconnected a) un = there.1
         by (Detached a) un = there.1
         by _ un = absurd un
 
-    stays : (c : Path) (d : Effect) (a : S) (b : T) → WithChild c a b → CanBeMade s m d (on.core a) → IsUnlink d → WithChild c (on.does d a) (on'.does d b)
+    stays : (c : Path) (d : StatementEffect) (a : S) (b : T) → WithChild c a b → CanBeMade s m d (on.core a) → IsUnlink d → WithChild c (on.does d a) (on'.does d b)
     stays c d a b q can un = (keeps.made d a b q.0 can (unlinks d un), still_there c d a un q.1)
 
     release_child_alike : (p : Path) → is_inside m p ≡ true → (k n : ℕ) (c : Path) → c ≡ child p n → DoesAlike (release_child S on s known p k c) (release_child T on' s known p k c)
@@ -427,7 +428,7 @@ module _ (S T : Type 0) (on : Offers S) (on' : Offers T) (faithful : IsFaithful 
         (make_at (effect.Remove p (last_of c)) x' y' (record { state = q.state.0; frames = q.frames; left = q.left }) (h, (q.state.1.0, ap (fin.get (on.core x'.state).instances) (ap (child p) number ∙ sym e) ∙ q.state.1.1)) tt)
         (λ u v uv. keep_alike p (Hold k None) h tt)))
       where
-        after : (f : Do S) (g : Do T) (o : Outcome S (Unit {0})) (o' : Outcome T (Unit {0})) → OutcomeAlike S T (WithChild c) (Same {A = Unit {0}}) o o' → ((x' : Running S) (y' : Running T) → RunningAlike S T (WithChild c) x' y' → OutcomeAlike S T R (Same {A = Unit {0}}) (f x') (g y'))
+        after : (f : Do S) (g : Do T) (o : StepResult S (Unit {0})) (o' : StepResult T (Unit {0})) → OutcomeAlike S T (WithChild c) (Same {A = Unit {0}}) o o' → ((x' : Running S) (y' : Running T) → RunningAlike S T (WithChild c) x' y' → OutcomeAlike S T R (Same {A = Unit {0}}) (f x') (g y'))
             → OutcomeAlike S T R (Same {A = Unit {0}}) (and_then o (λ _. f)) (and_then o' (λ _. g))
         after f g (Ok a) (Ok b) h k = k a.1 b.1 h.1
         after f g (Err a) (Err b) h k = h

@@ -14,16 +14,16 @@ use Rattle.estelle_tree.specs.Timers.{Timer, pair_cmp}
 use Rattle.estelle_model.specs.declared.image.Part.{Part}
 use Rattle.estelle_model.specs.declared.image.Image.{Image}
 use Rattle.estelle_model.specs.declared.image.Interaction.{Interaction}
-use Rattle.estelle_model.specs.declared.effect.Effect.{Effect as LoggedEffect}
+use Rattle.estelle_model.specs.declared.effect.Effect.{Effect}
 use Rattle.estelle_model.specs.declared.job.Job.{Job}
 use Rattle.estelle_model.specs.declared.job.Guard.{Guard}
 use Rattle.estelle_model.specs.declared.job.Guard.TheVariants.{Off, Faulted}
-use Rattle.estelle_model.specs.declared.job.Outcome.{Outcome as JobOutcome}
+use Rattle.estelle_model.specs.declared.job.Outcome.{Outcome}
 use Rattle.estelle_model.specs.declared.job.Outcome.TheVariants as outcome
 use Rattle.estelle_model.specs.Core.{Instance, Instances, Core}
-use Rattle.estelle_model.specs.Effects.{Effect}
+use Rattle.estelle_model.specs.Effects.{StatementEffect}
 use Rattle.estelle_model.specs.States.{Logged, on_log}
-use Rattle.estelle_model.specs.Steps.{Outcome, pure, checked}
+use Rattle.estelle_model.specs.Steps.{StepResult, pure, checked}
 use Rattle.estelle_model.specs.Operators.{int_of}
 use Rattle.estelle_model.specs.Places.{module_variables_of}
 use Rattle.estelle_model.specs.Bodies.{BodyAlone}
@@ -41,7 +41,8 @@ use Rattle.estelle_model.proofs.Alike.{Same, RunningAlike, OutcomeAlike, StepAli
 use Rattle.estelle_model.proofs.AlikeOperands.{bool_alike}
 use Rattle.estelle_model.proofs.AlikeActions.{inside_root}
 use Rattle.estelle_model.proofs.AlikeFirings.{situation_is_faithful}
-use Rattle.estelle_model.proofs.Maps.{total, apart, or_else, get_inserted, same_told}
+use Rattle.estelle_model.proofs.Maps.{total, apart, get_inserted, same_told}
+use Rattle.std.specs.Option.{option_or}
 use Rattle.estelle_model.proofs.Members.{contained}
 use Rattle.estelle_model.proofs.PrivateParts.{inside_self, none_else, told_parts, get_inside, core_private, privates_same, remove_empty}
 use Rattle.estelle_model_answers.specs.Laws.{JobsAreAnswered, GuardsAreAnswered}
@@ -62,14 +63,14 @@ module _ (s : Subject) (m : Path) (g : Situation) where
   overlaid_is : (a : Acting) (l : Logged) → R a l → overlaid m (each part_of_entry (map.entries l.image.instances)) (done_by s m (begun g) l.log).situation.core.instances ≡ a.situation.core.instances
   overlaid_is a l r = map.same_map total apart _ _
       (λ q. get_inserted (map.retain_keys z (λ x. not (is_inside m x))) (map.entries l.image.instances) (map.entries_sorted l.image.instances) q
-      ∙ (λ i. or_else (sym (map.get-entries l.image.instances q) i) (others z q i)) ∙ by q (is_inside m q) refl)
+      ∙ (λ i. option_or (sym (map.get-entries l.image.instances q) i) (others z q i)) ∙ by q (is_inside m q) refl)
     where
       z : Instances
       z = (done_by s m (begun g) l.log).situation.core.instances
 
-      by : (q : Path) (b : Bool) → is_inside m q ≡ b → or_else (map.get l.image.instances q) (cond (not b) (map.get z q) None) ≡ map.get a.situation.core.instances q
+      by : (q : Path) (b : Bool) → is_inside m q ≡ b → option_or (map.get l.image.instances q) (cond (not b) (map.get z q) None) ≡ map.get a.situation.core.instances q
       by q true h = none_else (map.get l.image.instances q) ∙ sym (r.inside q h)
-      by q false h = ap (λ o. or_else o (map.get z q)) (r.none q h) ∙ sym (r.outside q h)
+      by q false h = ap (λ o. option_or o (map.get z q)) (r.none q h) ∙ sym (r.outside q h)
 
   below_is : (a : Acting) (l : Logged) → R a l → map.retain_keys a.situation.core.instances (is_inside m) ≡ l.image.instances
   below_is a l r = map.same_map total apart _ _ (λ q. get_inside a.situation.core.instances m q ∙ by q (is_inside m q) refl)
@@ -102,9 +103,9 @@ module _ (s : Subject) (m : Path) (g : Situation) where
         });
       }
 
-  answer_of : (n : ℕ) (x : Outcome Acting (Unit {0})) (y : Outcome Logged (Unit {0})) → OutcomeAlike Acting Logged R (Same {A = Unit {0}}) x y → (out : JobOutcome) (left : ℕ) → IsMadeBy s y out left → IsAnswer s m n g out left (untimed m n (done x))
+  answer_of : (n : ℕ) (x : StepResult Acting (Unit {0})) (y : StepResult Logged (Unit {0})) → OutcomeAlike Acting Logged R (Same {A = Unit {0}}) x y → (out : Outcome) (left : ℕ) → IsMadeBy s y out left → IsAnswer s m n g out left (untimed m n (done x))
   answer_of n (Ok r) (Ok q) h (outcome.Ran image effects) left made =
-      subst (λ (es : List LoggedEffect). IsPut s m n g image es left (untimed m n (ran r.1.state r.1.left))) (sym made.1)
+      subst (λ (es : List Effect). IsPut s m n g image es left (untimed m n (ran r.1.state r.1.left))) (sym made.1)
       (subst (λ (k : ℕ). IsPut s m n g image (all_logged s q.1.state.log) left (untimed m n (ran r.1.state k))) (made.2 ∙ sym h.1.left) (put_of n r.1.state q.1.state h.1.state image made.0 left))
   answer_of n (Err e) (Err x) h (outcome.Faulted kind) left made = ap (λ p. Failed p.0 p.1) h ∙ ap (λ k. Failed k x.1) (sym made.0) ∙ ap (λ u. Failed kind u) (sym made.1)
   answer_of n (Ok r) (Ok q) h (outcome.Faulted kind) left made = absurd made
@@ -178,7 +179,7 @@ module _ (s : Subject) (m : Path) (g : Situation) where
         (λ holds. cond holds (delay_step Acting on_situation s m t vs timed t.delay) (pure Off)) (λ holds. cond holds (delay_step Logged on_log s m t vs timed t.delay) (pure Off)) (provided_alike t.provided)
         (λ holds. if_alike Acting Logged R (Same {A = Guard}) holds (delay_step Acting on_situation s m t vs timed t.delay) (pure Off) (delay_step Logged on_log s m t vs timed t.delay) (pure Off) (delay_alike timed t.delay) (pure_alike Acting Logged R (Same {A = Guard}) Off Off refl))
 
-  same_answer : (x : Outcome Acting Guard) (y : Outcome Logged Guard) → OutcomeAlike Acting Logged R (Same {A = Guard}) x y → answered x ≡ answered y
+  same_answer : (x : StepResult Acting Guard) (y : StepResult Logged Guard) → OutcomeAlike Acting Logged R (Same {A = Guard}) x y → answered x ≡ answered y
   same_answer (Ok r) (Ok q) h = h.0
   same_answer (Err e) (Err x) h = ap (λ y. Faulted y.0) h
   same_answer (Ok r) (Err x) h = absurd h
@@ -189,7 +190,7 @@ module _ (s : Subject) (m : Path) (g : Situation) where
 
 -- ---- firings
 
-module _ (s : Subject) (job : Job) (n : ℕ) (out : JobOutcome) (left : ℕ) where
+module _ (s : Subject) (job : Job) (n : ℕ) (out : Outcome) (left : ℕ) where
   fired_in : (g : Situation) → MayActAlone s g.core job.path → Shows job.image (private s g.core job.path) → (t : Transition) → IsMadeBy s (job_run s job t) out left
       → IsAnswer s job.path n g out left (untimed job.path n (done (fire_step Acting on_situation s job.path t (values_of job.head) (fresh (begun g) job.budget))))
   fired_in g may shows t made = answer_of s job.path g n _ _
@@ -242,7 +243,7 @@ root_alone s = record {
 all_inside : (x : Instances) → x ≡ map.retain_keys x (is_inside [])
 all_inside x = map.same_map total apart _ _ (λ q. sym (get_inside x [] q ∙ ap (λ b. cond b (map.get x q) None) (inside_root q)))
 
-timers_stay : (log : List Effect) (a : Acting) → (after_all log a).situation.timers ≡ a.situation.timers
+timers_stay : (log : List StatementEffect) (a : Acting) → (after_all log a).situation.timers ≡ a.situation.timers
 timers_stay [] a = refl
 timers_stay (e ∷ es) a = timers_stay es (acting_after e a)
 
@@ -255,7 +256,7 @@ module _ (s : Subject) where
       (λ _. enter_state_alike Acting Logged on_situation on_log situation_is_faithful s [] (R s [] (bare s)) (Keeps s [] (bare s)) (meant s) [] (begins s 0).to (inside_root []))
 
   -- where no timer runs, none is dropped
-  untimed_start : (x : Outcome Acting (Unit {0})) (y : Outcome Logged (Unit {0})) → OutcomeAlike Acting Logged (R s [] (bare s)) (Same {A = Unit {0}}) x y → untimed [] 0 (done x) ≡ done x
+  untimed_start : (x : StepResult Acting (Unit {0})) (y : StepResult Logged (Unit {0})) → OutcomeAlike Acting Logged (R s [] (bare s)) (Same {A = Unit {0}}) x y → untimed [] 0 (done x) ≡ done x
   untimed_start (Ok r) (Ok q) h =
       let none : r.1.state.situation.timers ≡ map.empty = ap (λ (a : Acting). a.situation.timers) h.1.state.rest ∙ timers_stay q.1.state.log (begun (bare s)) in
       ap (λ (t : map.FinMap pair_cmp Timer). Ran (record r.1.state.situation { timers = t }) r.1.state.outs r.1.state.drops r.1.left)
@@ -264,14 +265,14 @@ module _ (s : Subject) where
   untimed_start (Ok r) (Err x) h = absurd h
   untimed_start (Err e) (Ok q) h = absurd h
 
-  start_answers : (budget : ℕ) (out : JobOutcome) (left : ℕ) → IsMadeBy s (start_run s budget) out left → IsAnswer s [] 0 (bare s) out left (start s budget)
+  start_answers : (budget : ℕ) (out : Outcome) (left : ℕ) → IsMadeBy s (start_run s budget) out left → IsAnswer s [] 0 (bare s) out left (start s budget)
   start_answers budget out left made =
       let alike = start_alike (fresh (begun (bare s)) budget) (fresh (log_from (bare s).core) budget) (begins_alike s [] (bare s) (root_alone s) (bare s).core refl (all_inside (bare s).core.instances) (IsPermutation-refl []) budget) in
       subst (λ (f : Firing). IsAnswer s [] 0 (bare s) out left f) (untimed_start _ _ alike) (answer_of s [] (bare s) 0 _ _ alike out left made)
 
 -- ---- both
 
-answers_at : (s : Subject) (job : Job) (k : ℕ) (out : JobOutcome) (left : ℕ) → IsComputedOf s job k out left → AnswersAt s job k out left
+answers_at : (s : Subject) (job : Job) (k : ℕ) (out : Outcome) (left : ℕ) → IsComputedOf s job k out left → AnswersAt s job k out left
 answers_at s job zero out left made = start_answers s job.budget out left made
 answers_at s job (suc k) out left made = λ g i. fire_answers s job job.trans out left g i.legal i.private i.head made
 

@@ -7,7 +7,7 @@ use Rattle.std.proofs.lemmas.List.Sums.{fold-append}
 use Rattle.estelle_tree.specs.declared.link.IpAddr.{IpAddr}
 use Rattle.estelle_tree.specs.Paths.{Path, path_cmp, child, is_inside}
 use Rattle.estelle_model.specs.Core.{Instance, Instances, Core}
-use Rattle.estelle_model.specs.Effects.{Effect, Output, Connect, Disconnect, Attach, Detach, Create, Remove, Change, Store, Hold, Enter, changed, changed_in, instances_after}
+use Rattle.estelle_model.specs.Effects.{StatementEffect, Output, Connect, Disconnect, Attach, Detach, Create, Remove, Change, Store, Hold, Enter, changed, changed_in, instances_after}
 use Rattle.estelle_model.specs.States.{Logged, on_log}
 use Rattle.estelle_model.specs.Places.{module_variables_of}
 use Rattle.estelle_model.specs.Subject.{Subject}
@@ -54,7 +54,7 @@ module _ (s : Subject) (m : Path) (c d : Core) (outlines : (q : Path) → outlin
   attach_same : (a b : IpAddr) → MayBeAttached s m c.instances a b → MayBeAttached s m d.instances a b
   attach_same a b h = record { inside = h.inside; number = h.number; below = h.below; allowed = sym (λ i. may_attach_points (points_same a i) (points_same b i)) ∙ h.allowed }
 
-  pub can_same : (e : Effect) → CanBeMade s m e c → CanBeMade s m e d
+  pub can_same : (e : StatementEffect) → CanBeMade s m e c → CanBeMade s m e d
   can_same (Output from ip name vs) h = (h.0, (h.1.0, sym (points_same from) ∙ h.1.1))
   can_same (Connect a b) h = (connect_same a b h.0, ap (is_bound a) (sym links) ∙ h.1, ap (is_bound b) (sym links) ∙ h.2)
   can_same (Disconnect a) h = (h.0, ap (is_connected a) (sym links) ∙ h.1)
@@ -63,7 +63,7 @@ module _ (s : Subject) (m : Path) (c d : Core) (outlines : (q : Path) → outlin
   can_same (Create p k i) h = let t = there_same (map.get c.instances p) (map.get d.instances p) (outlines p) h.1.0 h.1.1 in (h.0, (t.0, t.1, h.1.2 ∙ ap suc t.2), h.2)
   can_same (Remove p k) h = let t = there_same (map.get c.instances (child p k)) (map.get d.instances (child p k)) (outlines (child p k)) h.1.0 h.1.1 in (h.0, (t.0, t.1))
 
-can_more : (s : Subject) (m : Path) (log : List Effect) (a : Acting) (e : Effect) → CanAllBeMade s m log a → CanBeMade s m e (after_all log a).situation.core → CanAllBeMade s m (log ++ e ∷ []) a
+can_more : (s : Subject) (m : Path) (log : List StatementEffect) (a : Acting) (e : StatementEffect) → CanAllBeMade s m log a → CanBeMade s m e (after_all log a).situation.core → CanAllBeMade s m (log ++ e ∷ []) a
 can_more s m [] a e h k = (k, tt)
 can_more s m (f ∷ log) a e h k = (h.0, can_more s m log (acting_after f a) e h.1 k)
 
@@ -99,7 +99,7 @@ abbrev pub with_instances : Instances → Acting → Acting
 with_instances x a = record a { situation = record a.situation { core = record a.situation.core { instances = x } } }
 
 module _ (s : Subject) (m : Path) (base : Acting) where
-  abbrev pub done_by : List Effect → Acting
+  abbrev pub done_by : List StatementEffect → Acting
   done_by log = after_all log base
 
   -- The log's effects can be made, and all but the records at and below m is what they make of the situation at the beginning; the log shows the private part.
@@ -116,10 +116,10 @@ module _ (s : Subject) (m : Path) (base : Acting) where
     pub tied : AreTied (is_below_or_own s base.situation.core.instances m) m a.situation.core.links
     pub private : IsPermutation l.image.links (filter (is_private s base.situation.core.instances m) a.situation.core.links)
 
-  log_more : (log : List Effect) (e : Effect) → done_by (log ++ e ∷ []) ≡ acting_after e (done_by log)
+  log_more : (log : List StatementEffect) (e : StatementEffect) → done_by (log ++ e ∷ []) ≡ acting_after e (done_by log)
   log_more log e = fold-append (λ b f. acting_after f b) base log (e ∷ [])
 
-  made_follows : (e : Effect) (a : Acting) (l : Logged) → Follows a l → CanBeMade s m e a.situation.core → IsBare e → Follows (acting_after e a) (on_log.does e l)
+  made_follows : (e : StatementEffect) (a : Acting) (l : Logged) → Follows a l → CanBeMade s m e a.situation.core → IsBare e → Follows (acting_after e a) (on_log.does e l)
   made_follows e a l r can bare =
       let x : Instances = a.situation.core.instances in
       let z : Instances = (done_by l.log).situation.core.instances in

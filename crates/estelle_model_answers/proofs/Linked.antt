@@ -11,7 +11,7 @@ use Rattle.estelle_tree.specs.declared.link.Link.{Link}
 use Rattle.estelle_tree.specs.Paths.{Path, child, is_inside}
 use Rattle.estelle_tree.specs.Links.{same_ip, joins, is_connection, is_lower_of, is_upper_of, touches, above, connection, attachment}
 use Rattle.estelle_model.specs.Core.{Instances, Core}
-use Rattle.estelle_model.specs.Effects.{Effect, Output, Connect, Disconnect, Attach, Detach, Create, Remove, links_after}
+use Rattle.estelle_model.specs.Effects.{StatementEffect, Output, Connect, Disconnect, Attach, Detach, Create, Remove, links_after}
 use Rattle.estelle_model.specs.Subject.{Subject}
 use Rattle.estelle_model.specs.InteractionPoints.{point, may_join, connectable_at}
 use Rattle.estelle_model.specs.Actions.{is_bound, is_connected, is_upper}
@@ -116,7 +116,7 @@ module _ (s : Subject) (base : Instances) (m : Path) where
       by_once c l n is also (inl h) (inr (inr k)) = absurd k
       by_once c l n is also (inr (inl e)) (inr (inr k)) = absurd k
 
-  pub tied_after : (e : Effect) (c : Core) → CanBeMade s m e c → AreTied own m c.links → AreTied own m (links_after e c.links)
+  pub tied_after : (e : StatementEffect) (c : Core) → CanBeMade s m e c → AreTied own m c.links → AreTied own m (links_after e c.links)
   unfolding links_after
   tied_after (Output from ip name vs) c can t = t
   tied_after (Connect a b) c can t = connected_tied c.links a b t
@@ -136,7 +136,7 @@ module _ (s : Subject) (base : Instances) (m : Path) where
       (sym (filter-append mine links (l ∷ []) ∙ ap (λ b. filter mine links ++ cond b (l ∷ []) []) is)) (IsPermutation-append_left (l ∷ []) image (filter mine links) h)
 
   -- own_same : the points that m links are the same now as at the beginning
-  pub private_after : (e : Effect) (c : Core) → ((a : IpAddr) → is_below_or_own s c.instances m a ≡ own a) → CanBeMade s m e c → (image : List Link) → IsPermutation image (filter mine c.links) → IsPermutation (links_after e image) (filter mine (links_after e c.links))
+  pub private_after : (e : StatementEffect) (c : Core) → ((a : IpAddr) → is_below_or_own s c.instances m a ≡ own a) → CanBeMade s m e c → (image : List Link) → IsPermutation image (filter mine c.links) → IsPermutation (links_after e image) (filter mine (links_after e c.links))
   unfolding links_after
   private_after (Output from ip name vs) c same can image h = h
   private_after (Connect a b) c same can image h = added_private (connection a b) image c.links

@@ -48,7 +48,7 @@ module _ (s : Subject) (g : Situation) (job : Job) (in_it : IsJobIn s g job) whe
 
 -- ---- something is computed of each job
 
-computed : (s : Subject) (o : step.Outcome Logged (Unit {0})) → (out : Outcome) × (left : ℕ) × IsMadeBy s o out left
+computed : (s : Subject) (o : step.StepResult Logged (Unit {0})) → (out : Outcome) × (left : ℕ) × IsMadeBy s o out left
 computed s (Ok r) = (Ran (image_of r.1.state.image) (all_logged s r.1.state.log), r.1.left, (record { parts = refl; links = IsPermutation-refl r.1.state.image.links }, refl, refl))
 computed s (Err e) = (Faulted e.0, e.1, (refl, refl))
 

@@ -10,7 +10,7 @@ use Rattle.estelle_tree.specs.declared.transition.Pair.{Pair}
 use Rattle.estelle_tree.specs.Paths.{Path, is_inside}
 use Rattle.estelle_tree.specs.Timers.{pair}
 use Rattle.estelle_model.specs.declared.effect.Out.{Out}
-use Rattle.estelle_model.specs.declared.effect.Effect.{Effect as LoggedEffect}
+use Rattle.estelle_model.specs.declared.effect.Effect.{Effect}
 use Rattle.estelle_model.specs.declared.event.Event.TheVariants.{Start, Select, Fire, Fault}
 use Rattle.estelle_model.specs.declared.image.Image.{Image}
 use Rattle.estelle_model.specs.declared.job.Outcome.{Outcome}
@@ -105,7 +105,7 @@ module _ (s : Subject) (leads : LeadsToStates s) (budget : ℕ) (g : Situation) 
   abbrev taken_there : Situation
   taken_there = taken_by s g q at_it
 
-  module _ (image : Image) (effects : List LoggedEffect) (left : ℕ) (p : IsPut s q k taken_there image effects left (fire s budget g q k)) where
+  module _ (image : Image) (effects : List Effect) (left : ℕ) (p : IsPut s q k taken_there image effects left (fire s budget g q k)) where
     abbrev acting : Acting
     acting = put q p.log image.parts (begun taken_there)
 

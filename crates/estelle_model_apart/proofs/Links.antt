@@ -11,7 +11,7 @@ use Rattle.estelle_tree.specs.Paths.{Path, child, is_inside}
 use Rattle.estelle_tree.specs.Links.{same_ip, is_connection, joins, is_upper_of, touches, connection, attachment}
 use Rattle.estelle_model.specs.declared.meaning.InteractionPoint.{InteractionPoint}
 use Rattle.estelle_model.specs.Core.{Instances, Core}
-use Rattle.estelle_model.specs.Effects.{Effect, Output, Connect, Disconnect, Attach, Detach, Create, Remove, links_after}
+use Rattle.estelle_model.specs.Effects.{StatementEffect, Output, Connect, Disconnect, Attach, Detach, Create, Remove, links_after}
 use Rattle.estelle_model.specs.Subject.{Subject}
 use Rattle.estelle_model.specs.InteractionPoints.{point, may_join, connectable_at, internal_at}
 use Rattle.estelle_model.specs.Situation.{Acting, acting_after}
@@ -125,7 +125,7 @@ module _ (s : Subject) (x : Instances) (q : Path) where
     abbrev EndInside : List Link → Type 0
     EndInside links = (l : Link) → Among l (filter mine links) → AreInside l.first l.second
 
-    links_by : (e : Effect) (c : Core) → CanBeMade s m e c → EndInside c.links → filter mine (links_after e c.links) ≡ filter mine c.links
+    links_by : (e : StatementEffect) (c : Core) → CanBeMade s m e c → EndInside c.links → filter mine (links_after e c.links) ≡ filter mine c.links
     unfolding links_after
     links_by (Output from ip name values) c can ends = refl
     links_by (Connect a b) c can ends =
@@ -136,7 +136,7 @@ module _ (s : Subject) (x : Instances) (q : Path) where
     links_by (Create p k i) c can ends = refl
     links_by (Remove p k) c can ends = passed_kept mine (λ l. not (touches (child p k) l)) c.links (λ l h. not_touched (child p k) l (inside_child m p k can.0) (ends l h))
 
-    pub links_stay : (es : List Effect) (a : Acting) → CanAllBeMade s m es a → EndInside a.situation.core.links → filter mine (after_all es a).situation.core.links ≡ filter mine a.situation.core.links
+    pub links_stay : (es : List StatementEffect) (a : Acting) → CanAllBeMade s m es a → EndInside a.situation.core.links → filter mine (after_all es a).situation.core.links ≡ filter mine a.situation.core.links
     links_stay [] a can ends = refl
     links_stay (e ∷ es) a can ends =
         let first = links_by e a.situation.core can.0 ends in

@@ -3,7 +3,7 @@ use Rattle.std.proofs.Common.{◌≡◌, ℕ, Bool, true, false, List, Option, N
 use Rattle.std.specs.Prelude.{filter}
 use Rattle.std.specs.FinMap as map
 use Rattle.estelle_tree.specs.Paths.{Path, is_inside}
-use Rattle.estelle_model.specs.declared.effect.Effect.{Effect as LoggedEffect}
+use Rattle.estelle_model.specs.declared.effect.Effect.{Effect}
 use Rattle.estelle_model.specs.declared.image.Image.{Image}
 use Rattle.estelle_model.specs.Core.{Instance, Core}
 use Rattle.estelle_model.specs.Subject.{Subject}
@@ -22,7 +22,7 @@ found_alike true x y h = h refl
 found_alike false x y h = refl
 
 module _ (s : Subject) (g h : Situation) (same : h.core ≡ g.core) (linked : MayBeLinked s g.core.instances g.core.links)
-    (m : Path) (n : ℕ) (image : Image) (effects : List LoggedEffect) (left : ℕ) (f : Firing) (p : IsPut s m n h image effects left f) where
+    (m : Path) (n : ℕ) (image : Image) (effects : List Effect) (left : ℕ) (f : Firing) (p : IsPut s m n h image effects left f) where
   -- the firing begins with these instances and links, and ends with those
   abbrev after : Core
   after = (put m p.log image.parts (begun h)).situation.core

@@ -1,7 +1,7 @@
 -- What effects, and the taking of a head, leave as it was.
 use Rattle.std.proofs.Common.{◌≡◌, List, [], ◌∷◌, Option, Some, None, refl}
 use Rattle.estelle_tree.specs.Paths.{Path}
-use Rattle.estelle_model.specs.Effects.{Effect}
+use Rattle.estelle_model.specs.Effects.{StatementEffect}
 use Rattle.estelle_model.specs.Transitions.{Transition, When}
 use Rattle.estelle_model.specs.Subject.{Subject}
 use Rattle.estelle_model.specs.Situation.{Situation, Acting, acting_after}
@@ -14,7 +14,7 @@ pub record SameRest (g h : Situation) : Type 0 where
   pub now : h.now ≡ g.now
   pub pending : h.pending ≡ g.pending
 
-pub all_rest : (es : List Effect) (a : Acting) → SameRest a.situation (after_all es a).situation
+pub all_rest : (es : List StatementEffect) (a : Acting) → SameRest a.situation (after_all es a).situation
 all_rest [] a = record { timers = refl; now = refl; pending = refl }
 all_rest (e ∷ es) a = let r = all_rest es (acting_after e a) in record { timers = r.timers; now = r.now; pending = r.pending }
 

@@ -16,7 +16,7 @@ use Rattle.estelle_model.specs.Subject.{Subject}
 use Rattle.estelle_model.specs.Situation.{Situation}
 use Rattle.estelle_model.specs.Firing.{Firing, Ran, Failed, Undefined, start, bare}
 use Rattle.estelle_model.specs.Jobs.{private}
-use Rattle.estelle_model.specs.Runs.{same_pair, next, Applies, Goes, Begins, IsRun, after_all, started, after_first, situation}
+use Rattle.estelle_model.specs.Runs.{same_pair, next, Applies, Goes, Begins, IsRun, after_events, started, after_first, situation}
 use Rattle.estelle_model_legality.specs.Instances.{LeadsToStates}
 use Rattle.estelle_model_legality.specs.Keeping.{IsStarted}
 use Rattle.estelle_model_legality.specs.Situations.{IsLegal}
@@ -43,7 +43,7 @@ pub many_leave : ManyLeaveTheApart
 many_leave s leads budget g legal m n pending [] goes apart = finds_itself s m n g pending
 many_leave s leads budget g legal m n pending (e ∷ es) goes apart =
     let first = events_leave s leads budget g legal m n pending e goes.0 apart.0 in
-    finds_then s m n g (next s budget g e) (after_all s budget (next s budget g e) es) first
+    finds_then s m n g (next s budget g e) (after_events s budget (next s budget g e) es) first
     (many_leave s leads budget (next s budget g e) (events_keep s leads budget g legal e goes.0) m n first.pending es goes.2 apart.1)
 
 -- ---- which events there are
@@ -85,27 +85,27 @@ module _ (s : Subject) (leads : LeadsToStates s) (budget : ℕ) (m : Path) (n : 
     pub legal : IsLegal s later
     pub same : FindsTheSame s m n earlier later
 
-  others_leave : (g : Situation) → IsLegal s g → Contains g.pending (pair m n) → (es : List Event) → Goes s budget g es → AllByRecursion (IsOther m n) es → FindsLegally g (after_all s budget g es)
+  others_leave : (g : Situation) → IsLegal s g → Contains g.pending (pair m n) → (es : List Event) → Goes s budget g es → AllByRecursion (IsOther m n) es → FindsLegally g (after_events s budget g es)
   others_leave g legal pending [] goes others = record { legal = legal; same = finds_itself s m n g pending }
   others_leave g legal pending (e ∷ es) goes others =
       let first = other_leaves g legal pending e goes.0 others.0 in
       let rest = others_leave (next s budget g e) (events_keep s leads budget g legal e goes.0) first.pending es goes.2 others.1 in
-      record { legal = rest.legal; same = finds_then s m n g (next s budget g e) (after_all s budget (next s budget g e) es) first rest.same }
+      record { legal = rest.legal; same = finds_then s m n g (next s budget g e) (after_events s budget (next s budget g e) es) first rest.same }
 
   -- the events of a run up to some situation, and those behind it
-  goes_behind : (g : Situation) (es more : List Event) → Goes s budget g (es ++ more) → Goes s budget (after_all s budget g es) more
+  goes_behind : (g : Situation) (es more : List Event) → Goes s budget g (es ++ more) → Goes s budget (after_events s budget g es) more
   goes_behind g [] more goes = goes
   goes_behind g (e ∷ es) more goes = goes_behind (next s budget g e) es more goes.2
 
-  legal_behind : (g : Situation) → IsLegal s g → (es more : List Event) → Goes s budget g (es ++ more) → IsLegal s (after_all s budget g es)
+  legal_behind : (g : Situation) → IsLegal s g → (es more : List Event) → Goes s budget g (es ++ more) → IsLegal s (after_events s budget g es)
   legal_behind g legal [] more goes = legal
   legal_behind g legal (e ∷ es) more goes = legal_behind (next s budget g e) (events_keep s leads budget g legal e goes.0) es more goes.2
 
-  behind : (g : Situation) → IsLegal s g → (es more : List Event) → Goes s budget g (es ++ more) → Contains (after_all s budget g es).pending (pair m n) → AllByRecursion (IsOther m n) more
-      → FindsLegally (after_all s budget g es) (after_all s budget g (es ++ more))
+  behind : (g : Situation) → IsLegal s g → (es more : List Event) → Goes s budget g (es ++ more) → Contains (after_events s budget g es).pending (pair m n) → AllByRecursion (IsOther m n) more
+      → FindsLegally (after_events s budget g es) (after_events s budget g (es ++ more))
   behind g legal es more goes pending others =
-      subst (FindsLegally (after_all s budget g es)) (sym (fold-append (next s budget) g es more))
-      (others_leave (after_all s budget g es) (legal_behind g legal es more goes) pending more (goes_behind g es more goes) others)
+      subst (FindsLegally (after_events s budget g es)) (sym (fold-append (next s budget) g es more))
+      (others_leave (after_events s budget g es) (legal_behind g legal es more goes) pending more (goes_behind g es more goes) others)
 
   -- ---- from the start on
 
@@ -127,7 +127,7 @@ module _ (s : Subject) (leads : LeadsToStates s) (budget : ℕ) (m : Path) (n : 
   none_of_bare : Contains (bare s).pending (pair m n) → ⊥
   none_of_bare there = in_none Pair (pair m n) there
 
-  none_after : (es more : List Event) → es ++ more ≡ [] → Contains (after_all s budget (bare s) es).pending (pair m n) → ⊥
+  none_after : (es more : List Event) → es ++ more ≡ [] → Contains (after_events s budget (bare s) es).pending (pair m n) → ⊥
   none_after [] more none there = none_of_bare there
   none_after (e ∷ es) more none there = absurd (cc)
 

@@ -11,7 +11,7 @@ use Rattle.estelle_model.specs.Situation.{Situation}
 use Rattle.estelle_model.specs.Queues.{Found}
 use Rattle.estelle_model.specs.Firing.{transition_at}
 use Rattle.estelle_model.specs.Jobs.{private, received_by}
-use Rattle.estelle_model.specs.Runs.{same_pair, next, Applies, Goes, IsRun, after_all, situation}
+use Rattle.estelle_model.specs.Runs.{same_pair, next, Applies, Goes, IsRun, after_events, situation}
 use Rattle.estelle_model_legality.specs.Instances.{LeadsToStates}
 use Rattle.estelle_model_legality.specs.Situations.{IsLegal}
 
@@ -63,7 +63,7 @@ EventsLeaveTheApart = (s : Subject) → LeadsToStates s → (budget : ℕ) (g : 
 -- and so do any number of them
 abbrev pub ManyLeaveTheApart : Type 0
 ManyLeaveTheApart = (s : Subject) → LeadsToStates s → (budget : ℕ) (g : Situation) → IsLegal s g → (m : Path) (n : ℕ) → Contains g.pending (pair m n)
-    → (events : List Event) → Goes s budget g events → AllByRecursion (IsApartFrom m) events → FindsTheSame s m n g (after_all s budget g events)
+    → (events : List Event) → Goes s budget g events → AllByRecursion (IsApartFrom m) events → FindsTheSame s m n g (after_events s budget g events)
 
 -- while a firing is pending, every event that applies and is not that firing is apart from it, or a fault
 abbrev pub EventsAreApart : Type 0

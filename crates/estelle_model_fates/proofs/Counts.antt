@@ -8,7 +8,7 @@ use Rattle.estelle_tree.specs.Queues.{waits_at, waits_inside, brought_to, moved,
 use Rattle.estelle_tree.specs.Links.{bottom, route, attachment}
 use Rattle.estelle_model.specs.declared.effect.Out.{Out}
 use Rattle.estelle_model.specs.declared.image.Interaction.{Interaction}
-use Rattle.estelle_model.specs.Effects.{Effect, Output, Connect, Disconnect, Attach, Detach, Create, Remove}
+use Rattle.estelle_model.specs.Effects.{StatementEffect, Output, Connect, Disconnect, Attach, Detach, Create, Remove}
 use Rattle.estelle_model.specs.Situation.{Waiting, Acting, on_situation, acting_after, put_number, arrived, mail_after, made_after, outs_after, drops_after}
 use Rattle.estelle_model.specs.Queues.{Head, Absent, head_at}
 use Rattle.estelle_model_fates.specs.Fates.{numbers, lost_after, Fate, times}
@@ -137,7 +137,7 @@ module _ (i before : ℕ) (mail : List Waiting) where
       let m : one_if i item.number ≡ one_if i (suc a.situation.made) = ap (λ (n : ℕ). one_if i n) number in
       omega (arith, e, l, g, m)
 
-  after : (e : Effect) (a : Acting) → IsCounted i before mail a → IsCounted i before mail (acting_after e a)
+  after : (e : StatementEffect) (a : Acting) → IsCounted i before mail a → IsCounted i before mail (acting_after e a)
   unfolding mail_after made_after outs_after drops_after
   after (Output from ip name values) a h = record {
     made = let x = h.made in let l = length_append_one a.outs (record { path = from.path; ip = ip; name = name; values = values; lost = is_none (route a.situation.core.links from) }) in omega (arith, x, l);

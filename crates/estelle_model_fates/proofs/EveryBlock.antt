@@ -13,13 +13,13 @@ use Rattle.estelle_tree.specs.Paths.{Path, child, last_of}
 use Rattle.estelle_tree.specs.Links.{above}
 use Rattle.estelle_model.specs.Core.{Instance, Core}
 use Rattle.estelle_model.specs.InteractionPoints.{point, connectable_at, external_at, may_connect, may_attach}
-use Rattle.estelle_model.specs.Effects.{Effect, Change, Store, Hold, Enter}
+use Rattle.estelle_model.specs.Effects.{StatementEffect, Change, Store, Hold, Enter}
 use Rattle.estelle_model.specs.Effects as effect
 use Rattle.estelle_model.specs.States.{Offers}
 use Rattle.estelle_model.specs.Jobs.{IsNextOf}
 use Rattle.estelle_model.specs.Transitions.{Transition}
 use Rattle.estelle_model.specs.Clauses.{fire_step, start_step}
-use Rattle.estelle_model.specs.Steps.{Running, Outcome, Do, and_then, ◌>>=◌, ◌>>◌, pure, checked, checked_at, spend}
+use Rattle.estelle_model.specs.Steps.{Running, StepResult, Do, and_then, ◌>>=◌, ◌>>◌, pure, checked, checked_at, spend}
 use Rattle.estelle_model.specs.declared.meaning.Passing.TheVariants.{ByValue}
 use Rattle.estelle_model.specs.declared.meaning.Routine.{Routine}
 use Rattle.estelle_model.specs.declared.meaning.Meaning.{Meaning}
@@ -34,7 +34,8 @@ use Rattle.estelle_model.specs.Statements.{Init, Release, Connect, Disconnect, A
 use Rattle.estelle_model.specs.Calls.{Enters}
 use Rattle.estelle_model.specs.Blocks.{fresh, block_step}
 use Rattle.estelle_model.specs.Subject.{Subject, Child, child_of, meant, meant_with, of_block, begins}
-use Rattle.estelle_model.specs.Actions.{is_bound, is_connected, is_upper, at, count_from, instance_at, found, types_of, empty_in, make, keep, read, fails_if, no_such, child_in, ip_of, part_of_child, ip_named, needs, is_sent_at, may_hold, connect_points, connect, disconnect_one, disconnect_if, detach_above, detach_if, for_each, external, disconnect_child, disconnect_point, disconnect_of, attach_points, attach, detach_point, detach, output_at, output, enter_state, create, init, init_of, release_child, release, act}
+use Rattle.estelle_model.specs.Actions.{is_bound, is_connected, is_upper, at, count_from, instance_at, or_no_module, empty_in, make, keep, read, fails_if, no_such, child_in, ip_of, part_of_child, ip_named, needs, is_sent_at, may_hold, connect_points, connect, disconnect_one, disconnect_if, detach_above, detach_if, for_each, external, disconnect_child, disconnect_point, disconnect_of, attach_points, attach, detach_point, detach, output_at, output, enter_state, create, init, init_of, release_child, release, act}
+use Rattle.estelle_model.specs.Definitions.{types_received}
 use Rattle.estelle_model.proofs.Alike.{Same, EachAlike, RunningAlike, OutcomeAlike, StepAlike, DoAlike, and_then_alike, then_alike, then_same, pure_alike, fail_alike, checked_alike, if_alike, spend_alike}
 use Rattle.estelle_model.proofs.AlikePlaces.{ShowAlike}
 use Rattle.estelle_model.proofs.AlikeOperands.{GivenAlike, OperandAlike, give_all_alike}
@@ -43,14 +44,14 @@ use Rattle.estelle_model.proofs.AlikeCalls.{EntersAlike, ActsAlike, block_alike}
 use Rattle.estelle_model.proofs.AlikeActions.{inside_root}
 
 -- a child is made with the next birth number of an instance that is there
-abbrev pub MayBeMade : Effect → Core → Type 0
+abbrev pub MayBeMade : StatementEffect → Core → Type 0
 MayBeMade (effect.Create p k i) c = IsNextOf c.instances p k
 MayBeMade _ c = Unit {0}
 
 -- what each effect and each change keeps of two states that show the same instances and links
 pub record IsKept (S T : Type 0) (on : Offers S) (on' : Offers T) (R : S → T → Type 0) : Type 0 where
   pub cores : (s : S) (t : T) → R s t → on.core s ≡ on'.core t
-  pub does : (e : Effect) (s : S) (t : T) → MayBeMade e (on.core s) → R s t → R (on.does e s) (on'.does e t)
+  pub does : (e : StatementEffect) (s : S) (t : T) → MayBeMade e (on.core s) → R s t → R (on.does e s) (on'.does e t)
   pub keeps : (p : Path) (change : Change) (s : S) (t : T) → R s t → R (on.keeps p change s) (on'.keeps p change t)
 
 module _ (S T : Type 0) (on : Offers S) (on' : Offers T) (R : S → T → Type 0) (kept : IsKept S T on on' R) where
@@ -66,7 +67,7 @@ module _ (S T : Type 0) (on : Offers S) (on' : Offers T) (R : S → T → Type 0
     read_alike : {A : Type 0} (x : Core → Result A Fault) → StepAlike S T R (Same {A = A}) (read S on subject meant x) (read T on' subject meant x)
     read_alike {A} x s t r = subst (λ (c : Core). OutcomeAlike S T R (Same {A = A}) (checked_at (x (on.core s.state)) s) (checked_at (x c) t)) (kept.cores s.state t.state r.state) (checked_alike S T R (x (on.core s.state)) s t r)
 
-    make_alike : (e : Effect) → ((c : Core) → MayBeMade e c) → DoAlike S T R (make S on subject meant e) (make T on' subject meant e)
+    make_alike : (e : StatementEffect) → ((c : Core) → MayBeMade e c) → DoAlike S T R (make S on subject meant e) (make T on' subject meant e)
     make_alike e may s t r = (refl, record { state = kept.does e s.state t.state (may (on.core s.state)) r.state; frames = r.frames; left = r.left })
 
     keep_alike : (p : Path) (change : Change) → DoAlike S T R (keep S on subject meant p change) (keep T on' subject meant p change)
@@ -106,7 +107,7 @@ module _ (S T : Type 0) (on : Offers S) (on' : Offers T) (R : S → T → Type 0
     with_links f g h = then_same S T R (Same {A = Unit {0}}) (read S on subject meant (λ c. Ok c.links)) (read T on' subject meant (λ c. Ok c.links)) f g (read_alike (λ c. Ok c.links)) h
 
     -- fails, or makes an effect
-    or_fails : (b : Bool) (f : Fault) (e : Effect) → ((c : Core) → MayBeMade e c) → DoAlike S T R (fails_if S on subject meant b f >>= λ _. make S on subject meant e) (fails_if T on' subject meant b f >>= λ _. make T on' subject meant e)
+    or_fails : (b : Bool) (f : Fault) (e : StatementEffect) → ((c : Core) → MayBeMade e c) → DoAlike S T R (fails_if S on subject meant b f >>= λ _. make S on subject meant e) (fails_if T on' subject meant b f >>= λ _. make T on' subject meant e)
     or_fails b f e may = then_same S T R (Same {A = Unit {0}}) (fails_if S on subject meant b f) (fails_if T on' subject meant b f) (λ _. make S on subject meant e) (λ _. make T on' subject meant e) (fails_if_alike b f) (λ _. make_alike e may)
 
     -- is as a name of another kind, or goes on
@@ -171,10 +172,10 @@ module _ (S T : Type 0) (on : Offers S) (on' : Offers T) (R : S → T → Type 0
     detach_alike here p = then_same S T R (Same {A = Unit {0}}) (ip_of S on subject meant here.path (meant p)) (ip_of T on' subject meant here.path (meant p)) (detach_point S on subject meant) (detach_point T on' subject meant) (ip_of_alike here.path (meant p)) detach_point_alike
 
     output_at_alike : (p x : Name) (values : List Value) (a : IpAddr) → DoAlike S T R (output_at S on subject meant p x values a) (output_at T on' subject meant p x values a)
-    output_at_alike p x values a = needs_alike (λ c. is_sent_at (point subject c.instances a) (meant x) && are_values_of (types_of (meant x)) values) _ _ ((make_alike (effect.Output a p.word x.word values) (λ c. tt)))
+    output_at_alike p x values a = needs_alike (λ c. is_sent_at (point subject c.instances a) (meant x) && are_values_of (types_received (meant x)) values) _ _ ((make_alike (effect.Output a p.word x.word values) (λ c. tt)))
 
     output_alike : (here : Environment) (p x : Name) (es : List (Operand S)) (fs : List (Operand T)) → EachAlike (OperandAlike S T on on' [] R) es fs → DoAlike S T R (output S on subject meant here p x es) (output T on' subject meant here p x fs)
-    output_alike here p x es fs h = then_alike S T R (GivenAlike []) (Same {A = Unit {0}}) (give_all (map ByValue (types_of (meant x))) es no_arguments) (give_all (map ByValue (types_of (meant x))) fs no_arguments) (λ G. spend >>= λ spent. ip_of S on subject meant here.path (meant p) >>= λ a. output_at S on subject meant p x G.values a) (λ G. spend >>= λ spent. ip_of T on' subject meant here.path (meant p) >>= λ a. output_at T on' subject meant p x G.values a) (give_all_alike S T on on' [] R (map ByValue (types_of (meant x))) es fs no_arguments h tt) (λ g j gj. then_same S T R (Same {A = Unit {0}}) (spend) (spend) (λ spent. ip_of S on subject meant here.path (meant p) >>= λ a. output_at S on subject meant p x g.values a) (λ spent. ip_of T on' subject meant here.path (meant p) >>= λ a. output_at T on' subject meant p x j.values a) (spend_alike S T R) (λ spent. then_same S T R (Same {A = Unit {0}}) (ip_of S on subject meant here.path (meant p)) (ip_of T on' subject meant here.path (meant p)) (λ a. output_at S on subject meant p x g.values a) (λ a. output_at T on' subject meant p x j.values a) (ip_of_alike here.path (meant p)) (λ a. subst (λ (c : ActualParameters). DoAlike S T R (output_at S on subject meant p x g.values a) (output_at T on' subject meant p x c.values a)) gj.0 (output_at_alike p x g.values a))))
+    output_alike here p x es fs h = then_alike S T R (GivenAlike []) (Same {A = Unit {0}}) (give_all (map ByValue (types_received (meant x))) es no_arguments) (give_all (map ByValue (types_received (meant x))) fs no_arguments) (λ G. spend >>= λ spent. ip_of S on subject meant here.path (meant p) >>= λ a. output_at S on subject meant p x G.values a) (λ G. spend >>= λ spent. ip_of T on' subject meant here.path (meant p) >>= λ a. output_at T on' subject meant p x G.values a) (give_all_alike S T on on' [] R (map ByValue (types_received (meant x))) es fs no_arguments h tt) (λ g j gj. then_same S T R (Same {A = Unit {0}}) (spend) (spend) (λ spent. ip_of S on subject meant here.path (meant p) >>= λ a. output_at S on subject meant p x g.values a) (λ spent. ip_of T on' subject meant here.path (meant p) >>= λ a. output_at T on' subject meant p x j.values a) (spend_alike S T R) (λ spent. then_same S T R (Same {A = Unit {0}}) (ip_of S on subject meant here.path (meant p)) (ip_of T on' subject meant here.path (meant p)) (λ a. output_at S on subject meant p x g.values a) (λ a. output_at T on' subject meant p x j.values a) (ip_of_alike here.path (meant p)) (λ a. subst (λ (c : ActualParameters). DoAlike S T R (output_at S on subject meant p x g.values a) (output_at T on' subject meant p x c.values a)) gj.0 (output_at_alike p x g.values a))))
 
     pub enter_state_alike : (p : Path) (o : Option ℕ) → DoAlike S T R (enter_state S on subject meant p o) (enter_state T on' subject meant p o)
     enter_state_alike p None = nothing_alike
@@ -200,7 +201,7 @@ module _ (S T : Type 0) (on : Offers S) (on' : Offers T) (R : S → T → Type 0
         → fin.get (on.core s.state).instances here.path ≡ Some i → OutcomeAlike S T R (Same {A = Unit {0}}) (create S on subject meant enters here k new values i s) (create T on' subject meant enters' here k new values i t)
     create_alike enters enters' into here k new values i s t r there =
         let p : Path = child here.path (suc i.births) in
-        let e : Effect = effect.Create here.path (suc i.births) (new.with_parameters values) in
+        let e : StatementEffect = effect.Create here.path (suc i.births) (new.with_parameters values) in
         let o : Option (Option Path) = slice_get i.module_variables k in
         and_then_alike S T R (Same {A = Value}) (Same {A = Unit {0}}) (enters (checked (empty_in o) >> make S on subject meant e) p new.block no_arguments s) (enters' (checked (empty_in o) >> make T on' subject meant e) p new.block no_arguments t)
         (λ ran. enter_state S on subject meant p new.to >>= λ entered. keep S on subject meant here.path (Hold k (Some p))) (λ ran. enter_state T on' subject meant p new.to >>= λ entered. keep T on' subject meant here.path (Hold k (Some p)))
@@ -220,7 +221,7 @@ module _ (S T : Type 0) (on : Offers S) (on' : Offers T) (R : S → T → Type 0
         → DoAlike S T R (read S on subject meant (instance_at p) >>= f) (read T on' subject meant (instance_at p) >>= g)
     with_instance p f g h s t r = subst (λ (c : Core). OutcomeAlike S T R (Same {A = Unit {0}}) (and_then (checked_at (instance_at p (on.core s.state)) s) f) (and_then (checked_at (instance_at p c) t) g)) (kept.cores s.state t.state r.state) (by (fin.get (on.core s.state).instances p) refl)
       where
-        by : (o : Option Instance) → fin.get (on.core s.state).instances p ≡ o → OutcomeAlike S T R (Same {A = Unit {0}}) (and_then (checked_at (found o) s) f) (and_then (checked_at (found o) t) g)
+        by : (o : Option Instance) → fin.get (on.core s.state).instances p ≡ o → OutcomeAlike S T R (Same {A = Unit {0}}) (and_then (checked_at (or_no_module o) s) f) (and_then (checked_at (or_no_module o) t) g)
         by None e = ap (λ (n : ℕ). (fault.NoModule, n)) r.left
         by (Some i) e = h i s t r e
 
@@ -288,7 +289,7 @@ module _ (S T : Type 0) (on : Offers S) (on' : Offers T) (R : S → T → Type 0
 
 -- what holds of a state, and after each effect and each change holds again
 pub record IsInvariant (S : Type 0) (on : Offers S) (K : S → Type 0) : Type 0 where
-  pub does : (e : Effect) (s : S) → MayBeMade e (on.core s) → K s → K (on.does e s)
+  pub does : (e : StatementEffect) (s : S) → MayBeMade e (on.core s) → K s → K (on.does e s)
   pub keeps : (p : Path) (change : Change) (s : S) → K s → K (on.keeps p change s)
 
 module _ (S : Type 0) (on : Offers S) (K : S → Type 0) (invariant : IsInvariant S on K) where
@@ -304,11 +305,11 @@ module _ (S : Type 0) (on : Offers S) (K : S → Type 0) (invariant : IsInvarian
   }
 
   -- it holds of the state that a block comes to
-  abbrev pub Ends : Outcome S (Unit {0}) → Type 0
+  abbrev pub Ends : StepResult S (Unit {0}) → Type 0
   Ends (Ok r) = K r.1.state
   Ends (Err e) = Unit {0}
 
-  ended : (o : Outcome S (Unit {0})) → OutcomeAlike S S Both (Same {A = Unit {0}}) o o → Ends o
+  ended : (o : StepResult S (Unit {0})) → OutcomeAlike S S Both (Same {A = Unit {0}}) o o → Ends o
   ended (Ok r) h = h.1.state.1
   ended (Err e) h = tt
 

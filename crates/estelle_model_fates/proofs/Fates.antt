@@ -10,7 +10,7 @@ use Rattle.estelle_model.specs.declared.event.Event.{Event}
 use Rattle.estelle_model.specs.declared.event.Event.TheVariants.{Start, Select, Fire, Fault}
 use Rattle.estelle_tree.specs.Queues.{waits_at}
 use Rattle.estelle_tree.specs.Timers.{pair}
-use Rattle.estelle_model.specs.Steps.{Outcome}
+use Rattle.estelle_model.specs.Steps.{StepResult}
 use Rattle.estelle_model.specs.Blocks.{fresh}
 use Rattle.estelle_model.specs.Clauses.{fire_step, start_step}
 use Rattle.estelle_model.specs.Transitions.{Transition, When}
@@ -19,7 +19,7 @@ use Rattle.estelle_model.specs.Situation.{Waiting, Situation, Acting, on_situati
 use Rattle.estelle_model.specs.Queues.{Found, NotNeeded, Head, Absent, one_queue, queue, head_at, is_named, named, found, received}
 use Rattle.estelle_model.specs.Firing.{Firing, Ran, Failed, Undefined, begun, done, untimed, taken, fire_with, fire_found, fire_of, fire, transition_at, start, bare}
 use Rattle.estelle_model.specs.Jobs.{received_by}
-use Rattle.estelle_model.specs.Runs.{HasRun, fired, next, Applies, Goes, Begins, IsRun, started, after_all, situation}
+use Rattle.estelle_model.specs.Runs.{HasRun, fired, next, Applies, Goes, Begins, IsRun, started, after_events, situation}
 use Rattle.estelle_model_fates.specs.Fates.{Fate, outs_of, outputs, lost_after, number_of, dropped_by, consumed_by, numbers, times, fates_by, fates_from, fates, OutputsHaveOneFate, NoOthersHaveFates, OutputsAreCounted}
 use Rattle.estelle_model_fates.specs.Fates as fates
 use Rattle.estelle_model_fates.proofs.EveryBlock.{Ends, fire_step_ends, start_step_ends}
@@ -75,7 +75,7 @@ module _ (i : ℕ) (s : Subject) (budget : ℕ) where
   none_taken : (g : Situation) → IsCounted i g.made g.mail (begun g)
   none_taken g = record { made = omega arith; each = omega arith }
 
-  done_counted : (g : Situation) (mail : List Waiting) (o : Outcome Acting (Unit {0})) → Ends Acting on_situation (IsCounted i g.made mail) (counted i g.made mail) o → (taken : List ℕ) → occurs i (numbers mail) + occurs i taken ≡ occurs i (numbers g.mail) → Accounts i g taken (done o)
+  done_counted : (g : Situation) (mail : List Waiting) (o : StepResult Acting (Unit {0})) → Ends Acting on_situation (IsCounted i g.made mail) (counted i g.made mail) o → (taken : List ℕ) → occurs i (numbers mail) + occurs i taken ≡ occurs i (numbers g.mail) → Accounts i g taken (done o)
   done_counted g mail (Ok r) h taken e = (let x = h.each in omega (arith, x, e), h.made)
   done_counted g mail (Err e) h taken is = tt
 
@@ -154,7 +154,7 @@ module _ (i : ℕ) (s : Subject) (budget : ℕ) where
 
   -- ---- runs
 
-  goes_accounts : (es : List Event) (g : Situation) (k : ℕ) → Goes s budget g es → length (fates_from s budget g k es i) + one_below i g.made ≡ occurs i (numbers g.mail) + one_below i (after_all s budget g es).made
+  goes_accounts : (es : List Event) (g : Situation) (k : ℕ) → Goes s budget g es → length (fates_from s budget g k es i) + one_below i g.made ≡ occurs i (numbers g.mail) + one_below i (after_events s budget g es).made
   goes_accounts [] g k goes = let x = times_length i fates.Waits (numbers g.mail) in omega (arith, x)
   goes_accounts (e ∷ es) g k goes =
       let x = event_accounts g k e goes.0 in
@@ -174,7 +174,7 @@ module _ (i : ℕ) (s : Subject) (budget : ℕ) where
   event_makes g (Fire m n outs drops) applies = fired_makes g m n outs drops (consumed_by s g (Fire m n outs drops)) (fire s budget g m n) applies.ran (fire_accounts g m n)
   event_makes g (Fault m n kind) applies = omega arith
 
-  goes_makes : (es : List Event) (g : Situation) → Goes s budget g es → (after_all s budget g es).made ≡ g.made + length (outputs es)
+  goes_makes : (es : List Event) (g : Situation) → Goes s budget g es → (after_events s budget g es).made ≡ g.made + length (outputs es)
   goes_makes [] g goes = omega arith
   goes_makes (e ∷ es) g goes =
       let x = event_makes g e goes.0 in
@@ -182,7 +182,7 @@ module _ (i : ℕ) (s : Subject) (budget : ℕ) where
       let z : length (outputs (e ∷ es)) ≡ length (outs_of e) + length (outputs es) = length_append (outs_of e) (outputs es) in
       omega (arith, x, y, z)
 
-  begins_makes : (first : Firing) (e : Event) (es : List Event) → Accounts i (bare s) [] first → Begins s budget first e es → (after_all s budget (started s first) es).made ≡ length (outputs (e ∷ es))
+  begins_makes : (first : Firing) (e : Event) (es : List Event) → Accounts i (bare s) [] first → Begins s budget first e es → (after_events s budget (started s first) es).made ≡ length (outputs (e ∷ es))
   begins_makes (Ran g outs drops left) (Start outs' drops') es h begins =
       let x = h.1 in
       let y = goes_makes es g begins.2 in
@@ -195,7 +195,7 @@ module _ (i : ℕ) (s : Subject) (budget : ℕ) where
   begins_makes (Failed kind left) (Start outs drops) es h begins = absurd begins
   begins_makes (Failed kind left) (Select system now takes) es h begins = absurd begins
   begins_makes (Failed kind left) (Fire m n outs drops) es h begins = absurd begins
-  begins_makes (Failed kind left) (Fault m n kind') es h begins = subst (λ (xs : List Event). (after_all s budget (bare s) xs).made ≡ length (outputs xs)) (sym begins.3) refl
+  begins_makes (Failed kind left) (Fault m n kind') es h begins = subst (λ (xs : List Event). (after_events s budget (bare s) xs).made ≡ length (outputs xs)) (sym begins.3) refl
   begins_makes Undefined e es h begins = absurd begins
 
   run_makes : (events : List Event) → IsRun s budget events → (situation s budget events).made ≡ length (outputs events)
@@ -204,7 +204,7 @@ module _ (i : ℕ) (s : Subject) (budget : ℕ) where
 
   -- what becomes of it from the start on
   begins_accounts : (first : Firing) (e : Event) (es : List Event) → Accounts i (bare s) [] first → Begins s budget first e es
-      → length (fates_by s (bare s) 0 e i ++ fates_from s budget (started s first) 1 es i) ≡ one_below i (after_all s budget (started s first) es).made
+      → length (fates_by s (bare s) 0 e i ++ fates_from s budget (started s first) 1 es i) ≡ one_below i (after_events s budget (started s first) es).made
   begins_accounts (Ran g outs drops left) (Start outs' drops') es h begins =
       let l = by_length (bare s) 0 (Start outs' drops') in
       let d : occurs i drops ≡ occurs i drops' = ap (occurs i) (sym begins.1) in
@@ -219,7 +219,7 @@ module _ (i : ℕ) (s : Subject) (budget : ℕ) where
   begins_accounts (Failed kind left) (Start outs drops) es h begins = absurd begins
   begins_accounts (Failed kind left) (Select system now takes) es h begins = absurd begins
   begins_accounts (Failed kind left) (Fire m n outs drops) es h begins = absurd begins
-  begins_accounts (Failed kind left) (Fault m n kind') es h begins = subst (λ (xs : List Event). length (fates_from s budget (bare s) 1 xs i) ≡ one_below i (after_all s budget (bare s) xs).made) (sym begins.3) (let zero : one_below i 0 ≡ 0 = none_below i in omega (arith, zero))
+  begins_accounts (Failed kind left) (Fault m n kind') es h begins = subst (λ (xs : List Event). length (fates_from s budget (bare s) 1 xs i) ≡ one_below i (after_events s budget (bare s) xs).made) (sym begins.3) (let zero : one_below i 0 ≡ 0 = none_below i in omega (arith, zero))
   begins_accounts Undefined e es h begins = absurd begins
 
   pub run_accounts : (events : List Event) → IsRun s budget events → length (fates s budget events i) ≡ one_below i (situation s budget events).made

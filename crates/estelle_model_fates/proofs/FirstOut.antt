@@ -20,7 +20,7 @@ use Rattle.estelle_model.specs.Situation.{Waiting, Situation}
 use Rattle.estelle_model.specs.Queues.{Found, NotNeeded, Head, Absent, is_common, one_queue, queue, head_at, received}
 use Rattle.estelle_model.specs.Firing.{Firing, Ran, Failed, Undefined, transition_at, start, bare}
 use Rattle.estelle_model.specs.Jobs.{received_by}
-use Rattle.estelle_model.specs.Runs.{next, Goes, Begins, IsRun, started, after_first, after_all, situation, situation_at}
+use Rattle.estelle_model.specs.Runs.{next, Goes, Begins, IsRun, started, after_first, after_events, situation, situation_at}
 use Rattle.estelle_model_legality.specs.Instances.{LeadsToStates}
 use Rattle.estelle_model_legality.specs.Situations.{IsLegal}
 use Rattle.estelle_model_legality.specs.Keeping.{HasStarted}
@@ -133,7 +133,7 @@ module _ (s : Subject) (budget i k : ℕ) where
     is : k ≡ x + place
     event : Event
     there : slice_get es place ≡ Some event
-    consumes : Has (consumed_by s (after_all s budget g (take place es)) event) i
+    consumes : Has (consumed_by s (after_events s budget g (take place es)) event) i
 
   goes_consumes : (es : List Event) (g : Situation) (x : ℕ) → Has (fates_from s budget g x es i) (Consumed k) → IsConsumer g x es
   goes_consumes [] g x h = absurd (let wrong : Waits ≡ Consumed k = (times_from i Waits (Consumed k) (numbers g.mail) h).0 in cc)
@@ -184,7 +184,7 @@ order (suc x) zero = inr (omega arith)
 order (suc x) (suc y) = elim (order x y) [ inl h ↦ inl (omega (arith, h)) | inr h ↦ inr (omega (arith, h)) ]
 
 module _ (i : ℕ) (s : Subject) (budget : ℕ) (K : Core → List Waiting → ℕ → Type 0) (lasting : IsLasting i K) (without : (belongs : IpAddr → Bool) (c : Core) (mail : List Waiting) (made : ℕ) → K c mail made → K c (queues.without_head belongs mail) made) where
-  between : (es : List Event) (g : Situation) → Goes s budget g es → (Has (moved_from s budget g es) i → ⊥) → (x y : ℕ) → x ≤ y → Holds i K lasting (after_all s budget g (take x es)) → Holds i K lasting (after_all s budget g (take y es))
+  between : (es : List Event) (g : Situation) → Goes s budget g es → (Has (moved_from s budget g es) i → ⊥) → (x y : ℕ) → x ≤ y → Holds i K lasting (after_events s budget g (take x es)) → Holds i K lasting (after_events s budget g (take y es))
   between es g goes never zero y within k = goes_lasts i K lasting s budget without es g goes never k y
   between es g goes never (suc x) zero within k = absurd (omega (arith, within))
   between [] g goes never (suc x) (suc y) within k = k
@@ -381,7 +381,7 @@ module _ (s : Subject) (leads : LeadsToStates s) (budget : ℕ) (e : Event) (es 
     where
       later_one : IsConsumer s budget j k g 1 es → (b : IpAddr) × IsTakenFrom s budget (e ∷ es) k b j
       later_one c =
-          let r = somewhere s budget j k (after_all s budget g (take c.place es)) c.event c.consumes in
+          let r = somewhere s budget j k (after_events s budget g (take c.place es)) c.event c.consumes in
           let same : suc c.place ≡ k = let h = c.is in omega (arith, h) in
           (r.0, subst (λ (n : ℕ). IsTakenFrom s budget (e ∷ es) n r.0 j) same (record { event = c.event; there = c.there; consumed = r.2; from = r.1 }))
 
@@ -392,7 +392,7 @@ module _ (s : Subject) (leads : LeadsToStates s) (budget : ℕ) (e : Event) (es 
 -- ---- where something waits, the start has run
 
 module _ (s : Subject) (budget i : ℕ) (a : IpAddr) where
-  none_bare : (es : List Event) (x : ℕ) → es ≡ [] → Has (numbers (queue s (after_all s budget (bare s) (take x es)) a)) i → ⊥
+  none_bare : (es : List Event) (x : ℕ) → es ≡ [] → Has (numbers (queue s (after_events s budget (bare s) (take x es)) a)) i → ⊥
   none_bare [] zero is h = absurd h
   none_bare [] (suc x) is h = absurd h
   none_bare (e ∷ es) x is h = absurd (cc)

@@ -10,17 +10,17 @@ use Rattle.estelle_model.specs.declared.effect.Out.{Out}
 use Rattle.estelle_model.specs.declared.event.Event.{Event}
 use Rattle.estelle_model.specs.declared.event.Event.TheVariants.{Start, Select, Fire, Fault}
 use Rattle.estelle_model.specs.Core.{Core}
-use Rattle.estelle_model.specs.Steps.{Outcome}
+use Rattle.estelle_model.specs.Steps.{StepResult}
 use Rattle.estelle_model.specs.Blocks.{fresh}
 use Rattle.estelle_model.specs.Clauses.{fire_step, start_step}
-use Rattle.estelle_model.specs.Effects.{Effect, Change, core_after, core_kept}
+use Rattle.estelle_model.specs.Effects.{StatementEffect, Change, core_after, core_kept}
 use Rattle.estelle_model.specs.Transitions.{Transition, When}
 use Rattle.estelle_model.specs.Subject.{Subject}
 use Rattle.estelle_model.specs.Situation.{Waiting, Situation, Acting, on_situation, acting_after, mail_after, made_after}
 use Rattle.estelle_model.specs.Queues.{Found, NotNeeded, Head, Absent, one_queue, received}
 use Rattle.estelle_model.specs.Firing.{Firing, Ran, Failed, Undefined, begun, done, untimed, taken, fire_with, fire_found, fire_of, fire, transition_at, start, bare}
 use Rattle.estelle_model.specs.Jobs.{taken_by}
-use Rattle.estelle_model.specs.Runs.{HasRun, fired, next, Applies, Goes, after_all}
+use Rattle.estelle_model.specs.Runs.{HasRun, fired, next, Applies, Goes, after_events}
 use Rattle.estelle_model.proofs.Alike.{Same, OutcomeAlike}
 use Rattle.estelle_model_legality.proofs.Members.{Has}
 use Rattle.estelle_model_fates.specs.Order.{moves, Watched, on_watched, watched, moved_of, values_of, moved_with, moved_by, moved_from}
@@ -37,7 +37,7 @@ has_right (z ∷ xs) ys x h = inr (has_right xs ys x h)
 
 -- what holds of instances and links, mail and number of outputs, and after each effect that does not move the output, and each change, holds again
 pub record IsLasting (i : ℕ) (K : Core → List Waiting → ℕ → Type 0) : Type 0 where
-  pub effect : (e : Effect) (g : Situation) → MayBeMade e g.core → K g.core g.mail g.made → Has (moves e g) i ⊎ K (core_after e g.core) (mail_after e g.core.links g.made g.mail) (made_after e g.made)
+  pub effect : (e : StatementEffect) (g : Situation) → MayBeMade e g.core → K g.core g.mail g.made → Has (moves e g) i ⊎ K (core_after e g.core) (mail_after e g.core.links g.made g.mail) (made_after e g.made)
   pub change : (p : Path) (change : Change) (c : Core) (mail : List Waiting) (made : ℕ) → K c mail made → K (core_kept p change c) mail made
 
 -- what still waits once an event has consumed what it receives
@@ -72,7 +72,7 @@ module _ (i : ℕ) (K : Core → List Waiting → ℕ → Type 0) (lasting : IsL
   abbrev IsWatched : Watched → Acting → Type 0
   IsWatched w a = (w.acting ≡ a) × MovedOr w
 
-  does : (e : Effect) (w : Watched) → MayBeMade e w.acting.situation.core → MovedOr w → MovedOr (on_watched.does e w)
+  does : (e : StatementEffect) (w : Watched) → MayBeMade e w.acting.situation.core → MovedOr w → MovedOr (on_watched.does e w)
   does e w may (inl h) = inl (has_left w.moved (moves e w.acting.situation) i h)
   does e w may (inr k) = elim (lasting.effect e w.acting.situation may k) [ inl h ↦ inl (has_right w.moved (moves e w.acting.situation) i h) | inr h ↦ inr h ]
 
@@ -93,7 +93,7 @@ module _ (i : ℕ) (K : Core → List Waiting → ℕ → Type 0) (lasting : IsL
   After moved (Failed kind left) = Unit {0}
   After moved Undefined = Unit {0}
 
-  of_outcome : (o : Outcome Watched (Unit {0})) (o' : Outcome Acting (Unit {0})) → OutcomeAlike Watched Acting IsWatched (Same {A = Unit {0}}) o o' → After (moved_of o) (done o')
+  of_outcome : (o : StepResult Watched (Unit {0})) (o' : StepResult Acting (Unit {0})) → OutcomeAlike Watched Acting IsWatched (Same {A = Unit {0}}) o o' → After (moved_of o) (done o')
   of_outcome (Ok r) (Ok q) h = subst (λ (a : Acting). Has r.1.state.moved i ⊎ Holds a.situation) h.1.state.0 h.1.state.1
   of_outcome (Err e) (Err f) h = tt
   of_outcome (Ok r) (Err f) h = absurd h
@@ -146,7 +146,7 @@ module _ (i : ℕ) (K : Core → List Waiting → ℕ → Type 0) (lasting : IsL
     -- ---- what holds without the head of a queue too
 
     module _ (without : (belongs : IpAddr → Bool) (c : Core) (mail : List Waiting) (made : ℕ) → K c mail made → K c (queues.without_head belongs mail) made) where
-      pub goes_lasts : (es : List Event) (g : Situation) → Goes s budget g es → (Has (moved_from s budget g es) i → ⊥) → Holds g → (y : ℕ) → Holds (after_all s budget g (take y es))
+      pub goes_lasts : (es : List Event) (g : Situation) → Goes s budget g es → (Has (moved_from s budget g es) i → ⊥) → Holds g → (y : ℕ) → Holds (after_events s budget g (take y es))
       goes_lasts es g goes never k zero = k
       goes_lasts [] g goes never k (suc y) = k
       goes_lasts (e ∷ es) g goes never k (suc y) = goes_lasts es (next s budget g e) goes.2 (λ h. never (has_right (moved_by s budget g e) (moved_from s budget (next s budget g e) es) i h))

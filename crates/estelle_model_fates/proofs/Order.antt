@@ -8,7 +8,7 @@ use Rattle.estelle_tree.specs.Links.{bottom, route, attachment}
 use Rattle.estelle_tree.specs.Queues.{waits_at, waits_inside, brought_to, moved, without_head, outside_of}
 use Rattle.estelle_model.specs.declared.image.Interaction.{Interaction}
 use Rattle.estelle_model.specs.Core.{Instance, Core}
-use Rattle.estelle_model.specs.Effects.{Effect, Output, Connect, Disconnect, Attach, Detach, Create, Remove, instances_after, core_after}
+use Rattle.estelle_model.specs.Effects.{StatementEffect, Output, Connect, Disconnect, Attach, Detach, Create, Remove, instances_after, core_after}
 use Rattle.estelle_model.specs.Situation.{Waiting, Situation, arrived, mail_after, made_after}
 use Rattle.estelle_model.specs.Queues.{Head, Absent, head_at}
 use Rattle.estelle_model.proofs.Units.{Each}
@@ -216,7 +216,7 @@ module _ (i : ℕ) where
     pub below : All (λ n. n ≤ made) mail
     pub front : InFront i mail
 
-  front_effect : (e : Effect) (g : Situation) → MayBeMade e g.core → IsFront g.core g.mail g.made → Has (moves e g) i ⊎ IsFront (core_after e g.core) (mail_after e g.core.links g.made g.mail) (made_after e g.made)
+  front_effect : (e : StatementEffect) (g : Situation) → MayBeMade e g.core → IsFront g.core g.mail g.made → Has (moves e g) i ⊎ IsFront (core_after e g.core) (mail_after e g.core.links g.made g.mail) (made_after e g.made)
   unfolding mail_after made_after
   front_effect (Output from ip name values) g may h = inr (record {
     below = each_arrived (λ w. w.item.number ≤ suc g.made) (record { number = suc g.made; name = name; values = values }) (route g.core.links from) g.mail (each_more Waiting (λ w. w.item.number ≤ g.made) (λ w. w.item.number ≤ suc g.made) g.mail (λ w l. omega (arith, l)) h.below) (λ a. omega arith);
@@ -265,7 +265,7 @@ module _ (i : ℕ) where
       })
     ]
 
-    at_effect : (e : Effect) (g : Situation) → IsAt g.mail g.made → Has (moves e g) i ⊎ IsAt (mail_after e g.core.links g.made g.mail) (made_after e g.made)
+    at_effect : (e : StatementEffect) (g : Situation) → IsAt g.mail g.made → Has (moves e g) i ⊎ IsAt (mail_after e g.core.links g.made g.mail) (made_after e g.made)
     unfolding mail_after made_after
     at_effect (Output from ip name values) g h = inr (record {
       before = let m = h.before in omega (arith, m);
@@ -299,10 +299,10 @@ module _ (i : ℕ) where
         by false e n rest = (n.0, rest n.1)
 
     -- without an instance there none comes
-    stays_gone : (e : Effect) (k : Core) → MayBeMade e k → Only c.path (λ b. Unit {0}) k.instances → ((z : Instance) → map.get k.instances c.path ≡ Some z → ⊥) → (z : Instance) → map.get (instances_after e k.instances) c.path ≡ Some z → ⊥
+    stays_gone : (e : StatementEffect) (k : Core) → MayBeMade e k → Only c.path (λ b. Unit {0}) k.instances → ((z : Instance) → map.get k.instances c.path ≡ Some z → ⊥) → (z : Instance) → map.get (instances_after e k.instances) c.path ≡ Some z → ⊥
     stays_gone e k may born gone = (only_after c.path (λ b. ⊥) e k may (record { all_born = born.all_born; body = gone })).body
 
-    gone_after : (e : Effect) (g : Situation) → MayBeMade e g.core → IsPut g.core g.mail g.made → NoneOf i (mail_after e g.core.links g.made g.mail) → (z : Instance) → map.get (instances_after e g.core.instances) c.path ≡ Some z → ⊥
+    gone_after : (e : StatementEffect) (g : Situation) → MayBeMade e g.core → IsPut g.core g.mail g.made → NoneOf i (mail_after e g.core.links g.made g.mail) → (z : Instance) → map.get (instances_after e g.core.instances) c.path ≡ Some z → ⊥
     unfolding mail_after
     gone_after (Output from ip name values) g may h n = stays_gone (Output from ip name values) g.core may h.born (h.gone (each_arrived_back (λ w. w.item.number ≡ i → ⊥) (record { number = suc g.made; name = name; values = values }) (route g.core.links from) g.mail n))
     gone_after (Connect a b) g may h n = stays_gone (Connect a b) g.core may h.born (h.gone n)
@@ -316,7 +316,7 @@ module _ (i : ℕ) where
         by true e = removed_none p k c.path g.core.instances e
         by false e = stays_gone (Remove p k) g.core tt h.born (h.gone (none_outside (child p k) g.mail h.is_at.at e n))
 
-    put_effect : (e : Effect) (g : Situation) → MayBeMade e g.core → IsPut g.core g.mail g.made → Has (moves e g) i ⊎ IsPut (core_after e g.core) (mail_after e g.core.links g.made g.mail) (made_after e g.made)
+    put_effect : (e : StatementEffect) (g : Situation) → MayBeMade e g.core → IsPut g.core g.mail g.made → Has (moves e g) i ⊎ IsPut (core_after e g.core) (mail_after e g.core.links g.made g.mail) (made_after e g.made)
     put_effect e g may h = elim (at_effect e g h.is_at) [
       | inl k ↦ inl k
       | inr at ↦ inr (record { is_at = at; born = only_after c.path (λ b. Unit {0}) e g.core may h.born; gone = gone_after e g may h })

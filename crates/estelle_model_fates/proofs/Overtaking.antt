@@ -19,7 +19,7 @@ use Rattle.estelle_model.specs.Situation.{Waiting, Situation}
 use Rattle.estelle_model.specs.Queues.{Found, NotNeeded, Head, Absent, common_at, is_common, one_queue, queue, head_at, found, received}
 use Rattle.estelle_model.specs.Firing.{untimed, taken, fire_found, fire_of, transition_at}
 use Rattle.estelle_model.specs.Jobs.{received_by, taken_by}
-use Rattle.estelle_model.specs.Runs.{HasRun, next, Applies, Goes, after_all}
+use Rattle.estelle_model.specs.Runs.{HasRun, next, Applies, Goes, after_events}
 use Rattle.estelle_model.proofs.Units.{Each}
 use Rattle.estelle_model.proofs.PrivateParts.{body_of, point_same}
 use Rattle.estelle_model_legality.specs.Instances.{LeadsToStates}
@@ -170,11 +170,11 @@ module _ (i : ℕ) (s : Subject) (budget : ℕ) where
         (has_left (times i (Consumed x) (consumed_by s g e) ++ times i (Dropped x) (dropped_by e)) (times i (Lost x) (lost_after g.made (outs_of e))) (Consumed x)
         (has_left (times i (Consumed x) (consumed_by s g e)) (times i (Dropped x) (dropped_by e)) (Consumed x) (times_has i (Consumed x) (consumed_by s g e) h))))
 
-    follow : (es : List Event) (g : Situation) (x y : ℕ) → Goes s budget g es → (Has (moved_from s budget g es) i → ⊥) → IsPut i c g.core g.mail g.made → Stays (after_all s budget g (take y es)) g x es y
+    follow : (es : List Event) (g : Situation) (x y : ℕ) → Goes s budget g es → (Has (moved_from s budget g es) i → ⊥) → IsPut i c g.core g.mail g.made → Stays (after_events s budget g (take y es)) g x es y
     follow es g x zero goes never h = now g x es 0 h
     follow [] g x (suc y) goes never h = now g x [] (suc y) h
     follow (e ∷ es) g x (suc y) goes never h = elim (left_or g e goes.0) [
-      | inl back ↦ one_later (after_all s budget (next s budget g e) (take y es)) g e x es y (follow es (next s budget g e) (suc x) y goes.2 (λ k. never (has_right (moved_by s budget g e) (moved_from s budget (next s budget g e) es) i k))
+      | inl back ↦ one_later (after_events s budget (next s budget g e) (take y es)) g e x es y (follow es (next s budget g e) (suc x) y goes.2 (λ k. never (has_right (moved_by s budget g e) (moved_from s budget (next s budget g e) es) i k))
           (event_lasts i (IsPut i c) (put_lasts i c) s budget g e goes.0 (λ k. never (has_left (moved_by s budget g e) (moved_from s budget (next s budget g e) es) i k))
           (record {
             is_at = left_lasts (λ k mail made. IsAt i c mail made) s (at_without i c) g e h.is_at;
@@ -186,7 +186,7 @@ module _ (i : ℕ) (s : Subject) (budget : ℕ) where
 
   module _ (leads : LeadsToStates s) (j : ℕ) (a : IpAddr) (later : i < j) where
     -- from the situation in which it waits
-    from_here : (es : List Event) (g : Situation) (x k : ℕ) → Goes s budget g es → (Has (moved_from s budget g es) i → ⊥) → IsLegal s g → IsFront i g.core g.mail g.made → Has (numbers (queue s g a)) i → IsTaken s (after_all s budget g (take k es)) a j
+    from_here : (es : List Event) (g : Situation) (x k : ℕ) → Goes s budget g es → (Has (moved_from s budget g es) i → ⊥) → IsLegal s g → IsFront i g.core g.mail g.made → Has (numbers (queue s g a)) i → IsTaken s (after_events s budget g (take k es)) a j
         → (k' : ℕ) × (k' < k) × Has (fates_from s budget g x es i) (Consumed (x + k'))
     from_here es g x k goes never legal front waits taken =
         let w = with_number i (queue s g a) waits in
@@ -204,17 +204,17 @@ module _ (i : ℕ) (s : Subject) (budget : ℕ) where
           gone = λ none. absurd (each_has (λ (v : Waiting). v.item.number ≡ i → ⊥) g.mail w.0 none in_mail.0 w.2);
         }))
       where
-        by : (w : Waiting) → w.item.number ≡ i → one_queue s g.core.instances a w.at ≡ true → (z : Instance) → map.get g.core.instances w.at.path ≡ Some z → Only w.at.path (λ b. b ≡ z.body) (after_all s budget g (take k es)).core.instances → IsFront i (after_all s budget g (take k es)).core (after_all s budget g (take k es)).mail (after_all s budget g (take k es)).made → Stays w.at (after_all s budget g (take k es)) g x es k
+        by : (w : Waiting) → w.item.number ≡ i → one_queue s g.core.instances a w.at ≡ true → (z : Instance) → map.get g.core.instances w.at.path ≡ Some z → Only w.at.path (λ b. b ≡ z.body) (after_events s budget g (take k es)).core.instances → IsFront i (after_events s budget g (take k es)).core (after_events s budget g (take k es)).mail (after_events s budget g (take k es)).made → Stays w.at (after_events s budget g (take k es)) g x es k
             → (k' : ℕ) × (k' < k) × Has (fates_from s budget g x es i) (Consumed (x + k'))
         by w is one z there body front' (inr (inr h)) = h
-        by w is one z there body front' (inr (inl none)) = absurd (none.body taken.instance (subst (λ (p : Path). map.get (after_all s budget g (take k es)).core.instances p ≡ Some taken.instance) (one_path s g.core.instances g.core.instances a w.at one) taken.there))
+        by w is one z there body front' (inr (inl none)) = absurd (none.body taken.instance (subst (λ (p : Path). map.get (after_events s budget g (take k es)).core.instances p ≡ Some taken.instance) (one_path s g.core.instances g.core.instances a w.at one) taken.there))
         by w is one z there body front' (inl h) =
-            let there' : map.get (after_all s budget g (take k es)).core.instances w.at.path ≡ Some taken.instance = subst (λ (p : Path). map.get (after_all s budget g (take k es)).core.instances p ≡ Some taken.instance) (one_path s g.core.instances g.core.instances a w.at one) taken.there in
-            let one' = queue_stays s g.core.instances (after_all s budget g (take k es)).core.instances a w.at z taken.instance there there' (body.body taken.instance there') one in
-            let no_higher = head_before i (one_queue s (after_all s budget g (take k es)).core.instances a) a w.at (after_all s budget g (take k es)).mail taken.item front'.front h.1 one' h.0 taken.head in
+            let there' : map.get (after_events s budget g (take k es)).core.instances w.at.path ≡ Some taken.instance = subst (λ (p : Path). map.get (after_events s budget g (take k es)).core.instances p ≡ Some taken.instance) (one_path s g.core.instances g.core.instances a w.at one) taken.there in
+            let one' = queue_stays s g.core.instances (after_events s budget g (take k es)).core.instances a w.at z taken.instance there there' (body.body taken.instance there') one in
+            let no_higher = head_before i (one_queue s (after_events s budget g (take k es)).core.instances a) a w.at (after_events s budget g (take k es)).mail taken.item front'.front h.1 one' h.0 taken.head in
             absurd (let n = taken.number in omega (arith, no_higher, n, later))
 
-    pub from_start : (es : List Event) (g : Situation) (x y k : ℕ) → y ≤ k → Goes s budget g es → (Has (moved_from s budget g es) i → ⊥) → IsLegal s g → IsFront i g.core g.mail g.made → Has (numbers (queue s (after_all s budget g (take y es)) a)) i → (e : Event) → slice_get es k ≡ Some e → IsTaken s (after_all s budget g (take k es)) a j
+    pub from_start : (es : List Event) (g : Situation) (x y k : ℕ) → y ≤ k → Goes s budget g es → (Has (moved_from s budget g es) i → ⊥) → IsLegal s g → IsFront i g.core g.mail g.made → Has (numbers (queue s (after_events s budget g (take y es)) a)) i → (e : Event) → slice_get es k ≡ Some e → IsTaken s (after_events s budget g (take k es)) a j
         → (k' : ℕ) × (k' < k) × Has (fates_from s budget g x es i) (Consumed (x + k'))
     from_start es g x zero k within goes never legal front waits e there taken = from_here es g x k goes never legal front waits taken
     from_start es g x (suc y) zero within goes never legal front waits e there taken = absurd (omega (arith, within))

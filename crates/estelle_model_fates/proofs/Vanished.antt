@@ -4,7 +4,7 @@ use Rattle.std.specs.Prelude.{nat_eq}
 use Rattle.std.specs.FinMap as map
 use Rattle.estelle_tree.specs.Paths.{Path, child, is_inside}
 use Rattle.estelle_model.specs.Core.{Instance, Instances, Core}
-use Rattle.estelle_model.specs.Effects.{Effect, Output, Connect, Disconnect, Attach, Detach, Create, Remove, Change, Store, Hold, Enter, born, changed, changed_in, instances_after}
+use Rattle.estelle_model.specs.Effects.{StatementEffect, Output, Connect, Disconnect, Attach, Detach, Create, Remove, Change, Store, Hold, Enter, born, changed, changed_in, instances_after}
 use Rattle.estelle_model.specs.Subject.{Subject}
 use Rattle.estelle_model_legality.specs.Instances.{MayStand}
 use Rattle.estelle_model_legality.proofs.Lists.{and_both, same_number, some_is}
@@ -55,7 +55,7 @@ module _ (q : Path) (P : ℕ → Type 0) where
             | inr g ↦ subst (λ (y : Instance). P y.body) (sym g.1) (h.body was.0 was.1)
           ]
 
-  pub only_after : (e : Effect) (c : Core) → MayBeMade e c → Only q P c.instances → Only q P (instances_after e c.instances)
+  pub only_after : (e : StatementEffect) (c : Core) → MayBeMade e c → Only q P c.instances → Only q P (instances_after e c.instances)
   unfolding instances_after
   only_after (Output from ip name values) c may h = h
   only_after (Connect a b) c may h = h

@@ -9,10 +9,10 @@ use Rattle.estelle_tree.specs.Queues.{waiting, moved, brought_to}
 use Rattle.estelle_model.specs.declared.event.Event.{Event}
 use Rattle.estelle_model.specs.declared.event.Event.TheVariants.{Start, Fire}
 use Rattle.estelle_model.specs.States.{Offers}
-use Rattle.estelle_model.specs.Steps.{Outcome}
+use Rattle.estelle_model.specs.Steps.{StepResult}
 use Rattle.estelle_model.specs.Blocks.{fresh}
 use Rattle.estelle_model.specs.Clauses.{fire_step, start_step}
-use Rattle.estelle_model.specs.Effects.{Effect, Attach, Detach}
+use Rattle.estelle_model.specs.Effects.{StatementEffect, Attach, Detach}
 use Rattle.estelle_model.specs.Transitions.{Transition}
 use Rattle.estelle_model.specs.Subject.{Subject}
 use Rattle.estelle_model.specs.Situation.{Waiting, Situation, Acting, on_situation}
@@ -25,7 +25,7 @@ use Rattle.estelle_model_fates.specs.Fates.{numbers, consumed_by, Consumed, HasF
 -- ---- what is moved
 
 -- the numbers of what an effect moves to another interaction point
-abbrev pub moves : Effect → Situation → List ℕ
+abbrev pub moves : StatementEffect → Situation → List ℕ
 moves (Attach upper lower) g = numbers (waiting upper g.mail)
 moves (Detach upper) g = numbers (waiting (bottom g.core.links upper) g.mail)
 moves _ g = []
@@ -48,7 +48,7 @@ abbrev pub watched : Situation → Watched
 watched g = record { acting = begun g; moved = [] }
 
 -- what has been moved where the block ran
-abbrev pub moved_of : Outcome Watched (Unit {0}) → List ℕ
+abbrev pub moved_of : StepResult Watched (Unit {0}) → List ℕ
 moved_of (Ok r) = r.1.state.moved
 moved_of (Err e) = []
 

@@ -12,14 +12,14 @@ use Rattle.estelle_tree.specs.Paths.{Path, child}
 use Rattle.estelle_model.specs.declared.meaning.InteractionPoint.{InteractionPoint}
 use Rattle.estelle_model.specs.Core.{Instance, Core}
 use Rattle.estelle_model.specs.InteractionPoints.{point, sent_at, sends, connectable_at, external_at, may_connect, may_attach}
-use Rattle.estelle_model.specs.Effects.{Effect}
+use Rattle.estelle_model.specs.Effects.{StatementEffect}
 use Rattle.estelle_model.specs.Effects as effect
-use Rattle.estelle_model.specs.Steps.{Running, Outcome, Do, and_then, ◌>>=◌, pure, fail, checked_at, spend}
+use Rattle.estelle_model.specs.Steps.{Running, StepResult, Do, and_then, ◌>>=◌, pure, fail, checked_at, spend}
 use Rattle.estelle_model.specs.declared.meaning.Passing.TheVariants.{ByValue}
 use Rattle.estelle_model.specs.declared.meaning.Meaning.{Meaning}
 use Rattle.estelle_model.specs.declared.meaning.Meaning.TheVariants.{Module, Ip, Interaction}
 use Rattle.estelle_model.specs.Meant.{Meanings}
-use Rattle.estelle_model.specs.Places.{put_at, held_in, module_variables_of, child_step}
+use Rattle.estelle_model.specs.Places.{put_in_instance, held_in, module_variables_of, child_step}
 use Rattle.estelle_model.specs.declared.place.Environment.{Environment}
 use Rattle.estelle_model.specs.declared.place.ActualParameters.{ActualParameters}
 use Rattle.estelle_model.specs.Expressions.{Operand, give_all, no_arguments}
@@ -28,15 +28,16 @@ use Rattle.estelle_model.specs.Subject.{Subject, child_of, meant_with}
 use Rattle.estelle_model.specs.Belonging.{are_values_of, may_store}
 use Rattle.estelle_model.specs.Situation.{Acting, on_situation}
 use Rattle.estelle_model.specs.Jobs.{IsOwnOrChild}
-use Rattle.estelle_model.specs.Actions.{is_bound, is_connected, is_upper, at, count_from, types_of, is_sent_at, make, read, fails_if, child_in, ip_of, part_of_child, ip_named, needs, connect_points, connect, disconnect_one, disconnect_if, for_each, external, disconnect_child, disconnect_point, disconnect_of, attach_points, attach, detach_point, detach, output_at, output, instance_at}
+use Rattle.estelle_model.specs.Actions.{is_bound, is_connected, is_upper, at, count_from, is_sent_at, make, read, fails_if, child_in, ip_of, part_of_child, ip_named, needs, connect_points, connect, disconnect_one, disconnect_if, for_each, external, disconnect_child, disconnect_point, disconnect_of, attach_points, attach, detach_point, detach, output_at, output, instance_at}
+use Rattle.estelle_model.specs.Definitions.{types_received}
 use Rattle.estelle_model.proofs.Units.{Each}
-use Rattle.estelle_model_legality.proofs.Kept.{Has, IsClosed, OperandKept, pure_kept, fail_kept, if_kept, seq_kept, give_all_kept, child_kept, read_kept}
+use Rattle.estelle_model.proofs.Kept.{Has, IsClosed, OperandKept, pure_kept, fail_kept, if_kept, seq_kept, give_all_kept, child_kept, read_kept}
 use Rattle.estelle_model_legality.proofs.Lists.{and_both}
 use Rattle.estelle_model_legality.proofs.Within.{Keeps, keeps_then, outside_same}
 use Rattle.estelle_model_legality.proofs.Steps.{good_connect, good_disconnect, good_attach, good_detach, good_output, good_store}
 
 module _ (s : Subject) (making : List Path) (q : Path) where
-  abbrev KU : Running Acting → Outcome Acting (Unit {0}) → Type 0
+  abbrev KU : Running Acting → StepResult Acting (Unit {0}) → Type 0
   KU = Keeps s making q (Unit {0})
 
   spend_keeps : Has {S = Acting} {A = Unit {0}} (Keeps s making q) spend
@@ -47,14 +48,14 @@ module _ (s : Subject) (making : List Path) (q : Path) where
       by true w = (w, outside_same q t.state.situation)
       by false w = tt
 
-  stored_keeps : (p : Path) (x : ℕ) (way : List ℕ) (v : Value) → Has {S = Acting} {A = Unit {0}} (Keeps s making q) (λ t. put_at Acting on_situation (fin.get t.state.situation.core.instances p) p x way v t)
+  stored_keeps : (p : Path) (x : ℕ) (way : List ℕ) (v : Value) → Has {S = Acting} {A = Unit {0}} (Keeps s making q) (λ t. put_in_instance Acting on_situation (fin.get t.state.situation.core.instances p) p x way v t)
   stored_keeps p x way v t = by (fin.get t.state.situation.core.instances p) refl
     where
       tested : (i : Instance) → fin.get t.state.situation.core.instances p ≡ Some i → (b : Bool) → may_store (t.state.situation.core.types i.body) x way v ≡ b → KU t (cond b (Ok (tt, record t { state = on_situation.keeps p (effect.Store x way v) t.state })) (Err (fault.Unset, t.left)))
       tested i e true may w = good_store s making q t.state.situation w p i x way v e may
       tested i e false may w = tt
 
-      by : (o : Option Instance) → fin.get t.state.situation.core.instances p ≡ o → KU t (put_at Acting on_situation o p x way v t)
+      by : (o : Option Instance) → fin.get t.state.situation.core.instances p ≡ o → KU t (put_in_instance Acting on_situation o p x way v t)
       by None e w = tt
       by (Some i) e w = tested i e (may_store (t.state.situation.core.types i.body) x way v) refl w
 
@@ -210,7 +211,7 @@ module _ (s : Subject) (making : List Path) (q : Path) where
 
     -- ---- output
 
-    output_sent : (m : Name) (chosen : List Choice) (mm : Meaning) → mm ≡ meant m → meant m ≡ meant_with s chosen m → (p : Name) (values : List Value) (a : IpAddr) (t : Running Acting) → (is_sent_at (point s t.state.situation.core.instances a) mm && are_values_of (types_of mm) values) ≡ true → KU t (make Acting on_situation s meant (effect.Output a p.word m.word values) t)
+    output_sent : (m : Name) (chosen : List Choice) (mm : Meaning) → mm ≡ meant m → meant m ≡ meant_with s chosen m → (p : Name) (values : List Value) (a : IpAddr) (t : Running Acting) → (is_sent_at (point s t.state.situation.core.instances a) mm && are_values_of (types_received mm) values) ≡ true → KU t (make Acting on_situation s meant (effect.Output a p.word m.word values) t)
     output_sent m chosen (Interaction kind) is by p values a t h w =
         let b = and_both (sent_at (point s t.state.situation.core.instances a) kind) (are_values_of kind.parameters values) h in
         let x = from (point s t.state.situation.core.instances a) b.0 in
@@ -222,10 +223,10 @@ module _ (s : Subject) (making : List Path) (q : Path) where
     output_sent m chosen _ is by p values a t h w = absurd (cc)
 
     output_at_keeps : (m : Name) (chosen : List Choice) → meant m ≡ meant_with s chosen m → (p : Name) (values : List Value) (a : IpAddr) → Has (Keeps s making q) (output_at Acting on_situation s meant p m values a)
-    output_at_keeps m chosen by p values a t = needs_then (λ c. is_sent_at (point s c.instances a) (meant m) && are_values_of (types_of (meant m)) values) (make Acting on_situation s meant (effect.Output a p.word m.word values)) t
+    output_at_keeps m chosen by p values a t = needs_then (λ c. is_sent_at (point s c.instances a) (meant m) && are_values_of (types_received (meant m)) values) (make Acting on_situation s meant (effect.Output a p.word m.word values)) t
         (λ h. output_sent m chosen (meant m) refl by p values a t h)
 
     pub output_keeps : (m : Name) (chosen : List Choice) → meant m ≡ meant_with s chosen m → (here : Environment) (p : Name) (es : List (Operand Acting)) → Each (OperandKept Acting on_situation (Keeps s making q) closed) es → Has (Keeps s making q) (output Acting on_situation s meant here p m es)
-    output_keeps m chosen by here p es h = closed.then ActualParameters (Unit {0}) (give_all (map ByValue (types_of (meant m))) es no_arguments) (λ g. spend >>= λ spent. ip_of Acting on_situation s meant here.path (meant p) >>= λ a. output_at Acting on_situation s meant p m g.values a) (give_all_kept Acting on_situation (Keeps s making q) closed (map ByValue (types_of (meant m))) es no_arguments h)
+    output_keeps m chosen by here p es h = closed.then ActualParameters (Unit {0}) (give_all (map ByValue (types_received (meant m))) es no_arguments) (λ g. spend >>= λ spent. ip_of Acting on_situation s meant here.path (meant p) >>= λ a. output_at Acting on_situation s meant p m g.values a) (give_all_kept Acting on_situation (Keeps s making q) closed (map ByValue (types_received (meant m))) es no_arguments h)
         (λ g. closed.then (Unit {0}) (Unit {0}) spend (λ spent. ip_of Acting on_situation s meant here.path (meant p) >>= λ a. output_at Acting on_situation s meant p m g.values a) spend_keeps
         (λ spent. closed.then IpAddr (Unit {0}) (ip_of Acting on_situation s meant here.path (meant p)) (λ a. output_at Acting on_situation s meant p m g.values a) (ip_of_keeps here.path (meant p)) (λ a. output_at_keeps m chosen by p g.values a)))

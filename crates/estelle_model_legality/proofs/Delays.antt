@@ -17,7 +17,7 @@ use Rattle.estelle_tree.specs.Timers.{Timer, Timers, pair, pair_cmp, timer_of, r
 use Rattle.estelle_model.specs.declared.job.Guard.{Guard}
 use Rattle.estelle_model.specs.declared.job.Guard.TheVariants.{Off, On, Faulted}
 use Rattle.estelle_model.specs.Core.{Instance}
-use Rattle.estelle_model.specs.Steps.{Running, Outcome, Step, and_then, checked_at}
+use Rattle.estelle_model.specs.Steps.{Running, StepResult, Step, and_then, checked_at}
 use Rattle.estelle_model.specs.Blocks.{fresh}
 use Rattle.estelle_model.specs.Transitions.{Transition, Delay}
 use Rattle.estelle_model.specs.Subject.{Subject, transition}
@@ -46,11 +46,11 @@ abbrev ResultBounded : Result Guard Fault → Type 0
 ResultBounded (Ok g) = IsBounded g
 ResultBounded (Err e) = Unit {0}
 
-abbrev OutcomeBounded : {S : Type 0} → Outcome S Guard → Type 0
+abbrev OutcomeBounded : {S : Type 0} → StepResult S Guard → Type 0
 OutcomeBounded (Ok r) = IsBounded r.0
 OutcomeBounded (Err e) = Unit {0}
 
-then_bounded : (S A : Type 0) (o : Outcome S A) (f : A → Step S Guard) → ((a : A) (u : Running S) → OutcomeBounded (f a u)) → OutcomeBounded (and_then o f)
+then_bounded : (S A : Type 0) (o : StepResult S A) (f : A → Step S Guard) → ((a : A) (u : Running S) → OutcomeBounded (f a u)) → OutcomeBounded (and_then o f)
 then_bounded S A (Ok r) f h = h r.0 r.1
 then_bounded S A (Err e) f h = tt
 
@@ -58,7 +58,7 @@ checked_bounded : (S : Type 0) (r : Result Guard Fault) (u : Running S) → Resu
 checked_bounded S (Ok g) u h = h
 checked_bounded S (Err e) u h = tt
 
-answered_bounded : {S : Type 0} (o : Outcome S Guard) → OutcomeBounded o → IsBounded (answered o)
+answered_bounded : {S : Type 0} (o : StepResult S Guard) → OutcomeBounded o → IsBounded (answered o)
 answered_bounded (Ok r) h = h
 answered_bounded (Err e) h = tt
 

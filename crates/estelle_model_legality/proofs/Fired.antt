@@ -17,7 +17,7 @@ use Rattle.estelle_tree.specs.Links.{same_ip}
 use Rattle.estelle_tree.specs.Queues as queues
 use Rattle.estelle_model.specs.Core.{Instance}
 use Rattle.estelle_model.specs.Effects.{Enter, changed, changed_in}
-use Rattle.estelle_model.specs.Steps.{Running, Outcome, and_then}
+use Rattle.estelle_model.specs.Steps.{Running, StepResult, and_then}
 use Rattle.estelle_model.specs.Transitions.{Transition, When}
 use Rattle.estelle_model.specs.Subject.{Subject, body, transition, meant, meant_with, of_block}
 use Rattle.estelle_model.specs.Blocks.{fresh, block_step}
@@ -159,7 +159,7 @@ module _ (s : Subject) (leads : LeadsToStates s) (budget : ℕ) (g : Situation) 
           timers = same_timers h o.timers;
         }
 
-    fired_block : (o : Outcome Acting (Unit {0})) → Comes s [] m (Unit {0}) (taken s g m t.when) o → HasFired s m g (done (and_then o (λ _. enter_state Acting on_situation s (meant s) m t.to)))
+    fired_block : (o : StepResult Acting (Unit {0})) → Comes s [] m (Unit {0}) (taken s g m t.when) o → HasFired s m g (done (and_then o (λ _. enter_state Acting on_situation s (meant s) m t.to)))
     fired_block (Ok r) c = next_state t.to refl r.1 c.0 (outside_then m g (taken s g m t.when) r.1.state.situation (taken_within t.when).1 c.1)
     fired_block (Err e) c = tt
 

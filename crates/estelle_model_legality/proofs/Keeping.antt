@@ -18,7 +18,7 @@ use Rattle.estelle_model.specs.Situation.{Situation}
 use Rattle.estelle_model.specs.Queues.{Found, NotNeeded, Head, Absent, is_named, found, named, received}
 use Rattle.estelle_model.specs.Firing.{Firing, Ran, Failed, Undefined, transition_at, fire, start, is_in_state, guard_with, guard_found, guard_of, guard_at, guard}
 use Rattle.estelle_model.specs.Delays.{is_on, renew}
-use Rattle.estelle_model.specs.Runs.{same_pair, without, fired, next, MaySelect, HasRun, Goes, Begins, after_all, started, after_first}
+use Rattle.estelle_model.specs.Runs.{same_pair, without, fired, next, MaySelect, HasRun, Goes, Begins, after_events, started, after_first}
 use Rattle.estelle_model.specs.Runs as runs
 use Rattle.estelle_model_legality.specs.Situations.{IsLegal}
 use Rattle.estelle_model_legality.specs.Instances.{LeadsToStates}
@@ -201,7 +201,7 @@ events_keep s leads budget g legal (Fault m n kind) applies = legal
 -- ---- runs
 
 module _ (s : Subject) (leads : LeadsToStates s) (budget : ℕ) where
-  goes_legal : (es : List Event) (g : Situation) → IsLegal s g → Goes s budget g es → (i : ℕ) → IsLegal s (after_all s budget g (take i es))
+  goes_legal : (es : List Event) (g : Situation) → IsLegal s g → Goes s budget g es → (i : ℕ) → IsLegal s (after_events s budget g (take i es))
   goes_legal es g legal goes zero = legal
   goes_legal [] g legal goes (suc i) = legal
   goes_legal (e ∷ es) g legal goes (suc i) = goes_legal es (next s budget g e) (events_keep s leads budget g legal e goes.0) goes.2 i

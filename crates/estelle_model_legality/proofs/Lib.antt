@@ -1,7 +1,3 @@
--- ---- a property of steps that every expression and statement has
-pub mod Kept
-pub mod KeptExpressions
-pub mod KeptStatements
 -- ---- lists and paths
 pub mod Lists
 pub mod Ways

@@ -9,7 +9,7 @@ use Rattle.estelle_tree.specs.Links.{above}
 use Rattle.estelle_model.specs.Core.{Instance, Instances}
 use Rattle.estelle_model.specs.Effects.{instances_after}
 use Rattle.estelle_model.specs.Effects as effect
-use Rattle.estelle_model.specs.Steps.{Running, Outcome, Do, and_then, ◌>>=◌, ◌>>◌, pure, checked_at}
+use Rattle.estelle_model.specs.Steps.{Running, StepResult, Do, and_then, ◌>>=◌, ◌>>◌, pure, checked_at}
 use Rattle.estelle_model.specs.declared.meaning.Meaning.{Meaning}
 use Rattle.estelle_model.specs.declared.meaning.Meaning.TheVariants.{Module}
 use Rattle.estelle_model.specs.Meant.{Meanings}
@@ -17,7 +17,7 @@ use Rattle.estelle_model.specs.Places.{held_in, module_variables_of, child_step}
 use Rattle.estelle_model.specs.declared.place.Environment.{Environment}
 use Rattle.estelle_model.specs.Subject.{Subject, child_of}
 use Rattle.estelle_model.specs.Situation.{Situation, Acting, on_situation}
-use Rattle.estelle_model.specs.Actions.{found, at, count_from, make, keep, disconnect_if, detach_above, detach_if, for_each, release_child, release, is_connected}
+use Rattle.estelle_model.specs.Actions.{or_no_module, at, count_from, make, keep, disconnect_if, detach_above, detach_if, for_each, release_child, release, is_connected}
 use Rattle.estelle_model_legality.proofs.Ways.{child_injective, last_child, not_below_itself}
 use Rattle.estelle_model_legality.proofs.Linking.{attaches, above_is}
 use Rattle.estelle_model.specs.InteractionPoints.{point}
@@ -30,18 +30,18 @@ use Rattle.estelle_model_legality.proofs.Making.{good_released}
 
 module _ (s : Subject) (making : List Path) (q : Path) (meant : Meanings) where
   -- a step that leaves instances as they are
-  abbrev FreesTo : Situation → Outcome Acting (Unit {0}) → Type 0
+  abbrev FreesTo : Situation → StepResult Acting (Unit {0}) → Type 0
   FreesTo g (Ok r) = Within s making r.1.state.situation × Outside q g r.1.state.situation × (r.1.state.situation.core.instances ≡ g.core.instances)
   FreesTo g (Err e) = Unit {0}
 
-  abbrev Frees : Running Acting → Outcome Acting (Unit {0}) → Type 0
+  abbrev Frees : Running Acting → StepResult Acting (Unit {0}) → Type 0
   Frees t o = Within s making t.state.situation → FreesTo t.state.situation o
 
-  frees_more : (g h : Situation) (o : Outcome Acting (Unit {0})) → Outside q g h → h.core.instances ≡ g.core.instances → FreesTo h o → FreesTo g o
+  frees_more : (g h : Situation) (o : StepResult Acting (Unit {0})) → Outside q g h → h.core.instances ≡ g.core.instances → FreesTo h o → FreesTo g o
   frees_more g h (Ok r) x e c = (c.0, outside_then q g h r.1.state.situation x c.1, c.2 ∙ e)
   frees_more g h (Err e') x e c = tt
 
-  frees_then : (o : Outcome Acting (Unit {0})) (t : Running Acting) (f : Do Acting) → Frees t o → ((u : Running Acting) → Frees u (f u)) → Frees t (and_then o (λ _. f))
+  frees_then : (o : StepResult Acting (Unit {0})) (t : Running Acting) (f : Do Acting) → Frees t o → ((u : Running Acting) → Frees u (f u)) → Frees t (and_then o (λ _. f))
   frees_then (Ok r) t f h k w = let c = h w in frees_more t.state.situation r.1.state.situation (f r.1) c.1 c.2 (k r.1 c.0)
   frees_then (Err e) t f h k w = tt
 
@@ -80,7 +80,7 @@ module _ (s : Subject) (making : List Path) (q : Path) (meant : Meanings) where
         → Keeps s making q (Unit {0}) t ((make Acting on_situation s meant (effect.Remove q k) >>= λ removed. keep Acting on_situation s meant q (effect.Hold m None)) t)
     gone m k i holding t here w = good_released s making q m k t.state.situation w i here holding (not_making k)
 
-    freed_then : (m k : ℕ) (i : Instance) → slice_get i.module_variables m ≡ Some (Some (child q k)) → (t : Running Acting) → fin.get t.state.situation.core.instances q ≡ Some i → (o : Outcome Acting (Unit {0})) → Frees t o
+    freed_then : (m k : ℕ) (i : Instance) → slice_get i.module_variables m ≡ Some (Some (child q k)) → (t : Running Acting) → fin.get t.state.situation.core.instances q ≡ Some i → (o : StepResult Acting (Unit {0})) → Frees t o
         → Keeps s making q (Unit {0}) t (and_then o (λ freed. make Acting on_situation s meant (effect.Remove q k) >>= λ removed. keep Acting on_situation s meant q (effect.Hold m None)))
     freed_then m k i holding t here (Ok r) h w =
         let c = h w in
@@ -91,7 +91,7 @@ module _ (s : Subject) (making : List Path) (q : Path) (meant : Meanings) where
     release_child_keeps : (m k : ℕ) (i : Instance) → slice_get i.module_variables m ≡ Some (Some (child q k)) → (t : Running Acting) → fin.get t.state.situation.core.instances q ≡ Some i → Keeps s making q (Unit {0}) t (release_child Acting on_situation s meant q m (child q k) t)
     release_child_keeps m k i holding t here = by (fin.get t.state.situation.core.instances (child q k))
       where
-        by : (o : Option Instance) → Keeps s making q (Unit {0}) t (and_then (and_then (checked_at (found o) t) (λ n. pure (map (at (child q k)) (count_from 0 (child_of s n.body).external))))
+        by : (o : Option Instance) → Keeps s making q (Unit {0}) t (and_then (and_then (checked_at (or_no_module o) t) (λ n. pure (map (at (child q k)) (count_from 0 (child_of s n.body).external))))
             (λ ips. for_each Acting on_situation s meant (λ a. disconnect_if Acting on_situation s meant a >> detach_if Acting on_situation s meant a) ips >>= λ freed. make Acting on_situation s meant (effect.Remove q (last_of (child q k))) >>= λ removed. keep Acting on_situation s meant q (effect.Hold m None)))
         by None w = tt
         by (Some n) w =

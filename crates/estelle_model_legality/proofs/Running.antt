@@ -12,7 +12,7 @@ use Rattle.estelle_model.specs.Effects as effect
 use Rattle.estelle_model.specs.Bodies.{BodyAlone, heading, variables_in, variable_types, states_in, module_variables_in}
 use Rattle.estelle_model.specs.declared.denoter.Denoter.{Denoter}
 use Rattle.estelle_model.specs.Denoted.{section_types}
-use Rattle.estelle_model.specs.Steps.{Running, Outcome, Step, Do, and_then, ◌>>=◌, ◌>>◌, pure, fail, checked, checked_at, spend}
+use Rattle.estelle_model.specs.Steps.{Running, StepResult, Step, Do, and_then, ◌>>=◌, ◌>>◌, pure, fail, checked, checked_at, spend}
 use Rattle.estelle_model.specs.declared.meaning.Passing.TheVariants.{ByValue}
 use Rattle.estelle_model.specs.declared.meaning.Routine.{Routine}
 use Rattle.estelle_model.specs.declared.meaning.Meaning.{Meaning}
@@ -30,11 +30,11 @@ use Rattle.estelle_model.specs.Subject as subject
 use Rattle.estelle_model.specs.Attributes.{attribute, allows, may_have_transitions}
 use Rattle.estelle_model.specs.Belonging.{are_values_of}
 use Rattle.estelle_model.specs.Situation.{Situation, Acting, on_situation, situation_after, situation_kept}
-use Rattle.estelle_model.specs.Actions.{instance_at, has_header, may_hold, empty_in, found, make, keep, read, needs, enter_state, create, init, init_of, act}
+use Rattle.estelle_model.specs.Actions.{instance_at, has_header, may_hold, empty_in, or_no_module, make, keep, read, needs, enter_state, create, init, init_of, act}
 use Rattle.estelle_model_legality.specs.Instances.{IsStateOf, LeadsToStates}
 use Rattle.estelle_model.proofs.Units.{Each}
-use Rattle.estelle_model_legality.proofs.Kept.{Has, OperandKept, CallKept, give_all_kept, seq_kept}
-use Rattle.estelle_model_legality.proofs.KeptStatements.{ActKept, stmts_kept}
+use Rattle.estelle_model.proofs.Kept.{Has, OperandKept, CallKept, give_all_kept, seq_kept}
+use Rattle.estelle_model.proofs.KeptStatements.{ActKept, stmts_kept}
 use Rattle.estelle_model_legality.proofs.Lists.{and_both, same_number, in_cases, in_head, not_true}
 use Rattle.estelle_model_legality.proofs.Ways.{inside_itself, inside_child, not_below_itself}
 use Rattle.estelle_model_legality.proofs.Belonging.{values_new}
@@ -65,12 +65,12 @@ header_is (Some k) h e = ap (λ (x : ℕ). Some x) (same_number k h e)
 
 module _ (s : Subject) (leads : LeadsToStates s) where
   -- what is done before a block begins
-  abbrev pub Began : List Path → (Situation → Type 0) → Outcome Acting (Unit {0}) → Type 0
+  abbrev pub Began : List Path → (Situation → Type 0) → StepResult Acting (Unit {0}) → Type 0
   Began making P (Ok r) = Within s making r.1.state.situation × P r.1.state.situation
   Began making P (Err e) = Unit {0}
 
   -- what the block then comes to
-  abbrev pub Ended : List Path → Path → (Situation → Type 0) → Outcome Acting Value → Type 0
+  abbrev pub Ended : List Path → Path → (Situation → Type 0) → StepResult Acting Value → Type 0
   Ended making c P (Ok r) = (h : Situation) × P h × Within s making r.1.state.situation × Outside c h r.1.state.situation
   Ended making c P (Err e) = Unit {0}
 
@@ -194,12 +194,12 @@ module _ (s : Subject) (leads : LeadsToStates s) where
       create_keeps = go (enters (checked (empty_in (slice_get i.module_variables m)) >> make Acting on_situation s meant (effect.Create here.path (suc i.births) ((child_of s k).with_parameters values))) (child here.path (suc i.births)) (child_of s k).block no_arguments t)
           (into (child here.path (suc i.births) ∷ making) (child here.path (suc i.births)) deeper_above (checked (empty_in (slice_get i.module_variables m)) >> make Acting on_situation s meant (effect.Create here.path (suc i.births) ((child_of s k).with_parameters values))) Made (child_of s k).block no_arguments t began)
         where
-          go : (o : Outcome Acting Value) → Ended (child here.path (suc i.births) ∷ making) (child here.path (suc i.births)) Made o
+          go : (o : StepResult Acting Value) → Ended (child here.path (suc i.births) ∷ making) (child here.path (suc i.births)) Made o
               → Comes s making here.path (Unit {0}) t.state.situation (and_then o (λ _. enter_state Acting on_situation s meant (child here.path (suc i.births)) (child_of s k).to >>= λ entered. keep Acting on_situation s meant here.path (effect.Hold m (Some (child here.path (suc i.births))))))
           go (Err e) h = tt
           go (Ok r) h = finished (child_of s k).to (λ d at. leads.initial k d at) h.0 h.1 r.1 h.2 h.3
 
-    abbrev K : (A : Type 0) → Running Acting → Outcome Acting A → Type 0
+    abbrev K : (A : Type 0) → Running Acting → StepResult Acting A → Type 0
     K = Keeps s making here.path
 
     init_keeps : (m k : ℕ) (es : List (Operand Acting)) → Each (OperandKept Acting on_situation K (closed s making here.path)) es → Has K (init Acting on_situation s meant enters here m k (child_of s k) es)
@@ -214,7 +214,7 @@ module _ (s : Subject) (leads : LeadsToStates s) where
         tested g t i e false may w = tt
 
         from : (g : ActualParameters) (t : Running Acting) (o : Option Instance) → fin.get t.state.situation.core.instances here.path ≡ o
-            → K (Unit {0}) t (and_then (checked_at (found o) t) (λ i. needs Acting on_situation s meant (λ c. may_hold s i.body m k && are_values_of (child_of s k).parameters g.values) >>= λ _. create Acting on_situation s meant enters here m (child_of s k) g.values i))
+            → K (Unit {0}) t (and_then (checked_at (or_no_module o) t) (λ i. needs Acting on_situation s meant (λ c. may_hold s i.body m k && are_values_of (child_of s k).parameters g.values) >>= λ _. create Acting on_situation s meant enters here m (child_of s k) g.values i))
         from g t None e w = tt
         from g t (Some i) e w = tested g t i e (may_hold s i.body m k && are_values_of (child_of s k).parameters g.values) refl w
 
@@ -239,7 +239,7 @@ module _ (s : Subject) (leads : LeadsToStates s) where
     call_keeps : (enters : Enters Acting) → EntersKeeps enters → (making : List Path) (q : Path) → AllAbove making q → CallKept Acting on_situation (Keeps s making q) (closed s making q) (call_by enters q)
     call_keeps enters into making q all_above r g t w = go (enters (pure tt) q r g t) (into making q all_above (pure tt) (λ h. h ≡ t.state.situation) r g t (λ u e. (subst (λ (a : Acting). Within s making a.situation) (sym e) w, ap (λ (a : Acting). a.situation) e)))
       where
-        go : (o : Outcome Acting Value) → Ended making q (λ h. h ≡ t.state.situation) o → Comes s making q Value t.state.situation o
+        go : (o : StepResult Acting Value) → Ended making q (λ h. h ≡ t.state.situation) o → Comes s making q Value t.state.situation o
         go (Ok x) h = (h.2, subst (λ (y : Situation). Outside q y x.1.state.situation) h.1 h.3)
         go (Err e) h = tt
 
@@ -262,11 +262,11 @@ module _ (s : Subject) (leads : LeadsToStates s) where
         go false = tt
     nested_keeps (suc n) making c all_above before P r g t h = go (nat_lt 0 t.left) (within_keeps (nested Acting on_situation meant (act Acting on_situation s meant) n) (nested_keeps n) making c all_above (max_depth - n) r g)
       where
-        ran : (o : Outcome Acting (Unit {0})) → Began making P o → (f : Step Acting Value) → Has (Keeps s making c) f → Ended making c P (and_then o (λ _. f))
+        ran : (o : StepResult Acting (Unit {0})) → Began making P o → (f : Step Acting Value) → Has (Keeps s making c) f → Ended making c P (and_then o (λ _. f))
         ran (Err e) k f keeps = tt
         ran (Ok x) k f keeps = then (f x.1) (keeps x.1 k.0)
           where
-            then : (o : Outcome Acting Value) → Comes s making c Value x.1.state.situation o → Ended making c P o
+            then : (o : StepResult Acting Value) → Comes s making c Value x.1.state.situation o → Ended making c P o
             then (Ok y) z = (x.1.state.situation, k.1, z.0, z.1)
             then (Err e) z = tt
 

@@ -13,7 +13,7 @@ use Rattle.estelle_tree.specs.Paths.{Path, path_cmp, child, is_inside}
 use Rattle.estelle_model.specs.Core.{Instance}
 use Rattle.estelle_model.specs.Bodies.{BodyAlone, variable_types, states_in, module_variables_in}
 use Rattle.estelle_model.specs.Effects.{Enter, changed, changed_in}
-use Rattle.estelle_model.specs.Steps.{Running, Outcome, and_then}
+use Rattle.estelle_model.specs.Steps.{Running, StepResult, and_then}
 use Rattle.estelle_model.specs.Subject.{Subject, body, begins, new_instance, meant}
 use Rattle.estelle_model.specs.Blocks.{fresh, block_step}
 use Rattle.estelle_model.specs.Situation.{Situation, Acting, on_situation, situation_kept}
@@ -138,7 +138,7 @@ module _ (s : Subject) (leads : LeadsToStates s) (budget : ℕ) where
       let now : i ≡ f was.0 = some_is i (f was.0) (fin.get (changed_in [] f h.core.instances) []) there (get_changed [] f h.core.instances [] ∙ changed_here [] f (fin.get h.core.instances) ∙ ap (option_map f) was.1) in
       subst (λ (z : Instance). IsStateOf (length (states_in b)) z.state) (sym now) (may was.0 b was.1 (sym (ap (λ (z : Instance). body s z.body) now) ∙ at)))
 
-  started_block : (o : Outcome Acting (Unit {0})) → Comes s ([] ∷ []) [] (Unit {0}) (bare s) o → IsStarted s (done (and_then o (λ _. enter_state Acting on_situation s (meant s) [] (begins s 0).to)))
+  started_block : (o : StepResult Acting (Unit {0})) → Comes s ([] ∷ []) [] (Unit {0}) (bare s) o → IsStarted s (done (and_then o (λ _. enter_state Acting on_situation s (meant s) [] (begins s 0).to)))
   started_block (Ok r) c = settled_start (begins s 0).to refl r.1 c.0 c.1
   started_block (Err e) c = tt
 

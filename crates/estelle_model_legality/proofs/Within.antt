@@ -11,7 +11,7 @@ use Rattle.estelle_tree.specs.Queues.{waits_at, brought_to, waiting, not_waiting
 use Rattle.estelle_model.specs.Core.{Instance}
 use Rattle.estelle_model.specs.Effects.{born}
 use Rattle.estelle_model.specs.Subject.{Subject, types_of_variables}
-use Rattle.estelle_model.specs.Steps.{Running, Outcome, Step, and_then}
+use Rattle.estelle_model.specs.Steps.{Running, StepResult, Step, and_then}
 use Rattle.estelle_model.specs.Situation.{Waiting, Situation, Acting}
 use Rattle.estelle_model_legality.specs.Instances.{MayStandBut}
 use Rattle.estelle_model_legality.specs.Linked.{MayBeLinked}
@@ -146,18 +146,18 @@ created_elsewhere p k i look r n = ap (λ (b : Bool). cond b (Some i) (changed_a
 
 module _ (s : Subject) (making : List Path) (q : Path) where
   -- what a step comes to from a situation
-  abbrev pub Comes : (A : Type 0) → Situation → Outcome Acting A → Type 0
+  abbrev pub Comes : (A : Type 0) → Situation → StepResult Acting A → Type 0
   Comes A g (Ok r) = Within s making r.1.state.situation × Outside q g r.1.state.situation
   Comes A g (Err e) = Unit {0}
 
-  abbrev pub Keeps : (A : Type 0) → Running Acting → Outcome Acting A → Type 0
+  abbrev pub Keeps : (A : Type 0) → Running Acting → StepResult Acting A → Type 0
   Keeps A t o = Within s making t.state.situation → Comes A t.state.situation o
 
-  comes_then : (A : Type 0) (g h : Situation) (o : Outcome Acting A) → Outside q g h → Comes A h o → Comes A g o
+  comes_then : (A : Type 0) (g h : Situation) (o : StepResult Acting A) → Outside q g h → Comes A h o → Comes A g o
   comes_then A g h (Ok r) x c = (c.0, outside_then q g h r.1.state.situation x c.1)
   comes_then A g h (Err e) x c = tt
 
-  pub keeps_then : (A B : Type 0) (o : Outcome Acting A) (t : Running Acting) (f : A → Step Acting B) → Keeps A t o → ((a : A) (u : Running Acting) → Keeps B u (f a u)) → Keeps B t (and_then o f)
+  pub keeps_then : (A B : Type 0) (o : StepResult Acting A) (t : Running Acting) (f : A → Step Acting B) → Keeps A t o → ((a : A) (u : Running Acting) → Keeps B u (f a u)) → Keeps B t (and_then o f)
   keeps_then A B (Ok r) t f h k w = let c = h w in comes_then B t.state.situation r.1.state.situation (f r.0 r.1) c.1 (k r.0 r.1 c.0)
   keeps_then A B (Err e) t f h k w = tt
 

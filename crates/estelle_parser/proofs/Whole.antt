@@ -9,7 +9,7 @@ use Rattle.estelle_tree.specs.Input.{Input, input, left, between}
 use Rattle.estelle_tree.specs.Specification.{IsSysAttr, IsSpec}
 use Rattle.estelle_tree.specs.Spells.{max_nesting, Spells}
 use Rattle.token_reader.specs.declared.error.ReadError.{ReadError}
-use Rattle.token_reader.specs.Reader.{Outcome, pure, refuse, expect, name}
+use Rattle.token_reader.specs.Reader.{ReadResult, pure, refuse, expect, name}
 use Rattle.token_reader.specs.Lists.{optional}
 use Rattle.token_reader.proofs.Sound.{Sound, through, answered, ok_pair, expect_sound, name_sound, optional_sound}
 use Rattle.token_reader.proofs.Complete.{Anything, Complete, expect_complete, name_complete, optional_complete}
@@ -33,7 +33,7 @@ pub at_end : (i : Input) → left i ≡ 0 → i ≡ input [] i.end
 unfolding left
 at_end i e = ap (λ tokens. input tokens i.end) (no_tokens i.tokens e)
 
-apart : (o : Outcome Spec) (e : ReadError) (s : Spec) (j : Input) → o ≡ Err e → o ≡ Ok (s, j) → ⊥
+apart : (o : ReadResult Spec) (e : ReadError) (s : Spec) (j : Input) → o ≡ Err e → o ≡ Ok (s, j) → ⊥
 apart o e s j refused found = cc
 
 module _ (room : ℕ) where

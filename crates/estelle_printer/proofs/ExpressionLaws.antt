@@ -24,7 +24,7 @@ use Rattle.estelle_tree.specs.Spans.{FactorLayer, SelectorLayer}
 use Rattle.estelle_tree.specs.Spelling.{Spelling, Chain, Behind, Separated}
 use Rattle.estelle_tree.specs.Expressions.{of_relation, of_adding, of_multiplying, TermOf, SimpleOf, ExprOf, ArgsOf, ElemOf, ElemsOf, SelectorLayerOf, SelectorOf, VariableOf, IsFactorLayer, FactorBelow, ExprBelow, IsFactor, IsExpr, IsArgs, IsVariable}
 use Rattle.estelle_printer.specs.Forms.{Tokens, mark, separated, enclosed}
-use Rattle.estelle_printer.specs.Canonical.{bare}
+use Rattle.estelle_printer.specs.Canonical.{without_places}
 use Rattle.estelle_printer.specs.ExpressionTokens.{factor_layer, selector_layer, factor, selector, args, elem, expr, simple, term, variable}
 use Rattle.estelle_printer.proofs.TerminalLaws.{is_plain}
 use Rattle.estelle_printer.proofs.WritingLemmas.{separated_map}
@@ -78,7 +78,7 @@ module _ (F : Spelling Factor) (tells : Tells F factor) where
 module _ (room : ℕ) (F : Spelling Factor) (tells : Tells F factor) where
   -- what a selector spells, which may begin with a `.` and does not end with the word `end`
   record Selects (ts : Tokens) (i j : Input) : Type 0 where
-    is : bare i.tokens ≡ ts ++ bare j.tokens
+    is : without_places i.tokens ≡ ts ++ without_places j.tokens
     calm : is_calm false ts ≡ true
     ends : ends_so false ts ≡ false
 
@@ -92,10 +92,10 @@ module _ (room : ℕ) (F : Spelling Factor) (tells : Tells F factor) where
   selector_tells s i j h =
       let l = selector_layer_tells (out-Selector s) i j h in
       let e = selector_is s in
-      record { is = l.is ∙ ap (λ ts. ts ++ bare j.tokens) (sym e); calm = ap (is_calm false) e ∙ l.calm; ends = ap (ends_so false) e ∙ l.ends }
+      record { is = l.is ∙ ap (λ ts. ts ++ without_places j.tokens) (sym e); calm = ap (is_calm false) e ∙ l.calm; ends = ap (ends_so false) e ∙ l.ends }
 
   selectors_tell : (xs : List Selector) (i j : Input) → Chain (SelectorOf room F) xs i j → Selects (flat_map selector xs) i j
-  selectors_tell [] i j h = record { is = ap (λ (p : Input). bare p.tokens) h; calm = refl; ends = refl }
+  selectors_tell [] i j h = record { is = ap (λ (p : Input). without_places p.tokens) h; calm = refl; ends = refl }
   selectors_tell (x ∷ xs) i j h =
       let s = selector_tells x i h.0 h.1 in
       let t = selectors_tell xs h.0 j h.2 in

@@ -9,7 +9,7 @@ use Rattle.estelle_tree.specs.declared.kind.Kind.TheVariants as k
 use Rattle.estelle_tree.specs.Input.{Input, kind, next, token_at, first_kind, first_token, after_first}
 use Rattle.estelle_tree.specs.Spelling.{Spelling, Takes, Flag, Mark, Optional, Chain, Several, Behind, Ended, Joined, Separated, Enclosed, Lines, MayBeLines}
 use Rattle.estelle_tree.specs.Lexed.{is_end, is_dot}
-use Rattle.estelle_printer.specs.Canonical.{bare}
+use Rattle.estelle_printer.specs.Canonical.{without_places}
 use Rattle.estelle_printer.specs.Terminals.{terminal}
 use Rattle.estelle_printer.specs.Forms.{Tokens, mark, flag, optional, separated, lines, may_be_lines, enclosed}
 use Rattle.estelle_printer.proofs.TerminalLaws.{has_one, token_terminal, is_plain, plain_one, plain_no_dot}
@@ -46,51 +46,51 @@ ends_join b (t ∷ ts) us = ends_join (is_end t) ts us
 
 -- these tokens stand between two places, and in them no `.` stands right behind the word `end`, nor at the front
 pub record Stand (ts : Tokens) (i j : Input) : Type 0 where
-  pub is : bare i.tokens ≡ ts ++ bare j.tokens
+  pub is : without_places i.tokens ≡ ts ++ without_places j.tokens
   pub calm : (b : Bool) → is_calm b ts ≡ true
 
 pub same_tokens : {ts us : Tokens} {i j : Input} → ts ≡ us → Stand us i j → Stand ts i j
-same_tokens {i = i} {j = j} e s = record { is = s.is ∙ ap (λ vs. vs ++ bare j.tokens) (sym e); calm = λ b. ap (is_calm b) e ∙ s.calm b }
+same_tokens {i = i} {j = j} e s = record { is = s.is ∙ ap (λ vs. vs ++ without_places j.tokens) (sym e); calm = λ b. ap (is_calm b) e ∙ s.calm b }
 
 -- the same tokens, put together in another way
 pub regrouped : {ts us : Tokens} {i j : Input} → Stand us i j → us ≡ ts → Stand ts i j
-regrouped {i = i} {j = j} s e = record { is = s.is ∙ ap (λ vs. vs ++ bare j.tokens) e; calm = λ b. ap (is_calm b) (sym e) ∙ s.calm b }
+regrouped {i = i} {j = j} s e = record { is = s.is ∙ ap (λ vs. vs ++ without_places j.tokens) e; calm = λ b. ap (is_calm b) (sym e) ∙ s.calm b }
 
 -- these, and then those
-pub follow : (ts us : Tokens) (i m j : Input) → bare i.tokens ≡ ts ++ bare m.tokens → bare m.tokens ≡ us ++ bare j.tokens → bare i.tokens ≡ (ts ++ us) ++ bare j.tokens
-follow ts us i m j e f = e ∙ ap (λ vs. ts ++ vs) f ∙ sym (append_assoc ts us (bare j.tokens))
+pub follow : (ts us : Tokens) (i m j : Input) → without_places i.tokens ≡ ts ++ without_places m.tokens → without_places m.tokens ≡ us ++ without_places j.tokens → without_places i.tokens ≡ (ts ++ us) ++ without_places j.tokens
+follow ts us i m j e f = e ∙ ap (λ vs. ts ++ vs) f ∙ sym (append_assoc ts us (without_places j.tokens))
 
 infixl 10 ◌⋯◌
 pub ◌⋯◌ : {ts us : Tokens} {i m j : Input} → Stand ts i m → Stand us m j → Stand (ts ++ us) i j
 ◌⋯◌ {ts = ts} {us = us} {i = i} {m = m} {j = j} s t = record { is = follow ts us i m j s.is t.is; calm = λ b. calm_join b ts us (s.calm b) (t.calm (ends_so b ts)) }
 
 pub none : {i j : Input} → i ≡ j → Stand [] i j
-none {i = i} {j = j} e = record { is = ap (λ (p : Input). bare p.tokens) e; calm = λ b. refl }
+none {i = i} {j = j} e = record { is = ap (λ (p : Input). without_places p.tokens) e; calm = λ b. refl }
 
 alone : (t : Token) → is_dot t ≡ false → (b : Bool) → is_calm b (t ∷ []) ≡ true
 alone t e true = rw e refl
 alone t e false = refl
 
 -- one token
-pub token_taken : (t : Token) (i j : Input) → token_at i ≡ Some t → next i ≡ j → bare i.tokens ≡ t ∷ bare j.tokens
+pub token_taken : (t : Token) (i j : Input) → token_at i ≡ Some t → next i ≡ j → without_places i.tokens ≡ t ∷ without_places j.tokens
 unfolding token_at next
 token_taken t i j is after = go i.tokens i.end is after
   where
-    go : (ts : List Placed) (end : ℕ) → first_token ts ≡ Some t → after_first end ts ≡ j → bare ts ≡ t ∷ bare j.tokens
+    go : (ts : List Placed) (end : ℕ) → first_token ts ≡ Some t → after_first end ts ≡ j → without_places ts ≡ t ∷ without_places j.tokens
     go [] end e n = absurd (cc)
-    go (p ∷ ps) end e n = ap (λ (v : Token). v ∷ bare ps) (cc) ∙ ap (λ (q : Input). t ∷ bare q.tokens) n
+    go (p ∷ ps) end e n = ap (λ (v : Token). v ∷ without_places ps) (cc) ∙ ap (λ (q : Input). t ∷ without_places q.tokens) n
 
 pub one_token : (t : Token) (i j : Input) → is_dot t ≡ false → token_at i ≡ Some t → next i ≡ j → Stand (t ∷ []) i j
 one_token t i j other is after = record { is = token_taken t i j is after; calm = alone t other }
 
 -- a terminal
-pub terminal_taken : (k : Kind) (i j : Input) → has_one k ≡ true → Takes k i j → bare i.tokens ≡ terminal k ∷ bare j.tokens
+pub terminal_taken : (k : Kind) (i j : Input) → has_one k ≡ true → Takes k i j → without_places i.tokens ≡ terminal k ∷ without_places j.tokens
 unfolding kind next
 terminal_taken k i j one h = go i.tokens i.end h.kind h.next
   where
-    go : (ts : List Placed) (end : ℕ) → first_kind ts ≡ k → after_first end ts ≡ j → bare ts ≡ terminal k ∷ bare j.tokens
+    go : (ts : List Placed) (end : ℕ) → first_kind ts ≡ k → after_first end ts ≡ j → without_places ts ≡ terminal k ∷ without_places j.tokens
     go [] end e n = absurd (cc (ap has_one e, one))
-    go (p ∷ ps) end e n = ap (λ (v : Token). v ∷ bare ps) (token_terminal p.token (ap has_one e ∙ one) ∙ ap terminal e) ∙ ap (λ (q : Input). terminal k ∷ bare q.tokens) n
+    go (p ∷ ps) end e n = ap (λ (v : Token). v ∷ without_places ps) (token_terminal p.token (ap has_one e ∙ one) ∙ ap terminal e) ∙ ap (λ (q : Input). terminal k ∷ without_places q.tokens) n
 
 pub takes : (k : Kind) (i j : Input) → is_plain k ≡ true → Takes k i j → Stand (mark k) i j
 takes k i j plain h = record { is = terminal_taken k i j (plain_one k plain) h; calm = alone (terminal k) (plain_no_dot k plain) }

@@ -10,7 +10,7 @@ use Rattle.estelle_tree.specs.declared.kind.Kind.TheVariants as k
 use Rattle.estelle_tree.specs.Lexed.{is_end, is_dot, placed, Lexed, IsLexed, IsBlank, IsBlankFrom, IsSeparator, IsToken}
 use Rattle.std.proofs.lemmas.List.{drop_at}
 use Rattle.estelle_tree.specs.Spells as spells
-use Rattle.estelle_printer.specs.Canonical.{bare, written, gap_after, canonical, line_feed, space}
+use Rattle.estelle_printer.specs.Canonical.{without_places, written, gap_after, canonical, line_feed, space}
 use Rattle.estelle_printer.specs.Laws.{CanonicalTextIsLexed}
 use Rattle.estelle_printer.specs.Terminals.{terminal}
 use Rattle.estelle_printer.specs.SpecificationTokens.{before_dot}
@@ -24,7 +24,7 @@ abbrev pub placing : ℕ → List Token → List Placed
 placing at [] = []
 placing at (t ∷ ts) = placed at t (written t) ∷ placing (at + length (written t) + 1) ts
 
-bare_placing : (at : ℕ) (ts : List Token) → bare (placing at ts) ≡ ts
+bare_placing : (at : ℕ) (ts : List Token) → without_places (placing at ts) ≡ ts
 bare_placing at [] = refl
 bare_placing at (t ∷ ts) = ap (λ us. t ∷ us) (bare_placing (at + length (written t) + 1) ts)
 

@@ -18,7 +18,7 @@ use Rattle.estelle_tree.specs.Types.{IsName, IsNames}
 use Rattle.estelle_tree.specs.Declarations.{IsConstDef, IsTypeDef, AreVars}
 use Rattle.estelle_tree.specs.Specification.{IsSysAttr, IsAttr, IsQueue, IsHead, AreParams, IsParams, MayBeParams, IsInter, AreInters, IsChannel, IsIpDecl, AreModvars, IsStateset, IsHeader, IsInit, IsTrans, BodyOf, DeclLayerOf, DeclOf, PartsOf, PartsBelow, IsSpec}
 use Rattle.estelle_tree.specs.Spells.{Spells, max_nesting}
-use Rattle.estelle_printer.specs.Canonical.{bare, canonical, IsCanonicalText}
+use Rattle.estelle_printer.specs.Canonical.{without_places, canonical, IsCanonicalText}
 use Rattle.estelle_printer.specs.Laws.{SpellsOneList}
 use Rattle.estelle_printer.specs.Forms.{Tokens, mark, lines, enclosed}
 use Rattle.estelle_printer.specs.TypeTokens.{name, names, typed_names}
@@ -150,7 +150,7 @@ before_dot_tells room s i j h = regrouped
     ⋯ takes k.End h.after_parts h.after_end refl h.ends) (simp append_assoc)
 
 -- the tokens that a tree spells are those of the tree
-pub spells_tokens : (s : Spec) (tokens : List Placed) → Spells s tokens → bare tokens ≡ specification s
+pub spells_tokens : (s : Spec) (tokens : List Placed) → Spells s tokens → without_places tokens ≡ specification s
 spells_tokens s tokens h =
     let i = input tokens 0 in
     let j = input [] h.end in

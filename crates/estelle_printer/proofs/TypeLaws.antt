@@ -22,7 +22,7 @@ use Rattle.estelle_tree.specs.Spans.{TypeExprLayer}
 use Rattle.estelle_tree.specs.Spelling.{Spelling, Takes, Mark, Joined, Separated}
 use Rattle.estelle_tree.specs.Types.{IsName, IsNames, IsConst, IsOrdinal, of_sign, AreTyped, AreFields, IsTypeLayer, TypeBelow, IsType}
 use Rattle.estelle_printer.specs.Forms.{Tokens, mark, separated}
-use Rattle.estelle_printer.specs.Canonical.{bare}
+use Rattle.estelle_printer.specs.Canonical.{without_places}
 use Rattle.estelle_printer.specs.TypeTokens.{name, names, sign, constant, ordinal_type, type_layer, type_expr, fields, typed_names}
 use Rattle.estelle_printer.proofs.TerminalLaws.{is_plain}
 use Rattle.estelle_printer.proofs.FormLaws.{Stand, ◌⋯◌, is_calm, calm_join, follow, terminal_taken, same_tokens, regrouped, one_token, takes, Tells, flagged, marked, behind, separate, enclosed_in, joined}
@@ -52,14 +52,14 @@ name_no_end n i j h = go i.tokens h.token h.free
     go (p ∷ ps) e f = let same : p.token ≡ token.Word n.word = cc in free_no_end n.word (ap kind_of (sym same) ∙ f)
 
 -- behind a name, these that may begin with a `.`
-pub behind_name : (n : Name) (ts : Tokens) (i m j : Input) → IsName n i m → bare m.tokens ≡ ts ++ bare j.tokens → is_calm false ts ≡ true → Stand (name n ++ ts) i j
+pub behind_name : (n : Name) (ts : Tokens) (i m j : Input) → IsName n i m → without_places m.tokens ≡ ts ++ without_places j.tokens → is_calm false ts ≡ true → Stand (name n ++ ts) i j
 behind_name n ts i m j h e calm = record {
   is = follow (name n) ts i m j (name_tells n i m h).is e;
   calm = λ b. calm_join b (name n) ts ((name_tells n i m h).calm b) (ap (λ c. is_calm c ts) (name_no_end n i m h) ∙ calm);
 }
 
 -- `"." NAME`
-pub dot_name : (n : Name) (i m j : Input) → Takes k.Dot i m → IsName n m j → bare i.tokens ≡ (mark k.Dot ++ name n) ++ bare j.tokens
+pub dot_name : (n : Name) (i m j : Input) → Takes k.Dot i m → IsName n m j → without_places i.tokens ≡ (mark k.Dot ++ name n) ++ without_places j.tokens
 dot_name n i m j d h = follow (mark k.Dot) (name n) i m j (terminal_taken k.Dot i m refl d) (name_tells n m j h).is
 
 -- `NAME "." NAME`

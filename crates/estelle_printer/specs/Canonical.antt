@@ -60,9 +60,9 @@ canonical (t ∷ []) = written t ++ line_feed ∷ []
 canonical (t ∷ u ∷ ts) = written t ++ gap_after t ∷ canonical (u ∷ ts)
 
 -- tokens without their places
-abbrev pub bare : List Placed → List Token
-bare = map (λ p. p.token)
+abbrev pub without_places : List Placed → List Token
+without_places = map (λ p. p.token)
 
 -- the text is the canonical text of the tokens that the tree spells
 abbrev pub IsCanonicalText : Spec → List ℕ → Type 0
-IsCanonicalText spec text = (tokens : List Placed) → Spells spec tokens → text ≡ canonical (bare tokens)
+IsCanonicalText spec text = (tokens : List Placed) → Spells spec tokens → text ≡ canonical (without_places tokens)

@@ -1,4 +1,5 @@
 pub mod Kind
+pub mod Required
 pub mod Spans
 pub mod Input
 pub mod Spelling

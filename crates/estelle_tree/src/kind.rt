@@ -198,7 +198,7 @@ pub const RESERVED: [(&[u8], Kind); 79] = [
     (b"with", Kind::With),
 ];
 
-fn is_same(a: &[u8], b: &[u8]) -> bool
+pub(crate) fn is_same(a: &[u8], b: &[u8]) -> bool
     ensures { result ≡ bytes_eq a.now b.now }
 {
     a == b

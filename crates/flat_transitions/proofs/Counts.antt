@@ -24,7 +24,8 @@ use Rattle.estelle_model.specs.Bodies.{Way, behind, ways, trans_body_layer, grou
 use Rattle.estelle_model.specs.Transitions.{Choice, choices, choices_on, names_of_domain, flat_one, flat_way}
 use Rattle.meaning_table.specs.Known.{Known, meanings_of}
 use Rattle.flat_transitions.specs.declared.any_names.AnyName.{AnyName}
-use Rattle.flat_transitions.specs.Flat.{ways_in, with_chosen, transitions_in}
+use Rattle.flat_transitions.specs.Flat.{with_chosen, transitions_in}
+use Rattle.estelle_model.specs.Bodies.{ways_in}
 use Rattle.flat_transitions.specs.Choices.{any_name, choice_count, choices_from, names_in}
 use Rattle.flat_transitions.specs.Counts.{size, domain_count, domains_count, count_layer, count_group_layer, count_body, count_group, count}
 use Rattle.flat_transitions.proofs.Numbered.{all_numbered}

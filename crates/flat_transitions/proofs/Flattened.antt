@@ -12,7 +12,8 @@ use Rattle.estelle_model.specs.Bodies.{Way, ways}
 use Rattle.estelle_model.specs.Transitions.{Choice, Transition, or_first, said, from_of, to_of, when_of, provided_of, priority_of, delay_of, choices, choices_on, flat_one, flat_way}
 use Rattle.meaning_table.specs.Known.{Known}
 use Rattle.flat_transitions.specs.declared.in_force.ClausesInForce.{ClausesInForce}
-use Rattle.flat_transitions.specs.Flat.{ways_in, with_chosen, transitions_in}
+use Rattle.flat_transitions.specs.Flat.{with_chosen, transitions_in}
+use Rattle.estelle_model.specs.Bodies.{ways_in}
 use Rattle.flat_transitions.specs.Choices.{names_in}
 use Rattle.flat_transitions.specs.Choices as choosing
 use Rattle.flat_transitions.specs.Walks.{unsaid, with_clause, reached, at_way, below}

@@ -4,13 +4,9 @@ use Rattle.std.specs.List.{flat_map}
 use Rattle.estelle_tree.specs.declared.tree.specification.Trans.{Trans}
 use Rattle.estelle_model.specs.Meant.{Meanings}
 use Rattle.estelle_model.specs.Names.{meant_by}
-use Rattle.estelle_model.specs.Bodies.{Way, ways}
+use Rattle.estelle_model.specs.Bodies.{ways_in}
 use Rattle.estelle_model.specs.Transitions.{Choice, with_choices, Transition, flat_way}
 use Rattle.meaning_table.specs.Known.{Known}
-
--- the ways to the blocks behind each `trans`, in text order
-abbrev pub ways_in : List Trans → List Way
-ways_in = flat_map (λ t. ways t.body)
 
 -- what names mean where the names of `any` have these values
 abbrev pub with_chosen : Known → List Choice → Meanings

@@ -5,9 +5,9 @@ ghost use Rattle.std.specs.List.{flat_map};
 ghost use Rattle.flat_transitions.specs.Choices as spec;
 ghost use Rattle.meaning_table.specs.Known.{meanings_of};
 
-use estelle_model::{Denoter, Host};
+use estelle_model::{Denoter, Host, host_of, range_of};
 use estelle_tree::{AnyDom, Items, Name, Sequence};
-use meaning_table::{Table, host_of, ordinal_type, range_of};
+use meaning_table::{Table, ordinal_type};
 use std::alloc::AllocError;
 
 /// A name of `any` by its place, with the host and the bounds of its domain.

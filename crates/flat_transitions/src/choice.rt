@@ -1,12 +1,10 @@
 //! A value that is chosen for a name of `any`.
 
-ghost use Rattle.std.specs.Prelude.{◌≡◌, true};
-ghost use Rattle.pascal_values.specs.Integers.{is_between};
-ghost use Rattle.estelle_model.specs.Types.{least, greatest, value_of};
+ghost use Rattle.std.specs.Prelude.{◌≡◌};
 ghost use Rattle.flat_transitions.specs.Choices as spec;
 
-use estelle_model::Host;
-use pascal_values::{MAXINT, Value};
+use estelle_model::{Host, has_value, value_at};
+use pascal_values::Value;
 use std::marker::Model;
 
 /// A chosen value by its ordinal, and the place of the name. It is unset where the host type has no such ordinal.
@@ -28,44 +26,6 @@ impl Model for Choice {
     ghost coded = { Prim.hlevel (codes, of_values.the_row.coded) };
 
     ghost view = { λ c. record { at = c.at; value = chosen_value c.host c.ordinal; host = c.host } };
-}
-
-fn least(host: Host) -> i64
-    ensures { result ≡ least host }
-{
-    match host {
-        Host::Integer => -MAXINT,
-        _ => 0,
-    }
-}
-
-fn greatest(host: Host) -> i64
-    ensures { result ≡ greatest host }
-{
-    match host {
-        Host::Integer => MAXINT,
-        Host::Boolean => 1,
-        Host::Char => 255,
-        Host::Enumeration { last } => last as i64,
-    }
-}
-
-fn has_value(host: Host, ordinal: i64) -> bool
-    ensures { result ≡ is_between (least host) (greatest host) ordinal }
-{
-    least(host) <= ordinal && ordinal <= greatest(host)
-}
-
-fn value_at(host: Host, ordinal: i64) -> Value
-    requires { is_between (least host) (greatest host) ordinal ≡ true }
-    ensures { result ≡ value_of host ordinal }
-{
-    match host {
-        Host::Integer => Value::Int(ordinal),
-        Host::Boolean => Value::Bool(ordinal.unsigned_abs() == 1),
-        Host::Char => Value::Char(ordinal.unsigned_abs() as u8),
-        Host::Enumeration { last: _ } => Value::Enum(ordinal.unsigned_abs() as u32),
-    }
 }
 
 impl Choice {

@@ -61,6 +61,7 @@ impl Model for FromStates {
 }
 
 impl FromStates {
+    /// One owner more of the list under the clause; fails where no further owner can be counted.
     pub fn of(states: Option<&States>) -> Result<FromStates, AllocError>
         ensures { IfOk result (λ from. from ≡ states_of (option_copied states.entry)) }
     {

@@ -1,5 +1,3 @@
-pub mod Latest
-pub mod Layers
 pub mod Uses
 pub mod TypeEquations
 pub mod Chains

@@ -1,6 +1,6 @@
 //! What each name in use means, as a table, and what constants, types, routines and blocks declare in it.
 //!
-//! It stands on `estelle_model`, whose definitions a `Table` follows, and on `indexmap`.
+//! It stands on `estelle_model`, whose definitions a `Table` follows, and on `place_table` for what stands at a place.
 #![tactic(auto)]
 
 #[tactic(auto, using(pascal_values::specs::declared::value::Value::the_lemmas), unfolding(estelle_model::specs::Operators::signed))]
@@ -11,19 +11,17 @@ mod copying;
 mod declaring;
 mod hosts;
 mod kinds;
-#[tactic(auto, using(crate::proofs::Layers::lookup_over))]
-mod places;
 mod required;
 #[tactic(auto, using(crate::proofs::Declarations::declaring, crate::proofs::TypeEquations::types))]
 mod sections;
 mod states;
-#[tactic(auto, using(crate::proofs::Layers::lookup_over))]
+#[tactic(auto, using(place_table::proofs::Over::latest_first))]
 mod table;
 #[tactic(auto, using(crate::proofs::Declarations::declaring, crate::proofs::TypeEquations::types, estelle_tree::specs::declared::tree::type_expr::TypeExpr::the_lemmas))]
 mod type_parts;
 #[tactic(auto, using(crate::proofs::TypeEquations::types, estelle_tree::specs::declared::tree::type_expr::TypeExpr::the_lemmas, estelle_model::specs::declared::denoter::Denoter::the_lemmas))]
 mod types;
-#[tactic(auto, using(crate::proofs::Uses::uses))]
+#[tactic(auto, using(crate::proofs::Uses::uses, place_table::proofs::Over::latest_first))]
 mod used;
 
 pub use constants::{
@@ -37,4 +35,4 @@ pub use sections::{Alone, Base, Section, declare_section, declare_sections, push
 pub use states::states_named;
 pub use table::Table;
 pub use type_parts::{declare_ordinal, declare_type, declare_types};
-pub use types::{enumeration, host_of, named_type, ordinal_type, range_in, range_of, type_of};
+pub use types::{enumeration, named_type, ordinal_type, range_in, type_of};

@@ -1,16 +1,16 @@
 //! The required identifiers (ISO 7185, 6.1.3).
 
-ghost use Rattle.std.specs.Prelude.{◌≡◌, ◌∷◌, [], ◌++◌, map, take, drop, IfOk, OnOk};
+ghost use Rattle.std.specs.Prelude.{◌≡◌, ◌∷◌, [], ◌++◌, map, IfOk, OnOk};
 ghost use Rattle.std.specs.Map.{lookup};
 ghost use Rattle.std.specs.Option.{option_copied};
 ghost use Rattle.std.specs.Str.{bytes_eq};
-ghost use Rattle.estelle_model.specs.declared.meaning.Meaning.TheVariants.{TypeName, Constant, RequiredFunction};
+ghost use Rattle.estelle_model.specs.declared.meaning.Meaning.TheVariants.{TypeName, Constant};
 ghost use Rattle.estelle_model.specs.Types as types;
-ghost use Rattle.estelle_model.specs.Names.{required};
+ghost use Rattle.estelle_model.specs.Names.{meaning_of_required, required};
 
 use crate::hosts::whole;
-use estelle_model::{Host, Meaning, Required};
-use estelle_tree::{Items, Sequence};
+use estelle_model::{Host, Meaning};
+use estelle_tree::{IDENTIFIERS, Items, RequiredIdentifier, Sequence};
 use pascal_values::{MAXINT, Value};
 use std::alloc::{AllocError, Global};
 use std::marker::Model;
@@ -72,76 +72,61 @@ impl<'a> Words<'a> {
     }
 }
 
-fn push_type(
+fn of_type<'a>(alloc: Global, host: Host) -> Result<Meaning<'a>, AllocError>
+    ensures { IfOk result (λ meaning. meaning ≡ TypeName (types.whole host)) }
+{
+    Ok(Meaning::TypeName(whole(alloc, host)?))
+}
+
+fn of_constant<'a>(value: Value, host: Host) -> Meaning<'a>
+    ensures { result ≡ Constant value host }
+{
+    Meaning::Constant { value, host }
+}
+
+fn meaning_of<'a>(alloc: Global, identifier: RequiredIdentifier) -> Result<Meaning<'a>, AllocError>
+    ensures { IfOk result (λ meaning. meaning ≡ meaning_of_required identifier) }
+{
+    match identifier {
+        RequiredIdentifier::Integer => of_type(alloc, Host::Integer),
+        RequiredIdentifier::Boolean => of_type(alloc, Host::Boolean),
+        RequiredIdentifier::Char => of_type(alloc, Host::Char),
+        RequiredIdentifier::False => Ok(of_constant(Value::Bool(false), Host::Boolean)),
+        RequiredIdentifier::True => Ok(of_constant(Value::Bool(true), Host::Boolean)),
+        RequiredIdentifier::Maxint => Ok(of_constant(Value::Int(MAXINT), Host::Integer)),
+        RequiredIdentifier::Function(function) => Ok(Meaning::RequiredFunction(function)),
+    }
+}
+
+fn push_required(
     words: &mut Words,
     alloc: Global,
-    word: &'static [u8],
-    host: Host,
+    identifier: &(&'static [u8], RequiredIdentifier),
 ) -> Result<(), AllocError>
-    ensures { OnOk result (words.new ≡ words.old ++ (word.now, TypeName (types.whole host)) ∷ []) }
+    ensures { OnOk result (words.new ≡ words.old ++ (identifier.now.0.now, meaning_of_required identifier.now.1) ∷ []) }
 {
-    let meaning = Meaning::TypeName(whole(alloc, host)?);
-    words.push(word, meaning)
+    words.push(identifier.0, meaning_of(alloc, identifier.1)?)
 }
 
-fn push_constant(
-    words: &mut Words,
-    word: &'static [u8],
-    value: Value,
-    host: Host,
-) -> Result<(), AllocError>
-    ensures { OnOk result (words.new ≡ words.old ++ (word.now, Constant value host) ∷ []) }
+fn words_of<'a>(
+    alloc: Global,
+    mut identifiers: &[(&'static [u8], RequiredIdentifier)],
+) -> Result<Words<'a>, AllocError>
+    ensures { IfOk result (λ words. words ≡ map (λ e. (e.0.now, meaning_of_required e.1)) identifiers.entry.now) }
 {
-    words.push(word, Meaning::Constant { value, host })
-}
-
-fn push_function(
-    words: &mut Words,
-    word: &'static [u8],
-    function: Required,
-) -> Result<(), AllocError>
-    ensures { OnOk result (words.new ≡ words.old ++ (word.now, RequiredFunction function) ∷ []) }
-{
-    words.push(word, Meaning::RequiredFunction(function))
-}
-
-fn push_types(words: &mut Words, alloc: Global) -> Result<(), AllocError>
-    ensures { OnOk result (words.new ≡ words.old ++ take 3 required) }
-{
-    push_type(words, alloc, b"integer", Host::Integer)?;
-    push_type(words, alloc, b"boolean", Host::Boolean)?;
-    push_type(words, alloc, b"char", Host::Char)
-}
-
-fn push_constants(words: &mut Words) -> Result<(), AllocError>
-    ensures { OnOk result (words.new ≡ words.old ++ take 3 (drop 3 required)) }
-{
-    push_constant(words, b"false", Value::Bool(false), Host::Boolean)?;
-    push_constant(words, b"true", Value::Bool(true), Host::Boolean)?;
-    push_constant(words, b"maxint", Value::Int(MAXINT), Host::Integer)
-}
-
-fn push_functions(words: &mut Words) -> Result<(), AllocError>
-    ensures { OnOk result (words.new ≡ words.old ++ drop 6 required) }
-{
-    push_function(words, b"abs", Required::Abs)?;
-    push_function(words, b"sqr", Required::Sqr)?;
-    push_function(words, b"odd", Required::Odd)?;
-    push_function(words, b"succ", Required::Succ)?;
-    push_function(words, b"pred", Required::Pred)?;
-    push_function(words, b"ord", Required::Ord)?;
-    push_function(words, b"chr", Required::Chr)
+    let mut words = Words {
+        words: Items::new(alloc),
+    };
+    while let [identifier, rest @ ..] = identifiers {
+        push_required(&mut words, alloc, identifier)?;
+        identifiers = rest;
+    }
+    Ok(words)
 }
 
 /// What the required identifiers mean.
 pub fn required_words<'a>(alloc: Global) -> Result<Words<'a>, AllocError>
     ensures { IfOk result (λ words. words ≡ required) }
 {
-    let mut words = Words {
-        words: Items::new(alloc),
-    };
-    push_types(&mut words, alloc)?;
-    push_constants(&mut words)?;
-    push_functions(&mut words)?;
-    Ok(words)
+    words_of(alloc, &IDENTIFIERS)
 }

@@ -4,10 +4,10 @@ ghost use Rattle.std.specs.Prelude.{◌≡◌, IfOk, OnOk};
 ghost use Rattle.estelle_model.specs.Names as spec;
 ghost use Rattle.meaning_table.specs.Known.{unknown, with_meaning, meanings_of};
 
-use crate::places::{Places, find, layered};
 use crate::used::{HeldNames, UsedNames};
 use estelle_model::Meaning;
-use estelle_tree::{Items, Name, Names, Sequence, Span};
+use estelle_tree::{Name, Names, Sequence, Span};
+use place_table::Layers;
 use std::alloc::{AllocError, Global};
 use std::marker::Model;
 
@@ -17,14 +17,11 @@ pub struct Table<'a> {
     pub alloc: Global,
     names: HeldNames<'a>,
     /// By the place of a declaration.
-    declared: Places<Meaning<'a>>,
-    /// What is declared in the tables below, the uppermost first.
-    below: Items<&'a Places<Meaning<'a>>>,
+    declared: Layers<'a, Meaning<'a>>,
 }
 
 impl<'a> Model for Table<'a> {
-    ghost use Rattle.std.specs.Prelude.{◌++◌};
-    ghost use Rattle.std.specs.List.{flat_map};
+    ghost use Rattle.std.specs.Prelude.{reverse};
     ghost use Rattle.meaning_table.specs.Known.{Known};
     ghost use Rattle.pascal_values.specs.contracts.value.Value as of_values;
     ghost use Rattle.estelle_model.specs.contracts.denoter.Denoter as of_denoters;
@@ -37,7 +34,7 @@ impl<'a> Model for Table<'a> {
 
     ghost use Rattle.meaning_table.specs.Held.{names_of};
 
-    ghost view = { λ t. record { names = names_of t.names; declared = t.declared ++ flat_map (λ p. p.now) t.below } };
+    ghost view = { λ t. record { names = names_of t.names; declared = reverse t.declared } };
 }
 
 impl<'a> Table<'a> {
@@ -48,8 +45,7 @@ impl<'a> Table<'a> {
         Ok(Table {
             alloc,
             names: HeldNames::Own(UsedNames::of(alloc, names)?),
-            declared: Places::new(alloc),
-            below: Items::new(alloc),
+            declared: Layers::new(alloc),
         })
     }
 
@@ -60,8 +56,7 @@ impl<'a> Table<'a> {
         Ok(Table {
             alloc: self.alloc,
             names: HeldNames::Lent(self.names.get()),
-            declared: Places::new(self.alloc),
-            below: layered(self.alloc, &self.declared, self.below.items())?,
+            declared: self.declared.over(self.alloc)?,
         })
     }
 
@@ -83,9 +78,6 @@ impl<'a> Table<'a> {
         ensures { result.now ≡ spec.at_place self.now.declared at }
     {
         if let Some(meaning) = self.declared.get(at) {
-            return meaning;
-        }
-        if let Some(meaning) = find(self.below.items(), at) {
             return meaning;
         }
         self.names.get().other()

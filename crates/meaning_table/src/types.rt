@@ -11,30 +11,10 @@ use crate::constants::{bound, host_of_const};
 use crate::copying::{copy, push_repeated};
 use crate::hosts::whole;
 use crate::table::Table;
-use estelle_model::{Denoter, Host, Meaning, Type};
+use estelle_model::{Denoter, Host, Meaning, Type, host_of, range_of};
 use estelle_tree::{Boxed, Const, Items, Name, Ordinal, Sequence, TypeExpr, TypedNames};
 use pascal_values::MAXINT;
 use std::alloc::{AllocError, Global};
-
-/// The host type of an ordinal type, or of a set's base.
-pub fn host_of(denoter: &Denoter) -> Host
-    ensures { result ≡ types.host_of denoter.now }
-{
-    match denoter {
-        Denoter::Ordinal { host, .. } | Denoter::Set { host, .. } => *host,
-        _ => Host::Integer,
-    }
-}
-
-/// The least and the greatest ordinal of an ordinal type.
-pub fn range_of(denoter: &Denoter) -> (i64, i64)
-    ensures { result ≡ types.range_of denoter.now }
-{
-    match denoter {
-        Denoter::Ordinal { low, high, .. } => (*low, *high),
-        _ => (1, 0),
-    }
-}
 
 fn type_of_meaning(alloc: Global, meaning: &Meaning) -> Result<Type, AllocError>
     ensures { IfOk result (λ shared. shared ≡ spec.type_of_meaning meaning.now) }

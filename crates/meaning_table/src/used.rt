@@ -1,15 +1,15 @@
 //! Names in use, by their places, and the required identifiers.
 
-ghost use Rattle.std.specs.Prelude.{◌≡◌, IfOk};
+ghost use Rattle.std.specs.Prelude.{◌≡◌, reverse, IfOk};
 ghost use Rattle.estelle_model.specs.declared.meaning.Meaning.TheVariants.{Other};
 ghost use Rattle.estelle_model.specs.Names as spec;
 ghost use Rattle.meaning_table.specs.Known.{by_place};
 ghost use Rattle.meaning_table.specs.Held.{names_of};
 
-use crate::places::Places;
 use crate::required::{Words, required_words};
 use estelle_model::Meaning;
 use estelle_tree::{Name, Names, Sequence, Span, Use};
+use place_table::Places;
 use std::alloc::{AllocError, Global};
 use std::marker::Model;
 
@@ -23,7 +23,7 @@ pub struct UsedNames<'a> {
 }
 
 impl<'a> Model for UsedNames<'a> {
-    ghost use Rattle.std.specs.Prelude.{◌≡◌, List, map};
+    ghost use Rattle.std.specs.Prelude.{◌≡◌, List, map, reverse};
     ghost use Rattle.estelle_tree.specs.declared.names.Use.{Use};
     ghost use Rattle.estelle_model.specs.declared.meaning.Meaning.TheVariants.{Other};
     ghost use Rattle.estelle_model.specs.Names as meant;
@@ -31,14 +31,14 @@ impl<'a> Model for UsedNames<'a> {
 
     ghost Value = { List Use };
 
-    ghost view = { λ n. map (λ u. u.1) n.names };
+    ghost view = { λ n. map (λ u. u.1) (reverse n.names) };
 
-    ghost invariant = { λ n. (n.names ≡ by_place (map (λ u. u.1) n.names)) × (n.required ≡ meant.required) × (n.other ≡ Other) };
+    ghost invariant = { λ n. (reverse n.names ≡ by_place (map (λ u. u.1) (reverse n.names))) × (n.required ≡ meant.required) × (n.other ≡ Other) };
 }
 
 /// The names in use by their places. Of two at one place the first counts, and so it is the latest.
 fn names_by_place(alloc: Global, names: &[Use]) -> Result<Places<Use>, AllocError>
-    ensures { IfOk result (λ places. places ≡ by_place names.now) }
+    ensures { IfOk result (λ places. reverse places ≡ by_place names.now) }
 {
     let mut places = Places::new(alloc);
     let mut i = names.len();

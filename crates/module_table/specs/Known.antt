@@ -1,8 +1,7 @@
 -- What headers, interaction points and interactions are, by the place of their names (ISO/IEC 9074).
 use Rattle.std.specs.Prelude.{ℕ, nat_eq, Bool, true, false, ◌||◌, ◌&&◌, List, [], ◌∷◌, ◌++◌, map, Option, Some, None, option_map}
 use Rattle.std.specs.List.{flat_map, list_any}
-use Rattle.std.specs.Map.{lookup}
-use Rattle.indexmap.specs.IndexMap.{insert_all}
+use Rattle.place_table.specs.Latest.{latest}
 use Rattle.estelle_tree.specs.declared.span.Span.{Span}
 use Rattle.estelle_tree.specs.declared.names.Names.{Names}
 use Rattle.estelle_tree.specs.declared.tree.name.Name.{Name}
@@ -25,13 +24,13 @@ use Rattle.module_table.specs.declared.declared.Interaction.{Interaction}
 use Rattle.module_table.specs.declared.declared.Declared.{Declared}
 use Rattle.module_table.specs.declared.declared.Declared.TheVariants as declared
 
--- what names mean: for each name in use the name in its declaration, and what is declared at each place
-pub record Known : Type 0 where
-  pub names : Env
-  pub places : List (ℕ × Declared)
-
 abbrev pub Declarations : Type 0
 Declarations = List (ℕ × Declared)
+
+-- what names mean: for each name in use the name in its declaration, and what is declared at places, in order
+pub record Known : Type 0 where
+  pub names : Env
+  pub places : Declarations
 
 -- where the name in the declaration of a name in use begins; 0 where it means nothing
 abbrev pub place_of : Env → Name → ℕ
@@ -83,23 +82,20 @@ node_declares names n = []
 abbrev pub visit_declares : Env → Visit → Declarations
 visit_declares names v = node_declares names v.node
 
--- before anything is declared
-abbrev pub unknown : Names → Known
-unknown names = record { names = start names.uses; places = [] }
-
 -- with more declarations
-unfoldable pub declare_all : Known → Declarations → Known
-declare_all known ds = record { names = known.names; places = insert_all nat_eq known.places ds }
+abbrev pub declare_all : Known → Declarations → Known
+declare_all known ds = record { names = known.names; places = known.places ++ ds }
 
 -- what is known once all that a specification declares is declared
 unfoldable pub known : Spec → Names → Known
-known tree names = declare_all (unknown names) (flat_map (visit_declares (start names.uses)) (visits tree))
+known tree names = record { names = start names.uses; places = flat_map (visit_declares (start names.uses)) (visits tree) }
 
 -- ---- what a name in use means
 
+-- the latest declaration at a place counts
 abbrev pub declared_there : Known → Option Span → Option Declared
 declared_there k None = None
-declared_there k (Some at) = lookup (nat_eq at.start) k.places
+declared_there k (Some at) = latest at.start k.places
 
 unfoldable pub declared_as : Known → Name → Option Declared
 declared_as k x = declared_there k (declaration_of k.names x)

@@ -2,76 +2,107 @@
 
 ghost use Rattle.std.specs.Prelude.{◌≡◌, ◌++◌, map, OnOk, IfOk};
 ghost use Rattle.std.specs.List.{flat_map};
+ghost use Rattle.type_rules.specs.SpecificationSites as sites;
 ghost use Rattle.module_table.specs.Known as spec;
 
 use crate::declared::{Declared, Interaction, InteractionPoint, Sender};
-use crate::table::ModuleTable;
+use declaration_table::Table;
 use estelle_tree::{
-    Channel, Header, Inter, InterGroup, IpDecl, Items, Name, Names, ParamGroup, Params, Sequence,
-    Spec, Word,
+    Channel, Header, Inter, InterGroup, IpDecl, Items, Name, ParamGroup, Params, Sequence, Span,
+    Word,
 };
+use place_table::Places;
 use std::alloc::{AllocError, Global};
-use tree_visits::{Node, Visitor, Within, walk};
+
+fn place_or_none(decl: Option<Span>) -> u32
+    ensures { result ≡ sites.place_or_none decl }
+{
+    match decl {
+        None => 0,
+        Some(decl) => decl.start,
+    }
+}
+
+/// Where the name in the declaration of a name in use begins; 0 where it means nothing.
+fn place_of(names: &Table, name: &Name) -> u32
+    ensures { result ≡ spec.place_of names.now name.now }
+{
+    place_or_none(names.declaration_of(name))
+}
 
 /// The names of one declaration of interaction points.
 fn declare_points(
-    table: &mut ModuleTable,
+    places: &mut Places<Declared>,
     names: &[Name],
     ip: InteractionPoint,
 ) -> Result<(), AllocError>
-    ensures { OnOk result (table.new ≡ spec.declare_all table.old (map (spec.ip_at ip) names.now)) }
+    ensures { OnOk result (places.new ≡ places.old ++ map (spec.ip_at ip) names.now) }
 {
     for name in names {
-        table.declare(name.span.start, Declared::Ip(ip))?;
+        places.push(name.span.start, Declared::Ip(ip))?;
     }
     Ok(())
 }
 
-fn declare_ip(table: &mut ModuleTable, decl: &IpDecl, external: bool) -> Result<(), AllocError>
-    ensures { OnOk result (table.new ≡ spec.declare_all table.old (spec.ip_declares table.old.names external decl.now)) }
+fn declare_ip(
+    names: &Table,
+    places: &mut Places<Declared>,
+    decl: &IpDecl,
+    external: bool,
+) -> Result<(), AllocError>
+    ensures { OnOk result (places.new ≡ places.old ++ spec.ip_declares names.now external decl.now) }
 {
     let ip = InteractionPoint {
-        channel: table.place_of(&decl.channel),
-        role: table.place_of(&decl.role),
+        channel: place_of(names, &decl.channel),
+        role: place_of(names, &decl.role),
         external,
     };
-    declare_points(table, decl.names.names.items(), ip)
+    declare_points(places, decl.names.names.items(), ip)
 }
 
-fn declare_ips(table: &mut ModuleTable, ips: &[IpDecl], external: bool) -> Result<(), AllocError>
-    ensures { OnOk result (table.new ≡ spec.declare_all table.old (flat_map (spec.ip_declares table.old.names external) ips.now)) }
+pub fn declare_ips(
+    names: &Table,
+    places: &mut Places<Declared>,
+    ips: &[IpDecl],
+    external: bool,
+) -> Result<(), AllocError>
+    ensures { OnOk result (places.new ≡ places.old ++ flat_map (spec.ip_declares names.now external) ips.now) }
 {
     for decl in ips {
-        declare_ip(table, decl, external)?;
+        declare_ip(names, places, decl, external)?;
     }
     Ok(())
 }
 
-fn declare_header(table: &mut ModuleTable, header: &Header) -> Result<(), AllocError>
-    ensures { OnOk result (table.new ≡ spec.declare_all table.old (spec.header_declares table.old.names header.now)) }
+pub fn declare_header(
+    names: &Table,
+    places: &mut Places<Declared>,
+    header: &Header,
+) -> Result<(), AllocError>
+    ensures { OnOk result (places.new ≡ places.old ++ spec.header_declares names.now header.now) }
 {
-    table.declare(header.name.span.start, Declared::Header(header.attr))?;
-    declare_ips(table, header.ips.items(), true)
+    places.push(header.name.span.start, Declared::Header(header.attr))?;
+    declare_ips(names, places, header.ips.items(), true)
 }
 
 /// Whether a role is one of those behind `by`.
-fn is_among(table: &ModuleTable, roles: &[Name], role: &Name) -> bool
-    ensures { result ≡ spec.is_among table.now.names roles.now role.now }
+fn is_among(names: &Table, roles: &[Name], role: &Name) -> bool
+    ensures { result ≡ spec.is_among names.now roles.now role.now }
 {
     for name in roles {
-        if table.place_of(name) == role.span.start {
+        if place_of(names, name) == role.span.start {
             return true;
         }
     }
     false
 }
 
-fn sender(table: &ModuleTable, roles: &[Name], role: &Name) -> Sender
-    ensures { result ≡ spec.sender table.now.names roles.now role.now }
+fn sender(names: &Table, roles: &[Name], role: &Name) -> Sender
+    ensures { result ≡ spec.sender names.now roles.now role.now }
 {
     Sender {
         role: role.span.start,
-        may_send: is_among(table, roles, role),
+        may_send: is_among(names, roles, role),
     }
 }
 
@@ -109,15 +140,16 @@ fn parameter_words(alloc: Global, params: &Option<Params>) -> Result<Items<Word>
 }
 
 fn declare_interaction(
-    table: &mut ModuleTable,
+    alloc: Global,
+    places: &mut Places<Declared>,
     first: Sender,
     second: Sender,
     inter: &Inter,
 ) -> Result<(), AllocError>
-    ensures { OnOk result (table.new ≡ spec.declare_all table.old (spec.inter_declares first second inter.now)) }
+    ensures { OnOk result (places.new ≡ places.old ++ spec.inter_declares first second inter.now) }
 {
-    let parameters = parameter_words(table.alloc, &inter.params)?;
-    table.declare(
+    let parameters = parameter_words(alloc, &inter.params)?;
+    places.push(
         inter.name.span.start,
         Declared::Interaction(Interaction {
             first,
@@ -128,65 +160,44 @@ fn declare_interaction(
 }
 
 fn declare_interactions(
-    table: &mut ModuleTable,
+    alloc: Global,
+    places: &mut Places<Declared>,
     first: Sender,
     second: Sender,
     inters: &[Inter],
 ) -> Result<(), AllocError>
-    ensures { OnOk result (table.new ≡ spec.declare_all table.old (flat_map (spec.inter_declares first second) inters.now)) }
+    ensures { OnOk result (places.new ≡ places.old ++ flat_map (spec.inter_declares first second) inters.now) }
 {
     for inter in inters {
-        declare_interaction(table, first, second, inter)?;
+        declare_interaction(alloc, places, first, second, inter)?;
     }
     Ok(())
 }
 
 fn declare_group(
-    table: &mut ModuleTable,
+    names: &Table,
+    places: &mut Places<Declared>,
     channel: &Channel,
     group: &InterGroup,
 ) -> Result<(), AllocError>
-    ensures { OnOk result (table.new ≡ spec.declare_all table.old (spec.group_declares table.old.names channel.now group.now)) }
+    ensures { OnOk result (places.new ≡ places.old ++ spec.group_declares names.now channel.now group.now) }
 {
     let roles = group.roles.names.items();
-    let first = sender(table, roles, &channel.first_role);
-    let second = sender(table, roles, &channel.second_role);
-    declare_interactions(table, first, second, group.inters.items())
+    let first = sender(names, roles, &channel.first_role);
+    let second = sender(names, roles, &channel.second_role);
+    declare_interactions(names.alloc, places, first, second, group.inters.items())
 }
 
-fn declare_groups(
-    table: &mut ModuleTable,
+pub fn declare_groups(
+    names: &Table,
+    places: &mut Places<Declared>,
     channel: &Channel,
     groups: &[InterGroup],
 ) -> Result<(), AllocError>
-    ensures { OnOk result (table.new ≡ spec.declare_all table.old (flat_map (spec.group_declares table.old.names channel.now) groups.now)) }
+    ensures { OnOk result (places.new ≡ places.old ++ flat_map (spec.group_declares names.now channel.now) groups.now) }
 {
     for group in groups {
-        declare_group(table, channel, group)?;
+        declare_group(names, places, channel, group)?;
     }
     Ok(())
-}
-
-impl Visitor for ModuleTable {
-    ghost use Rattle.module_table.specs.Known as spec;
-
-    ghost step = { λ k v. spec.declare_all k (spec.visit_declares k.names v) };
-
-    fn see(&mut self, _within: &Within, node: &Node) -> Result<(), AllocError> {
-        match node {
-            Node::Header(header) => declare_header(self, header),
-            Node::Ips { ips } => declare_ips(self, ips, false),
-            Node::Channel(channel) => declare_groups(self, channel, channel.groups.items()),
-            _ => Ok(()),
-        }
-    }
-}
-
-/// What is known once all that a specification declares is declared.
-pub fn module_table(alloc: Global, tree: &Spec, names: &Names) -> Result<ModuleTable, AllocError>
-    ensures { IfOk result (λ table. table ≡ spec.known tree.now names.now) }
-{
-    let mut table = ModuleTable::new(alloc, names)?;
-    walk(tree, &mut table)?;
-    Ok(table)
 }

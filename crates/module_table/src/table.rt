@@ -1,24 +1,24 @@
 //! What names mean, as a table.
 
-ghost use Rattle.std.specs.Prelude.{◌≡◌, ◌∷◌, [], IfOk, OnOk};
+ghost use Rattle.std.specs.Prelude.{◌≡◌, IfOk};
 ghost use Rattle.std.specs.Option.{option_copied};
 ghost use Rattle.type_rules.specs.Meanings.{declaration_of};
-ghost use Rattle.type_rules.specs.SpecificationSites as sites;
 ghost use Rattle.module_table.specs.Known as spec;
 
 use crate::declared::{Declared, Interaction, InteractionPoint};
+use crate::declaring::{declare_groups, declare_header, declare_ips};
 use declaration_table::Table;
-use estelle_tree::{Attr, Name, Names, Span};
-use indexmap::IndexMap;
+use estelle_tree::{Attr, Name, Names, Sequence, Span, Spec};
+use place_table::Places;
 use std::alloc::{AllocError, Global};
 use std::marker::Model;
+use tree_visits::{Node, Visitor, Within, walk};
 
 /// For each name in use the name in its declaration, and what is declared at each place.
 #[derive(Drop)]
 pub struct ModuleTable {
-    pub alloc: Global,
     names: Table,
-    places: IndexMap<u32, Declared>,
+    places: Places<Declared>,
 }
 
 impl Model for ModuleTable {
@@ -26,51 +26,15 @@ impl Model for ModuleTable {
 
     ghost Value = { Known };
 
-    ghost view = { λ t. record { names = t.names; places = t.places.entries } };
-}
-
-fn place_or_none(decl: Option<Span>) -> u32
-    ensures { result ≡ sites.place_or_none decl }
-{
-    match decl {
-        None => 0,
-        Some(decl) => decl.start,
-    }
+    ghost view = { λ t. record { names = t.names; places = t.places } };
 }
 
 impl ModuleTable {
-    /// Nothing is declared yet.
-    pub fn new(alloc: Global, names: &Names) -> Result<ModuleTable, AllocError>
-        ensures { IfOk result (λ table. table ≡ spec.unknown names.now) }
-    {
-        Ok(ModuleTable {
-            alloc,
-            names: Table::new(alloc, names)?,
-            places: IndexMap::new(alloc),
-        })
-    }
-
-    /// One more declaration.
-    #[tactic(auto, unfolding(crate::specs::Known::declare_all))]
-    pub fn declare(&mut self, at: u32, declared: Declared) -> Result<(), AllocError>
-        ensures { OnOk result (self.new ≡ spec.declare_all self.old ((at, declared) ∷ [])) }
-    {
-        self.places.insert(at, declared)?;
-        Ok(())
-    }
-
     /// The name in the declaration of a name in use; none where it means nothing.
     pub fn declaration_of(&self, name: &Name) -> Option<Span>
         ensures { result ≡ declaration_of self.now.names name.now }
     {
         self.names.declaration_of(name)
-    }
-
-    /// Where that name begins; 0 where there is none.
-    pub fn place_of(&self, name: &Name) -> u32
-        ensures { result ≡ spec.place_of self.now.names name.now }
-    {
-        place_or_none(self.names.declaration_of(name))
     }
 
     #[tactic(auto, unfolding(crate::specs::Known::declared_as))]
@@ -79,7 +43,7 @@ impl ModuleTable {
     {
         match self.names.declaration_of(name) {
             None => None,
-            Some(at) => self.places.get(&at.start),
+            Some(at) => self.places.get(at.start),
         }
     }
 
@@ -112,4 +76,36 @@ impl ModuleTable {
             _ => None,
         }
     }
+}
+
+impl Visitor for ModuleTable {
+    ghost use Rattle.module_table.specs.Known as spec;
+
+    ghost step = { λ k v. spec.declare_all k (spec.visit_declares k.names v) };
+
+    fn see(&mut self, _within: &Within, node: &Node) -> Result<(), AllocError> {
+        match node {
+            Node::Header(header) => declare_header(&self.names, &mut self.places, header),
+            Node::Ips { ips } => declare_ips(&self.names, &mut self.places, ips, false),
+            Node::Channel(channel) => declare_groups(
+                &self.names,
+                &mut self.places,
+                channel,
+                channel.groups.items(),
+            ),
+            _ => Ok(()),
+        }
+    }
+}
+
+/// What is known once all that a specification declares is declared.
+pub fn module_table(alloc: Global, tree: &Spec, names: &Names) -> Result<ModuleTable, AllocError>
+    ensures { IfOk result (λ table. table ≡ spec.known tree.now names.now) }
+{
+    let mut table = ModuleTable {
+        names: Table::new(alloc, names)?,
+        places: Places::new(alloc),
+    };
+    walk(tree, &mut table)?;
+    Ok(table)
 }

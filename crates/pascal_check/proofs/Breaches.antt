@@ -4,7 +4,7 @@ use Rattle.std.specs.Prelude.{is_none, IfNone, IfSome}
 use Rattle.std.proofs.lemmas.Bool.Decides.{nat_tests}
 use Rattle.estelle_tree.specs.declared.span.Span.{Span}
 use Rattle.scope_rules.specs.declared.refusal.Breach.{Breach}
-use Rattle.scope_rules.specs.Least.{is_before, noted, IsLeast, IsFirst}
+use Rattle.scope_rules.specs.Least.{breach, only_if, is_before, noted, IsLeast, IsFirst}
 use Rattle.scope_rules.specs.NameRules.{IsOne}
 use Rattle.scope_rules.proofs.First.{before_self, first_noted, first_same, first_of_none, first_none, first_some}
 use Rattle.type_rules.specs.declared.types.PascalType.{PascalType}
@@ -22,7 +22,7 @@ use Rattle.type_rules.specs.Sites.{is_wanted}
 use Rattle.type_rules.specs.Routines.{IsOpen}
 use Rattle.type_rules.specs.PascalRules.{Both, TypesDoNotFit, OtherNumber, NotTheVariable, NoActualVariable, in_function, may_assign, HasEffect, NoType, LabelWrong, NoLabel, NoResult, NamesOpen, CallsOpen, NotCounted, Broken, SiteRuleBroken}
 use Rattle.pascal_check.specs.Opening.{Decides}
-use Rattle.pascal_check.specs.Faults.{breach, only_if, both_pass, gives_nothing, is_no_actual, is_no_type, is_no_label, is_open, breach_at, first_after}
+use Rattle.pascal_check.specs.Faults.{both_pass, gives_nothing, is_no_actual, is_no_type, is_no_label, is_open, breach_at, first_after}
 
 -- ---- a test, and a breach where it passes
 

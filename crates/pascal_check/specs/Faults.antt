@@ -1,9 +1,9 @@
 -- What one site breaks, by tests.
-use Rattle.std.specs.Prelude.{ℕ, nat_eq, nat_lt, Bool, true, false, ◌||◌, ◌&&◌, not, if◌then◌else◌, List, [], ◌∷◌, Option, Some, None}
+use Rattle.std.specs.Prelude.{ℕ, nat_eq, nat_lt, Bool, true, false, ◌||◌, ◌&&◌, not, List, [], ◌∷◌, Option, Some, None}
 use Rattle.std.specs.Prelude.{is_none}
 use Rattle.estelle_tree.specs.declared.span.Span.{Span}
 use Rattle.scope_rules.specs.declared.refusal.Breach.{Breach}
-use Rattle.scope_rules.specs.Least.{noted}
+use Rattle.scope_rules.specs.Least.{breach, only_if, noted}
 use Rattle.type_rules.specs.declared.types.PascalType.{PascalType}
 use Rattle.type_rules.specs.declared.types.Value.{Value}
 use Rattle.type_rules.specs.declared.types.Denoted.{Denoted}
@@ -17,13 +17,6 @@ use Rattle.type_rules.specs.declared.sites.PlacedSite.{PlacedSite}
 use Rattle.type_rules.specs.Types.{gives, fails, same_type, is_of, is_ordinal}
 use Rattle.type_rules.specs.Sites.{is_wanted}
 use Rattle.type_rules.specs.PascalRules.{in_function, may_assign}
-
-abbrev pub breach : ℕ → Span → Breach
-breach number span = record { number = number; span = span }
-
--- a breach where something is so
-abbrev pub only_if : Bool → Breach → Option Breach
-only_if broken b = if broken then Some b else None
 
 -- both have a type, and the test passes
 abbrev pub both_pass : (PascalType → PascalType → Bool) → Option PascalType → Option PascalType → Bool

@@ -11,21 +11,11 @@ ghost use Rattle.pascal_check.specs.Faults as spec;
 use crate::open_routines::stands_in;
 use estelle_tree::Span;
 use indexmap::IndexSet;
-use scope_rules::Breach;
+use scope_rules::{Breach, only_if};
 use type_rules::{
     Access, Denoted, Operator, PascalType, PlacedSite, RoutineAt, Site, Typed, Value, Wanted,
     gives, is_of, is_ordinal, is_wanted, same_type,
 };
-
-/// A breach where something is so.
-fn only_if(broken: bool, number: u8, span: Span) -> Option<Breach>
-    ensures { result ≡ spec.only_if broken (spec.breach number span) }
-{
-    if broken {
-        return Some(Breach { number, span });
-    }
-    None
-}
 
 /// Whether the types of two operands do not fit in an operation.
 fn gives_nothing(operator: Operator, a: Option<PascalType>, b: Option<PascalType>) -> bool

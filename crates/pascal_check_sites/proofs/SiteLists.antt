@@ -11,7 +11,7 @@ use Rattle.estelle_tree.specs.declared.tree.type_expr.Sign.{Sign}
 use Rattle.estelle_tree.specs.declared.tree.expression.Expr.{Expr}
 use Rattle.estelle_tree.specs.declared.tree.expression.Elem.{Elem, out-Elem}
 use Rattle.type_rules.specs.declared.types.PascalType.{PascalType}
-use Rattle.type_rules.specs.declared.meanings.Required.{Required}
+use Rattle.estelle_tree.specs.declared.required.Required.{Required}
 use Rattle.type_rules.specs.declared.meanings.Parameter.{Parameter}
 use Rattle.type_rules.specs.declared.sites.Typed.{Typed}
 use Rattle.type_rules.specs.declared.sites.Site.TheVariants.{Operation, Wants}

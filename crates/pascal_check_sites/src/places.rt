@@ -11,8 +11,8 @@ use estelle_tree::{Items, Name, Sequence, Sign, Span};
 use std::alloc::AllocError;
 use type_rules::{
     Access, Meaning, Members, Operator, Parameter, PascalType, Required, Site, Typed, Wanted,
-    component_type, index_type, negated_typed, next_wanted, operated, required_result,
-    signed_typed, taken, value_at, variable_type, whole_of, with_member,
+    component_type, index_type, negated_typed, next_wanted, operated, required_argument,
+    required_result, signed_typed, value_at, variable_type, whole_of, with_member,
 };
 
 /// An operation of two operands.
@@ -149,7 +149,7 @@ pub fn taken_first(
 {
     match first {
         None => {
-            want(taken(required), actual, out)?;
+            want(required_argument(required), actual, out)?;
             Ok(Some(actual))
         }
         Some(first) => Ok(Some(first)),

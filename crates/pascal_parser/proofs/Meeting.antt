@@ -5,7 +5,7 @@ use Rattle.estelle_tree.specs.declared.token.Placed.{Placed}
 use Rattle.estelle_tree.specs.Input.{Input, left}
 use Rattle.estelle_tree.specs.Spelling.{Spelling}
 use Rattle.token_reader.specs.declared.error.ReadError.TheVariants as read
-use Rattle.token_reader.specs.Reader.{Parser, Outcome}
+use Rattle.token_reader.specs.Reader.{Parser, ReadResult}
 use Rattle.token_reader.proofs.Sound.{Sound, ok_pair}
 use Rattle.token_reader.proofs.Complete.{After, Complete}
 use Rattle.pascal_parser.specs.declared.error.SyntaxError.{SyntaxError}
@@ -34,7 +34,7 @@ abbrev IsAtFrom : ℕ → ℕ → SyntaxError → Type 0
 IsAtFrom from to (At p) = (from ≤ p) × (p ≤ to)
 IsAtFrom from to Memory = Unit {0}
 
-apart : {A : Type 0} (l : ℕ) (y : A × Input) (o : Outcome A) → o ≡ Err (read.Refused l) → o ≡ Ok y → ⊥
+apart : {A : Type 0} (l : ℕ) (y : A × Input) (o : ReadResult A) → o ≡ Err (read.Refused l) → o ≡ Ok y → ⊥
 apart l y o refused reads = let no : Err (read.Refused l) ≡ Ok y = sym refused ∙ reads in cc
 
 module _ {A : Type 0} (p : Parser A) (P : Spelling A) (sound : Sound p P) (on : IsOnward p) (reaches : Reaches p P) (tokens : List Placed) (at : ℕ) (inside : at ≤ length tokens) where
@@ -143,7 +143,7 @@ module _ {A : Type 0} (p : Parser A) (P : Spelling A) (B : Beginning) (sound : S
   found_longest x j to e count = record {
     inside = behind p P sound onward reaches tokens at inside (Ok (x, to)) (j, e, count);
     begins = subst (λ j. B (place tokens at) j) (place_of tokens at j to inside (stops p P sound onward reaches tokens at inside x j e).0 count) (begun (place tokens at) j x (sound (place tokens at) j x e));
-    longest = no_longer to (left j) count (ap (λ (o : Outcome A). stop o) e);
+    longest = no_longer to (left j) count (ap (λ (o : ReadResult A). stop o) e);
   }
 
   refused_longest : (l q : ℕ) → p (place tokens at) ≡ Err (read.Refused l) → q + l ≡ length tokens → IsLongest B tokens at q
@@ -153,7 +153,7 @@ module _ {A : Type 0} (p : Parser A) (P : Spelling A) (B : Beginning) (sound : S
       record {
         inside = refused p P sound onward reaches tokens at inside (Err (At q)) (l, e, count);
         begins = subst (λ j. B (place tokens at) j) (place_of tokens at piece.at q inside piece.reach total) piece.begins;
-        longest = no_longer q l count (ap (λ (o : Outcome A). stop o) e);
+        longest = no_longer q l count (ap (λ (o : ReadResult A). stop o) e);
       }
 
   pub exact : (r : Result (A × ℕ) SyntaxError) → Answers (length tokens) (p (place tokens at)) r → IfOk r (IsExact B P tokens at)

@@ -4,7 +4,7 @@ use Rattle.estelle_tree.specs.declared.token.Placed.{Placed}
 use Rattle.estelle_tree.specs.Input.{Input, input, next, left, skip}
 use Rattle.token_reader.specs.declared.error.ReadError.{ReadError}
 use Rattle.token_reader.specs.declared.error.ReadError.TheVariants as read
-use Rattle.token_reader.specs.Reader.{Outcome, Reads}
+use Rattle.token_reader.specs.Reader.{ReadResult, Reads}
 use Rattle.syntax_places.specs.Places.{Reach}
 use Rattle.pascal_parser.specs.Places.{place}
 use Rattle.syntax_places.specs.Onward.{Below}
@@ -65,7 +65,7 @@ place_of tokens at j to inside r count = go (at + r.0) (sym (skip_more at r.0 (i
             sym e ∙ (skip_end n tokens 0 le ∙ ap (λ n. skip n (input tokens 0)) number)
 
 -- what is left is no more than there was
-pub leaves : {A : Type 0} (tokens : List Placed) (at : ℕ) (o : Outcome A) (r : Result A ReadError) (j : Input) → at ≤ length tokens → Below (place tokens at) (suc (left (place tokens at))) o → Reads o r j → Leaves (length tokens) r j
+pub leaves : {A : Type 0} (tokens : List Placed) (at : ℕ) (o : ReadResult A) (r : Result A ReadError) (j : Input) → at ≤ length tokens → Below (place tokens at) (suc (left (place tokens at))) o → Reads o r j → Leaves (length tokens) r j
 leaves {A} tokens at o (Ok x) j inside b e =
     let c : Below (place tokens at) (suc (left (place tokens at))) (Ok (x, j)) = subst (λ o. Below (place tokens at) (suc (left (place tokens at))) o) e b in
     let less = c.fits.1 in

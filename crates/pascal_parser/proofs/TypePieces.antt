@@ -20,7 +20,7 @@ use Rattle.token_reader.proofs.Complete.{Complete, Advances, expect_complete, ea
 use Rattle.type_parser.specs.Laws.{EndsOrdinal}
 use Rattle.type_parser.proofs.Begin.{ordinal_begins, ordinal_shrinks, type_below_advances}
 use Rattle.type_parser.proofs.Complete.{constant_complete, closed_complete, ordinal_complete, packed_first, fields_over_complete, type_below_complete}
-use Rattle.token_reader.specs.Reader.{Parser, Outcome, refuse, span_since, eat, expect, name, number, char}
+use Rattle.token_reader.specs.Reader.{Parser, ReadResult, refuse, span_since, eat, expect, name, number, char}
 use Rattle.token_reader.specs.Lists.{mark, separated, separated_if}
 use Rattle.type_parser.specs.Types.{begins_name, begins_ordinal, names, sign_of, number_from, name_from, char_from, constant_by, constant, enumeration, subrange, ordinal_name, named_by, ordinal_by, ordinal, typed_over, fields_over, array_over, record_over, set_type, ordinal_type, opening, type_by, type_over, type_below, type_expr}
 use Rattle.syntax_places.specs.Onward.{Below, IsOnward}
@@ -170,7 +170,7 @@ ordinal_first room below from _ e = absurd (cc)
 
 module _ (below : Parser TypeExpr) (T : Spelling TypeExpr) (complete : Complete below T EndsOrdinal) (advances : Advances T) (on : IsOnward below) (reaches : Reaches below T) (room : ℕ) where
   -- what stands behind `packed`
-  behind_packed : {A : Type 0} (packed : Bool) (i at m : Input) (kind' : Kind) (x : A) (o : Outcome A) → Flag k.Packed packed i at → kind at ≡ kind' → (kind' ≡ k.Packed → ⊥) → Reached at x m o → Reached i x m o
+  behind_packed : {A : Type 0} (packed : Bool) (i at m : Input) (kind' : Kind) (x : A) (o : ReadResult A) → Flag k.Packed packed i at → kind at ≡ kind' → (kind' ≡ k.Packed → ⊥) → Reached at x m o → Reached i x m o
   behind_packed packed i at m kind' x o flag is other r =
       reached_from i at m x o (reads_on (eat k.Packed) i at packed (eats k.Packed) (eat_complete k.Packed i at packed flag (λ e. other (sym is ∙ e)))) r
 

@@ -5,7 +5,7 @@ use Rattle.estelle_tree.specs.Input.{Input, left}
 use Rattle.estelle_tree.specs.Spelling.{Spelling}
 use Rattle.token_reader.specs.declared.error.ReadError.{ReadError}
 use Rattle.token_reader.specs.declared.error.ReadError.TheVariants as read
-use Rattle.token_reader.specs.Reader.{Outcome}
+use Rattle.token_reader.specs.Reader.{ReadResult}
 use Rattle.pascal_parser.specs.declared.error.SyntaxError.{SyntaxError}
 use Rattle.pascal_parser.specs.declared.error.SyntaxError.TheVariants.{At, Memory}
 use Rattle.pascal_parser.specs.Places.{place}
@@ -40,7 +40,7 @@ IsPlaced n (Err read.Memory) j (Err (At p)) = ⊥
 IsPlaced n (Err read.Memory) j (Ok found) = ⊥
 
 -- it answers what the parser does on a list of so many tokens, or memory fails
-abbrev pub Answers : {A : Type 0} → ℕ → Outcome A → Result (A × ℕ) SyntaxError → Type 0
+abbrev pub Answers : {A : Type 0} → ℕ → ReadResult A → Result (A × ℕ) SyntaxError → Type 0
 Answers n o (Ok found) = (j : Input) × (o ≡ Ok (found.0, j)) × (found.1 + left j ≡ n)
 Answers n o (Err (At p)) = (l : ℕ) × (o ≡ Err (read.Refused l)) × (p + l ≡ n)
 Answers n o (Err Memory) = Unit {0}

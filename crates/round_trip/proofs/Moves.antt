@@ -7,18 +7,18 @@ use Rattle.estelle_tree.specs.declared.kind.Kind.TheVariants as k
 use Rattle.estelle_tree.specs.Input.{Input, kind, token_at, next, first_kind, first_token, after_first}
 use Rattle.estelle_tree.specs.Kind.{kind_of}
 use Rattle.estelle_tree.specs.Spelling.{Spelling, Takes, Flag, Mark, Optional, Chain, Several, Lines, MayBeLines, Behind, Ended, Joined, Separated, Enclosed}
-use Rattle.round_trip.specs.Same.{bare}
+use Rattle.estelle_printer.specs.Canonical.{without_places}
 
 -- ---- places where the same tokens come
 
 pub record Alike (i j : Input) : Type 0 where
-  pub is : bare i.tokens ≡ bare j.tokens
+  pub is : without_places i.tokens ≡ without_places j.tokens
 
 pub token_alike : {i j : Input} → Alike i j → token_at i ≡ token_at j
 unfolding token_at
 token_alike {i} {j} s = go i.tokens j.tokens s.is
   where
-    go : (ps qs : List Placed) → bare ps ≡ bare qs → first_token ps ≡ first_token qs
+    go : (ps qs : List Placed) → without_places ps ≡ without_places qs → first_token ps ≡ first_token qs
     go [] [] e = refl
     go [] (q ∷ qs) e = absurd (cc)
     go (p ∷ ps) [] e = absurd (cc)
@@ -28,7 +28,7 @@ pub kind_alike : {i j : Input} → Alike i j → kind i ≡ kind j
 unfolding kind
 kind_alike {i} {j} s = go i.tokens j.tokens s.is
   where
-    go : (ps qs : List Placed) → bare ps ≡ bare qs → first_kind ps ≡ first_kind qs
+    go : (ps qs : List Placed) → without_places ps ≡ without_places qs → first_kind ps ≡ first_kind qs
     go [] [] e = refl
     go [] (q ∷ qs) e = absurd (cc)
     go (p ∷ ps) [] e = absurd (cc)
@@ -38,11 +38,11 @@ pub next_alike : {i j : Input} → Alike i j → Alike (next i) (next j)
 unfolding next
 next_alike {i} {j} s = record { is = go i.end j.end i.tokens j.tokens s.is }
   where
-    go : (m n : ℕ) (ps qs : List Placed) → bare ps ≡ bare qs → bare (after_first m ps).tokens ≡ bare (after_first n qs).tokens
+    go : (m n : ℕ) (ps qs : List Placed) → without_places ps ≡ without_places qs → without_places (after_first m ps).tokens ≡ without_places (after_first n qs).tokens
     go m n [] [] e = refl
     go m n [] (q ∷ qs) e = absurd (cc)
     go m n (p ∷ ps) [] e = absurd (cc)
-    go m n (p ∷ ps) (q ∷ qs) e = let same : bare ps ≡ bare qs = cc in same
+    go m n (p ∷ ps) (q ∷ qs) e = let same : without_places ps ≡ without_places qs = cc in same
 
 -- ---- what is passed between two places, passed from another place
 

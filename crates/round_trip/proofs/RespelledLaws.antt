@@ -7,20 +7,21 @@ use Rattle.estelle_tree.specs.declared.token.Placed.{Placed}
 use Rattle.estelle_tree.specs.Input.{Input, input}
 use Rattle.estelle_tree.specs.Spells.{IsToken, max_nesting}
 use Rattle.estelle_tree.specs.Specification.{IsSpec}
-use Rattle.round_trip.specs.Same.{bare, unplaced, RespelledElsewhere, BareIsSpelled}
+use Rattle.estelle_printer.specs.Canonical.{without_places}
+use Rattle.round_trip.specs.Same.{unplaced, RespelledElsewhere, BareIsSpelled}
 use Rattle.round_trip.proofs.Moves.{Alike}
 use Rattle.round_trip.proofs.SpecificationMoves.{spec_moves}
 use Rattle.round_trip.proofs.PlainSpecification.{plain_spec}
 
 -- what holds of the tokens holds of them in their places
-placed_all : (Q : Token → Type 0) (ps : List Placed) → All Q (bare ps) → All (λ (p : Placed). Q p.token) ps
+placed_all : (Q : Token → Type 0) (ps : List Placed) → All Q (without_places ps) → All (λ (p : Placed). Q p.token) ps
 placed_all Q [] h = All-nil (λ (p : Placed). Q p.token)
-placed_all Q (p ∷ ps) h = All-cons (λ (p : Placed). Q p.token) p ps (All-head Q p.token (bare ps) h) (placed_all Q ps (All-tail Q p.token (bare ps) h))
+placed_all Q (p ∷ ps) h = All-cons (λ (p : Placed). Q p.token) p ps (All-head Q p.token (without_places ps) h) (placed_all Q ps (All-tail Q p.token (without_places ps) h))
 
-no_tokens : (end : Input) → [] ≡ bare end.tokens → end ≡ input [] end.end
+no_tokens : (end : Input) → [] ≡ without_places end.tokens → end ≡ input [] end.end
 no_tokens end e = go end.tokens end.end e
   where
-    go : (ps : List Placed) (n : ℕ) → [] ≡ bare ps → input ps n ≡ input [] n
+    go : (ps : List Placed) (n : ℕ) → [] ≡ without_places ps → input ps n ≡ input [] n
     go [] n e = refl
     go (p ∷ ps) n e = absurd (cc)
 
@@ -38,7 +39,7 @@ respelled spec tokens others h same =
       same = m.same;
     }
 
-pub bare_unplaced : (ps : List Placed) → bare (unplaced ps) ≡ bare ps
+pub bare_unplaced : (ps : List Placed) → without_places (unplaced ps) ≡ without_places ps
 bare_unplaced [] = refl
 bare_unplaced (p ∷ ps) = ap (λ (ts : List Token). p.token ∷ ts) (bare_unplaced ps)
 

@@ -2,7 +2,7 @@
 use Rattle.std.proofs.Common.{◌≡◌, ℕ, List, sym, ap, ◌∙◌, subst}
 use Rattle.estelle_tree.specs.declared.tree.specification.Spec.{Spec}
 use Rattle.estelle_tree.specs.Lexed.{IsBlankFrom}
-use Rattle.estelle_printer.specs.Canonical.{bare, canonical}
+use Rattle.estelle_printer.specs.Canonical.{without_places, canonical}
 use Rattle.estelle_printer.specs.Laws.{IsReadAs}
 use Rattle.estelle_printer.proofs.LexingLaws.{is_lexed}
 use Rattle.estelle_printer.proofs.SpecificationLaws.{one_list}
@@ -24,7 +24,7 @@ pub printed_is_read_back : PrintedIsReadBack
 printed_is_read_back spec text tokens rest p cut =
     let r = read_as spec text p in
     let one = lexing.one_list text tokens r.lexed rest r.rest cut r.cut in
-    let same : bare tokens ≡ bare p.tokens = ap bare one.0 ∙ r.same in
+    let same : without_places tokens ≡ without_places p.tokens = ap without_places one.0 ∙ r.same in
     let moved = respelled spec p.tokens tokens p.spells same in
     record {
       read = moved.moved;

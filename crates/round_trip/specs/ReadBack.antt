@@ -4,7 +4,7 @@ use Rattle.estelle_tree.specs.declared.token.Placed.{Placed}
 use Rattle.estelle_tree.specs.declared.tree.specification.Spec.{Spec}
 use Rattle.estelle_tree.specs.Lexed.{IsLexed, IsBlankFrom}
 use Rattle.estelle_tree.specs.Spells.{Spells}
-use Rattle.estelle_printer.specs.Canonical.{bare, IsCanonicalText}
+use Rattle.estelle_printer.specs.Canonical.{without_places, IsCanonicalText}
 use Rattle.round_trip.specs.Same.{Same}
 
 -- A tree that is the same as the given one, spans aside, spells the tokens that the text is cut into, behind
@@ -36,4 +36,4 @@ OnlyTheTreeIsReadBack = (spec : Spec) (text : List ℕ) (tokens : List Placed) (
 
 -- trees that are the same, spans aside, spell the same tokens, places aside
 abbrev pub SameTreesSpellTheSame : Type 0
-SameTreesSpellTheSame = (s t : Spec) (ts us : List Placed) → Same s t → Spells s ts → Spells t us → bare ts ≡ bare us
+SameTreesSpellTheSame = (s t : Spec) (ts us : List Placed) → Same s t → Spells s ts → Spells t us → without_places ts ≡ without_places us

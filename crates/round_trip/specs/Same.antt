@@ -1,15 +1,11 @@
 -- Trees that are the same, and lists of tokens that are, their places aside.
 use Rattle.std.specs.Prelude.{◌≡◌, List, map}
-use Rattle.estelle_tree.specs.declared.token.Token.{Token}
 use Rattle.estelle_tree.specs.declared.token.Placed.{Placed}
 use Rattle.estelle_tree.specs.declared.tree.specification.Spec.{Spec}
 use Rattle.estelle_tree.specs.Spans.{nowhere}
 use Rattle.estelle_tree.specs.Spells.{Spells}
+use Rattle.estelle_printer.specs.Canonical.{without_places}
 use Rattle.round_trip.specs.Specification.{bare_spec}
-
--- tokens without their places
-abbrev pub bare : List Placed → List Token
-bare = map (λ p. p.token)
 
 -- these tokens, each in the place 0..0
 abbrev pub unplaced : List Placed → List Placed
@@ -27,7 +23,7 @@ pub record IsRespelled (spec : Spec) (tokens : List Placed) : Type 0 where
 
 -- what spells a list of tokens is, with its spans moved, spelled by each other list of the same tokens
 abbrev pub RespelledElsewhere : Type 0
-RespelledElsewhere = (spec : Spec) (tokens others : List Placed) → Spells spec tokens → bare others ≡ bare tokens → IsRespelled spec others
+RespelledElsewhere = (spec : Spec) (tokens others : List Placed) → Spells spec tokens → without_places others ≡ without_places tokens → IsRespelled spec others
 
 -- a tree without its spans spells the tokens without their places
 abbrev pub BareIsSpelled : Type 0

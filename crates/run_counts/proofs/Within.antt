@@ -12,7 +12,7 @@ use Rattle.estelle_model.specs.declared.event.End.{End}
 use Rattle.estelle_model.specs.Subject.{Subject}
 use Rattle.estelle_model.specs.Situation.{Situation}
 use Rattle.estelle_model.specs.Firing.{Firing, Ran, Failed, Undefined, fire, start, bare}
-use Rattle.estelle_model.specs.Runs.{HasRun, Applies, Goes, Begins, IsRun, next, fired, after_all, started, situation}
+use Rattle.estelle_model.specs.Runs.{HasRun, Applies, Goes, Begins, IsRun, next, fired, after_events, started, situation}
 use Rattle.estelle_model.specs.Ends.{is_fire, fires}
 use Rattle.estelle_model.specs.Choosers.{Draw}
 use Rattle.estelle_model.specs.Schedule.{Kept, Reaches, IsScheduled}
@@ -32,7 +32,7 @@ module _ (s : Subject) (budget : ℕ) where
   once_more : (k : ℕ) → budget * (k + 1) ≡ budget * k + budget
   once_more k = let e : k + 1 ≡ suc k = omega arith in ap (λ n. budget * n) e ∙ mul-suc budget k
 
-  goes_within : (es : List Event) (g : Situation) → Goes s budget g es → (after_all s budget g es).made ≤ g.made + budget * fires es
+  goes_within : (es : List Event) (g : Situation) → Goes s budget g es → (after_events s budget g es).made ≤ g.made + budget * fires es
   goes_within [] g goes = omega arith
   goes_within (Start outs drops ∷ es) g goes = absurd goes.0
   goes_within (Select system now takes ∷ es) g goes = goes_within es (next s budget g (Select system now takes)) goes.2
@@ -44,7 +44,7 @@ module _ (s : Subject) (budget : ℕ) where
       omega (arith, one, rest, more)
   goes_within (Fault m n kind ∷ es) g goes = goes_within es g goes.2
 
-  begins_within : (first : Firing) (e : Event) (es : List Event) → start s budget ≡ first → Begins s budget first e es → (after_all s budget (started s first) es).made ≤ budget * (fires (e ∷ es) + 1)
+  begins_within : (first : Firing) (e : Event) (es : List Event) → start s budget ≡ first → Begins s budget first e es → (after_events s budget (started s first) es).made ≤ budget * (fires (e ∷ es) + 1)
   begins_within (Ran g outs drops left) (Start outs' drops') es is begins =
       let one = (starts_are_within s budget g outs drops left is).made in
       let rest = goes_within es g begins.2 in
@@ -56,7 +56,7 @@ module _ (s : Subject) (budget : ℕ) where
   begins_within (Failed kind left) (Select system now takes) es is begins = absurd begins
   begins_within (Failed kind left) (Fire m n outs drops) es is begins = absurd begins
   begins_within (Failed kind left) (Fault m n kind') es is begins =
-      subst (λ (xs : List Event). (after_all s budget (bare s) xs).made ≤ budget * (fires (Fault m n kind' ∷ xs) + 1)) (sym begins.3) (omega arith)
+      subst (λ (xs : List Event). (after_events s budget (bare s) xs).made ≤ budget * (fires (Fault m n kind' ∷ xs) + 1)) (sym begins.3) (omega arith)
   begins_within Undefined e es is begins = absurd begins
 
   run_within : (events : List Event) → IsRun s budget events → (situation s budget events).made ≤ budget * (fires events + 1)

@@ -1,7 +1,7 @@
 -- The breach that is noted is the one that is reported of all that is broken.
 use Rattle.std.proofs.Common.{◌≡◌, ◌≢◌, ℕ, ◌⊎◌, inl, inr, Bool, true, false, nat_eq, ◌||◌, ◌&&◌, if◌then◌else◌, List, [], ◌∷◌, ◌++◌, Option, Some, None, ap, ◌∙◌, sym, refl, subst, arith}
 use Rattle.std.specs.Prelude.{not, IsSome}
-use Rattle.std.specs.Option.{is_some}
+use Rattle.std.specs.Option.{is_some, option_or}
 use Rattle.std.proofs.lemmas.Bool.Decides.{nat_tests}
 use Rattle.estelle_tree.specs.declared.span.Span.{Span}
 use Rattle.estelle_tree.specs.declared.tree.name.Name.{Name}
@@ -11,16 +11,16 @@ use Rattle.scope_rules.specs.declared.declaration.Declared.{Declared}
 use Rattle.scope_rules.specs.declared.event.Event.{Event}
 use Rattle.scope_rules.specs.declared.event.Event.TheVariants.{Open, Close, Keep, Import, Receive, Array, Declare, Use, By, Init, States}
 use Rattle.scope_rules.specs.declared.refusal.Breach.{Breach}
-use Rattle.scope_rules.specs.Least.{is_before, noted, IsFirst}
+use Rattle.scope_rules.specs.Least.{breach, only_if, is_before, noted, IsFirst}
 use Rattle.scope_rules.specs.Kinds.{may_be}
 use Rattle.scope_rules.specs.TypeEvents.{Events}
-use Rattle.scope_rules.specs.Scopes.{Scopes, Scope, Level, Word, start, after, after_one, in_scope, in_scope_of, in_level, in_names, kept_at, or_else, is_further, meaning, reached, received, inside_of, declare_one, Sought, sought}
+use Rattle.scope_rules.specs.Scopes.{Scopes, Scope, Level, Word, start, after, after_one, in_scope, in_scope_of, in_level, in_names, kept_at, is_further, meaning, reached, received, inside_of, declare_one, Sought, sought}
 use Rattle.scope_rules.specs.NameRules.{IsOne, Somewhere, later, is_listed, names_listed, SecondOf, UnlistedParameter, SecondParameter, DeclaredTwice, NotVisible, OfOtherKind, StatesAtFault, OfOtherHeader, Broken, Breaks}
 use Rattle.scope_rules.proofs.First.{before_self, first_noted, first_same, first_of_none}
 use Rattle.scope_names.proofs.Lists.{listed_found}
 use Rattle.scope_names.proofs.Symmetry.{either, or_left, or_right, shares_common, common_shares}
 use Rattle.scope_names.specs.Common.{is_among, shares, shares_level, shares_scope}
-use Rattle.scope_names.specs.Noted.{breach, twice, twices, only_if, is_second, listed_twice, listed_scope, unlisted_twice, parameter_twice, misused_as, misused, misuses, states_fault, header_fault, breach_at, least}
+use Rattle.scope_names.specs.Noted.{twice, twices, is_second, listed_twice, listed_scope, unlisted_twice, parameter_twice, misused_as, misused, misuses, states_fault, header_fault, breach_at, least}
 
 made : (b : Breach) (n : ℕ) (at : Span) → b.number ≡ n → b.span ≡ at → b ≡ breach n at
 made b n at r s = λ i. record { number = r i; span = s i }
@@ -123,15 +123,15 @@ of_others w others xs h = left_of (is_some (in_names w others)) _ h
 not_listed : (w : Word) (others : Scope) (xs : List Name) → is_among w others (listed_scope [] xs) ≡ true → is_listed w xs ≡ false
 not_listed w others xs h = sym (listed_found w xs) ∙ negated (is_some (in_names w (listed_scope [] xs))) (right_of (is_some (in_names w others)) _ h)
 
-some_else : (a b : Option Declared) → IsSome (or_else a b) → IsSome a ⊎ IsSome b
+some_else : (a b : Option Declared) → IsSome (option_or a b) → IsSome a ⊎ IsSome b
 some_else None b h = inr h
 some_else (Some d) b h = inl refl
 
-else_left : (a b : Option Declared) → IsSome a → IsSome (or_else a b)
+else_left : (a b : Option Declared) → IsSome a → IsSome (option_or a b)
 else_left None b h = absurd cc
 else_left (Some d) b h = refl
 
-else_right : (a b : Option Declared) → IsSome b → IsSome (or_else a b)
+else_right : (a b : Option Declared) → IsSome b → IsSome (option_or a b)
 else_right None b h = h
 else_right (Some d) b h = refl
 
@@ -150,7 +150,7 @@ scope_common kept others without (l ∷ outer) h = elim (either (shares_level ke
   | inr q ↦ further (is_further l.form) q (λ r. scope_common kept others without outer r)
 ]
   where
-    further : (b : Bool) → (if b then shares_scope kept others without outer else false) ≡ true → (shares_scope kept others without outer ≡ true → (w : Word) × ((is_among w others without ≡ true) × IsSome (in_scope_of kept w outer))) → (w : Word) × ((is_among w others without ≡ true) × IsSome (or_else (in_level kept w l) (if b then in_scope_of kept w outer else None)))
+    further : (b : Bool) → (if b then shares_scope kept others without outer else false) ≡ true → (shares_scope kept others without outer ≡ true → (w : Word) × ((is_among w others without ≡ true) × IsSome (in_scope_of kept w outer))) → (w : Word) × ((is_among w others without ≡ true) × IsSome (option_or (in_level kept w l) (if b then in_scope_of kept w outer else None)))
     further true q rest = let w = rest q in (w.0, (w.1.0, else_right (in_level kept w.0 l) _ w.1.1))
     further false q rest = absurd cc
 

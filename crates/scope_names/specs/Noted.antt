@@ -10,15 +10,12 @@ use Rattle.scope_rules.specs.declared.declaration.Declared.{Declared}
 use Rattle.scope_rules.specs.declared.event.Event.{Event}
 use Rattle.scope_rules.specs.declared.event.Event.TheVariants.{Receive, Declare, Use, By, Init, States}
 use Rattle.scope_rules.specs.declared.refusal.Breach.{Breach}
-use Rattle.scope_rules.specs.Least.{noted}
+use Rattle.scope_rules.specs.Least.{breach, only_if, noted}
 use Rattle.scope_rules.specs.Kinds.{may_be}
 use Rattle.scope_rules.specs.TypeEvents.{Events}
 use Rattle.scope_rules.specs.Scopes.{Scopes, Scope, in_scope, in_names, kept_at, meaning, reached, received, inside_of, declared, declaration, declare_one, after_one, Sought, sought}
 use Rattle.scope_rules.specs.NameRules.{later, names_listed}
 use Rattle.scope_names.specs.Common.{shares_scope}
-
-abbrev pub breach : ℕ → Span → Breach
-breach number span = record { number = number; span = span }
 
 -- 1
 abbrev pub twice : Option Declared → Span → Option Breach
@@ -28,10 +25,6 @@ twice (Some d) at = Some (breach 1 (later d.at at))
 abbrev pub twices : Option Breach → Scopes → List Name → Denotes → Option ℕ → Option Breach
 twices first s [] k inside = first
 twices first s (x ∷ xs) k inside = twices (noted first (twice (in_scope s x.word) x.span)) (declare_one s x k inside) xs k inside
-
-abbrev pub only_if : Bool → Breach → Option Breach
-only_if true b = Some b
-only_if false b = None
 
 abbrev pub is_second : Scopes → ℕ → Name → Bool
 is_second s parameters x = is_some (in_names x.word (kept_at s.kept parameters)) && is_some (in_scope s x.word)

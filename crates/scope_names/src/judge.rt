@@ -10,7 +10,7 @@ ghost use Rattle.scope_names.specs.Noted as noting;
 use crate::names::NameTable;
 use crate::table::Table;
 use estelle_tree::{Items, Name, Sequence, Span, Use};
-use scope_rules::{Breach, Declared, Denotes, Event, Inside, Need, Step, may_be, noted};
+use scope_rules::{Breach, Declared, Denotes, Event, Inside, Need, Step, may_be, noted, only_if};
 use std::alloc::{AllocError, Global};
 
 /// The place for which the names behind a dot are kept, where a name means what its place needs and its own declaration
@@ -25,15 +25,6 @@ fn reached(need: Need, found: Option<Declared>) -> Option<u32>
         } else {
             None
         },
-    }
-}
-
-fn or_nothing(at: Option<u32>) -> u32
-    ensures { result ≡ spec.or_nothing at }
-{
-    match at {
-        None => 0,
-        Some(at) => at,
     }
 }
 
@@ -68,7 +59,7 @@ fn received(table: &Table, ip: &Name, interaction: &Name) -> u32
     ensures { result ≡ spec.received table.now ip.now interaction.now }
 {
     let at = reached(Need::Ip, table.meaning(ip.word.items()));
-    or_nothing(through(table, at, interaction))
+    through(table, at, interaction).unwrap_or(0)
 }
 
 /// The second of two places in the text.
@@ -88,16 +79,6 @@ fn twice(was: Option<Declared>, at: Span) -> Option<Breach>
             span: later(d.at, at),
         }),
     }
-}
-
-/// A breach where something is so.
-fn only_if(broken: bool, number: u8, span: Span) -> Option<Breach>
-    ensures { result ≡ noting.only_if broken (noting.breach number span) }
-{
-    if broken {
-        return Some(Breach { number, span });
-    }
-    None
 }
 
 fn declare_one(
@@ -360,7 +341,7 @@ pub fn judge(
             Ok(None)
         }
         Event::Import(header) => {
-            let at = or_nothing(inside_named(table, header, Need::Header));
+            let at = inside_named(table, header, Need::Header).unwrap_or(0);
             table.join(at)?;
             Ok(None)
         }

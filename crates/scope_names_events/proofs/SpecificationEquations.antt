@@ -5,19 +5,16 @@ use Rattle.estelle_tree.specs.declared.tree.specification.Decl.{Decl, out-Decl, 
 use Rattle.estelle_tree.specs.declared.tree.specification.Decl.TheFolds.{fold_out-Body, fold_out-Parts}
 use Rattle.estelle_tree.specs.declared.tree.specification.Body.{Body, out-Body}
 use Rattle.estelle_tree.specs.declared.tree.specification.Parts.{Parts, out-Parts}
-use Rattle.std.specs.Prelude.{codes}
 use Rattle.std.specs.Char.{to_ascii_lowercase}
+use Rattle.estelle_tree.specs.declared.required.TheConstants.{IDENTIFIERS}
 use Rattle.estelle_tree.specs.declared.tree.specification.Spec.{Spec}
-use Rattle.scope_rules.specs.declared.declaration.Denotes.TheVariants as d
-use Rattle.scope_rules.specs.declared.declaration.Inside.TheVariants.{Nothing}
 use Rattle.scope_rules.specs.declared.event.ScopeForm.TheVariants as scope
-use Rattle.scope_rules.specs.declared.event.Event.TheVariants.{Open, Close, Declare}
-use Rattle.scope_names_events.specs.declared.specification.TheConstants.{TYPES, CONSTANTS, FUNCTIONS}
+use Rattle.scope_rules.specs.declared.event.Event.TheVariants.{Open, Close}
 use Rattle.scope_names_events.specs.Writing.{write, put}
 use Rattle.scope_rules.specs.TypeEvents.{Events}
 use Rattle.scope_rules.specs.ExpressionEvents.{optional}
 use Rattle.scope_rules.specs.ClauseEvents.{any_of, body_states}
-use Rattle.scope_rules.specs.SpecificationEvents.{Declaring, Saying, has_to, init, trans, body_head, decl_layer, body_layer, parts_layer, decl, body, parts, required, required_events, states_of, events}
+use Rattle.scope_rules.specs.SpecificationEvents.{Declaring, Saying, has_to, init, trans, body_head, decl_layer, body_layer, parts_layer, decl, body, parts, required_event, required_events, states_of, events}
 use Rattle.scope_names_events.proofs.WritingLemmas.{chain_map, write-nil, write-cons, write-append, write-all}
 use Rattle.scope_names_events.proofs.ClauseEquations.{any_map}
 
@@ -61,19 +58,9 @@ body_written b out o1 o2 o3 e1 e2 e3 =
     let p = (parts (out-Body b).parts).events in
     e3 ∙ ap (λ o. put o Close) (e2 ∙ ap (λ o. write o p) e1) ∙ sym (write-nil (put (write (write out h) p) Close) ∙ refl) ∙ sym (write-append out h (p ++ Close ∷ []) ∙ write-append (write out h) p (Close ∷ []) ∙ write-cons (write (write out h) p) Close []) ∙ ap (write out) (sym (body_is b))
 
--- the required identifiers, as the constants of the code have them
-pub types_are : map (λ w. required (map to_ascii_lowercase w.now)) TYPES ≡ required (codes "integer") ∷ required (codes "boolean") ∷ required (codes "char") ∷ []
-types_are = refl
-
-pub constants_are : map (λ w. required (map to_ascii_lowercase w.now)) CONSTANTS ≡ required (codes "true") ∷ required (codes "false") ∷ required (codes "maxint") ∷ []
-constants_are = refl
-
-pub functions_are : map (λ w. required (map to_ascii_lowercase w.now)) FUNCTIONS ≡ required (codes "abs") ∷ required (codes "sqr") ∷ required (codes "odd") ∷ required (codes "succ") ∷ required (codes "pred") ∷ required (codes "ord") ∷ required (codes "chr") ∷ []
-functions_are = refl
-
-pub required_written : (out : Events) → put (put (put out (Declare (map (λ w. required (map to_ascii_lowercase w.now)) TYPES) d.Type Nothing)) (Declare (map (λ w. required (map to_ascii_lowercase w.now)) CONSTANTS) d.Constant Nothing)) (Declare (map (λ w. required (map to_ascii_lowercase w.now)) FUNCTIONS) d.RequiredFunction Nothing) ≡ write out required_events
-unfolding write
-required_written out = refl
+-- the words of the table are in lower case
+pub required_is : map (λ e. required_event (map to_ascii_lowercase e.0.now) e.1) IDENTIFIERS ≡ required_events
+required_is = refl
 
 -- the events of a specification, one after another
 pub events_is : (s : Spec) → events s ≡ put (put (write (put (write (write (put [] (Open scope.Inner)) required_events) (states_of s.span (parts s.parts))) (Open scope.Body)) (parts s.parts).events) Close) Close

@@ -1,5 +1,5 @@
 -- Lists of events, piece by piece.
-use Rattle.std.proofs.Common.{◌≡◌, ℕ, ◌+◌, ◌<◌, ◌≤◌, List, [], ◌∷◌, ◌++◌, refl, map, take, get_or, length, arith, ap, append_assoc, append-nil, ◌∙◌, sym, add-one, zero, suc}
+use Rattle.std.proofs.Common.{◌≡◌, ℕ, ◌+◌, ◌-◌, ◌<◌, ◌≤◌, List, [], ◌∷◌, ◌++◌, refl, map, take, drop, get_or, length, arith, ap, append_assoc, append-nil, ◌∙◌, sym, add-one, zero, suc}
 use Rattle.std.proofs.lemmas.List.{take_all, take_more, map-append}
 use Rattle.std.specs.Prelude.{Result, Ok, Err, OnOk}
 use Rattle.std.specs.List.{flat_map}
@@ -51,6 +51,16 @@ chain_map g f (x ∷ xs) = ap (λ ts. g (f x) ++ ts) (chain_map g f xs)
 -- one more of a map
 pub map_more : {A B : Type 0} (f : A → B) (xs : List A) (i : ℕ) (x : A) → i < length xs → x ≡ get_or xs i x → map f (take (i + 1) xs) ≡ map f (take i xs) ++ f x ∷ []
 map_more f xs i x h e = ap (map f) (take_more xs i x h) ∙ map-append f (take i xs) (get_or xs i x ∷ []) ∙ ap (λ y. map f (take i xs) ++ f y ∷ []) (sym e)
+
+-- the first of some is written, and the rest are left
+pub first_written : {A : Type 0} (f : A → Event) (xs : List A) (x : A) (out new all : Events) → 1 ≤ length xs → new ≡ put out (f (get_or xs 0 x)) → write out (map f xs) ≡ all → write new (map f (take (length xs - 1) (drop 1 xs))) ≡ all
+first_written f [] x out new all h e i = absurd (omega (arith, h))
+first_written f (y ∷ ys) x out new all h e i = ap (λ zs. write new (map f zs)) (take_all (length (y ∷ ys) - 1) ys (omega arith)) ∙ ap (λ o. write o (map f ys)) e ∙ sym (write-cons out (f y) (map f ys)) ∙ i
+
+-- none are left
+pub none_left : {A : Type 0} (f : A → Event) (xs : List A) (out all : Events) → length xs < 1 → write out (map f xs) ≡ all → out ≡ all
+none_left f [] out all h e = sym (write-nil out) ∙ e
+none_left f (x ∷ xs) out all h e = absurd (omega (arith, h))
 
 same_longer : {A B : Type 0} (c : B) (xs : List A) (i : ℕ) → i < length xs → map (λ x. c) (take (suc i) xs) ≡ map (λ x. c) (take i xs) ++ c ∷ []
 same_longer c [] i h = absurd (omega arith)

@@ -1,10 +1,9 @@
 //! Channels, headers, bodies and specifications.
 
-ghost use Rattle.std.specs.Prelude.{◌≡◌, ◌∷◌, [], map, codes, OnOk, IfOk};
+ghost use Rattle.std.specs.Prelude.{◌≡◌, ◌∷◌, [], map, OnOk, IfOk};
 ghost use Rattle.std.specs.List.{flat_map};
 ghost use Rattle.std.specs.Char.{to_ascii_lowercase};
-ghost use Rattle.scope_rules.specs.declared.declaration.Inside.TheVariants.{Nothing};
-ghost use Rattle.scope_rules.specs.declared.event.Event.TheVariants.{By, Declare};
+ghost use Rattle.scope_rules.specs.declared.event.Event.TheVariants.{By};
 ghost use Rattle.scope_rules.specs.SpecificationEvents as spec;
 ghost use Rattle.scope_rules.specs.ClauseEvents.{any_of, body_states};
 ghost use Rattle.scope_names_events.specs.Writing.{write, put};
@@ -15,8 +14,9 @@ use crate::node::{Node, chain, optional};
 use crate::types::write_all_typed;
 use crate::writer::{Writer, copy_name, one};
 use estelle_tree::{
-    Body, Channel, Decl, Header, Init, Inter, InterGroup, IpDecl, Items, ModvarDecl, Name,
-    ParamGroup, Params, Parts, Sequence, Span, Spec, StatesetDef, Trans, Word,
+    Body, Channel, Decl, Header, IDENTIFIERS, Init, Inter, InterGroup, IpDecl, Items, ModvarDecl,
+    Name, ParamGroup, Params, Parts, RequiredIdentifier, Sequence, Span, Spec, StatesetDef, Trans,
+    Word,
 };
 use scope_rules::{Denotes, Event, Inside, Need, ScopeForm, Step};
 use std::alloc::{AllocError, Global};
@@ -322,12 +322,6 @@ fn write_body(body: &Body, out: &mut Writer) -> Result<(), AllocError>
     out.push(Event::Close)
 }
 
-const TYPES: [&[u8]; 3] = [b"integer", b"boolean", b"char"];
-
-const CONSTANTS: [&[u8]; 3] = [b"true", b"false", b"maxint"];
-
-const FUNCTIONS: [&[u8]; 7] = [b"abs", b"sqr", b"odd", b"succ", b"pred", b"ord", b"chr"];
-
 fn required(alloc: Global, word: &[u8]) -> Result<Name, AllocError>
     ensures { IfOk result (λ name. name ≡ spec.required (map to_ascii_lowercase word.now)) }
 {
@@ -337,27 +331,52 @@ fn required(alloc: Global, word: &[u8]) -> Result<Name, AllocError>
     })
 }
 
-/// Required identifiers are declared.
-fn declare_required(words: &[&[u8]], denotes: Denotes, out: &mut Writer) -> Result<(), AllocError>
-    ensures { OnOk result (out.new ≡ put out.old (Declare (map (λ w. spec.required (map to_ascii_lowercase w.now)) words.now) denotes Nothing)) }
+fn denotes_required(identifier: RequiredIdentifier) -> Denotes
+    ensures { result ≡ spec.denotes_required identifier }
 {
-    let mut names = Items::new(out.alloc);
-    for word in words {
-        names.push(required(out.alloc, word)?)?;
+    match identifier {
+        RequiredIdentifier::Integer | RequiredIdentifier::Boolean | RequiredIdentifier::Char => {
+            Denotes::Type
+        }
+        RequiredIdentifier::False | RequiredIdentifier::True | RequiredIdentifier::Maxint => {
+            Denotes::Constant
+        }
+        RequiredIdentifier::Function(_) => Denotes::RequiredFunction,
     }
+}
+
+/// A required identifier is declared.
+fn declare_required(
+    identifier: &(&[u8], RequiredIdentifier),
+    out: &mut Writer,
+) -> Result<(), AllocError>
+    ensures { OnOk result (out.new ≡ put out.old (spec.required_event (map to_ascii_lowercase identifier.now.0.now) identifier.now.1)) }
+{
+    let name = required(out.alloc, identifier.0)?;
     out.push(Event::Declare {
-        names,
-        denotes,
+        names: one(out.alloc, name)?,
+        denotes: denotes_required(identifier.1),
         inside: Inside::Nothing,
     })
+}
+
+fn declare_each(
+    mut identifiers: &[(&[u8], RequiredIdentifier)],
+    out: &mut Writer,
+) -> Result<(), AllocError>
+    ensures { OnOk result (out.new ≡ write out.old (map (λ e. spec.required_event (map to_ascii_lowercase e.0.now) e.1) identifiers.entry.now)) }
+{
+    while let [identifier, rest @ ..] = identifiers {
+        declare_required(identifier, out)?;
+        identifiers = rest;
+    }
+    Ok(())
 }
 
 fn write_required(out: &mut Writer) -> Result<(), AllocError>
     ensures { OnOk result (out.new ≡ write out.old spec.required_events) }
 {
-    declare_required(&TYPES, Denotes::Type, out)?;
-    declare_required(&CONSTANTS, Denotes::Constant, out)?;
-    declare_required(&FUNCTIONS, Denotes::RequiredFunction, out)
+    declare_each(&IDENTIFIERS, out)
 }
 
 /// What a specification says of scopes and names.

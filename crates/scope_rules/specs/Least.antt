@@ -1,8 +1,17 @@
 -- The refusal: of all breaches the one with the least number of a rule, and of those of one rule the first in the text.
-use Rattle.std.specs.Prelude.{◌≡◌, Bool, false, nat_eq, nat_lt, ◌||◌, ◌&&◌, if◌then◌else◌, Option, Some, None}
+use Rattle.std.specs.Prelude.{◌≡◌, ℕ, Bool, false, nat_eq, nat_lt, ◌||◌, ◌&&◌, if◌then◌else◌, Option, Some, None}
+use Rattle.estelle_tree.specs.declared.span.Span.{Span}
 use Rattle.scope_rules.specs.declared.refusal.Breach.{Breach}
 use Rattle.scope_rules.specs.declared.refusal.Refusal.{Refusal}
 use Rattle.scope_rules.specs.declared.refusal.Refusal.TheVariants.{Rule, Memory}
+
+-- a node breaks a rule
+abbrev pub breach : ℕ → Span → Breach
+breach number at = record { number = number; span = at }
+
+-- a breach where something is so
+abbrev pub only_if : Bool → Breach → Option Breach
+only_if broken b = if broken then Some b else None
 
 -- a breach is reported rather than another: its rule has a lesser number, or its node stands earlier and breaks the same rule
 abbrev pub is_before : Breach → Breach → Bool
@@ -15,7 +24,7 @@ pub record IsLeast (P : Breach → Type 0) (b : Breach) : Type 0 where
 
 -- a refusal names the breach that is reported; that it may come for want of memory is not ruled out
 abbrev pub Refuses : (Breach → Type 0) → Refusal → Type 0
-Refuses P (Rule number span) = IsLeast P (record { number = number; span = span })
+Refuses P (Rule number span) = IsLeast P (breach number span)
 Refuses P Memory = Unit {0}
 
 -- the one of two that is reported

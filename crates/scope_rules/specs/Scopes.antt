@@ -1,5 +1,6 @@
 -- What is visible after some of the events, and what each name in use means.
 use Rattle.std.specs.Prelude.{ℕ, Bool, true, false, nat_eq, nat_lt, ◌||◌, ◌&&◌, if◌then◌else◌, List, [], ◌∷◌, ◌++◌, Option, Some, None}
+use Rattle.std.specs.Option.{option_or, unwrap_or}
 use Rattle.std.specs.Map.{lookup}
 use Rattle.std.specs.Str.{bytes_eq}
 use Rattle.estelle_tree.specs.declared.tree.name.Name.{Name}
@@ -40,18 +41,6 @@ pub record Scopes : Type 0 where
 abbrev pub start : Scopes
 start = record { levels = []; kept = []; components = [] }
 
-abbrev pub or_else : Option Declared → Option Declared → Option Declared
-or_else (Some d) more = Some d
-or_else None more = more
-
-abbrev pub or_empty : Option Scope → Scope
-or_empty None = []
-or_empty (Some s) = s
-
-abbrev pub or_nothing : Option ℕ → ℕ
-or_nothing None = 0
-or_nothing (Some n) = n
-
 -- with the value of a place
 abbrev pub put : {A : Type 0} → ℕ → A → List (ℕ × A) → List (ℕ × A)
 put at v [] = (at, v) ∷ []
@@ -59,7 +48,7 @@ put at v (e ∷ es) = if nat_eq at e.0 then (e.0, v) ∷ es else e ∷ put at v 
 
 -- the names that are kept for a place
 abbrev pub kept_at : List (ℕ × Scope) → ℕ → Scope
-kept_at kept at = or_empty (lookup (nat_eq at) kept)
+kept_at kept at = unwrap_or (lookup (nat_eq at) kept) []
 
 abbrev pub in_names : Word → Scope → Option Declared
 in_names w names = lookup (bytes_eq w) names
@@ -68,7 +57,7 @@ in_names w names = lookup (bytes_eq w) names
 
 -- what a name is declared as in one open scope
 abbrev pub in_level : List (ℕ × Scope) → Word → Level → Option Declared
-in_level kept w l = or_else (in_names w l.names) (in_names w (kept_at kept l.within))
+in_level kept w l = option_or (in_names w l.names) (in_names w (kept_at kept l.within))
 
 abbrev pub is_further : ScopeForm → Bool
 is_further form.Further = true
@@ -81,7 +70,7 @@ is_body f = false
 -- what a name is declared as in the innermost scope so far, of which several levels may be parts
 abbrev pub in_scope_of : List (ℕ × Scope) → Word → List Level → Option Declared
 in_scope_of kept w [] = None
-in_scope_of kept w (l ∷ outer) = or_else (in_level kept w l) (if is_further l.form then in_scope_of kept w outer else None)
+in_scope_of kept w (l ∷ outer) = option_or (in_level kept w l) (if is_further l.form then in_scope_of kept w outer else None)
 
 abbrev pub in_scope : Scopes → Word → Option Declared
 in_scope s w = in_scope_of s.kept w s.levels
@@ -119,13 +108,9 @@ reached n (Some d) = if may_be n d.denotes then d.inside else None
 abbrev pub member : Scopes → ℕ → Word → Option Declared
 member s at w = in_names w (kept_at s.kept at)
 
-abbrev pub or_none_kept : Option (Option ℕ) → Option ℕ
-or_none_kept None = Some 0
-or_none_kept (Some at) = at
-
 -- the place for the components of an array type; an index on what is no array reaches nothing
 abbrev pub component : Scopes → ℕ → Option ℕ
-component s at = or_none_kept (lookup (nat_eq at) s.components)
+component s at = unwrap_or (lookup (nat_eq at) s.components) (Some 0)
 
 -- the place that a name brings, where it means what is needed
 abbrev pub inside_named : Scopes → Name → Need → Option ℕ
@@ -143,7 +128,7 @@ through s (Some at) x = reached need.Interaction (member s at x.word)
 
 -- the place of the parameters of an interaction of an ip
 abbrev pub received : Scopes → Name → Name → ℕ
-received s ip interaction = or_nothing (through s (reached need.Ip (meaning s ip.word)) interaction)
+received s ip interaction = unwrap_or (through s (reached need.Ip (meaning s ip.word)) interaction) 0
 
 -- ---- how events change what is visible
 
@@ -205,7 +190,7 @@ abbrev pub after_one : Scopes → Event → Scopes
 after_one s (Open f) = record { levels = record { form = f; names = []; within = 0 } ∷ s.levels; kept = s.kept; components = s.components }
 after_one s Close = record { levels = below s.levels; kept = s.kept; components = s.components }
 after_one s (Keep span) = keep_at s span.start
-after_one s (Import h) = join_at s (or_nothing (inside_named s h need.Header))
+after_one s (Import h) = join_at s (unwrap_or (inside_named s h need.Header) 0)
 after_one s (Receive ip interaction names) = join_at s (received s ip interaction)
 after_one s (Array span of) = component_at s span.start (inside_of s of)
 after_one s (Declare names k inside) = declare_all s names k (inside_of s inside)

@@ -1,5 +1,5 @@
 -- What channels, headers, bodies and a specification say of names.
-use Rattle.std.specs.Prelude.{ℕ, Bool, true, false, List, [], ◌∷◌, ◌++◌, map, Option, Some, None, codes}
+use Rattle.std.specs.Prelude.{ℕ, Bool, true, false, List, [], ◌∷◌, ◌++◌, map, Option, Some, None}
 use Rattle.std.specs.List.{flat_map}
 use Rattle.std.specs.Option.{is_some}
 use Rattle.estelle_tree.specs.declared.span.Span.{Span}
@@ -22,6 +22,10 @@ use Rattle.estelle_tree.specs.declared.tree.specification.ModvarDecl.{ModvarDecl
 use Rattle.estelle_tree.specs.declared.tree.specification.StatesetDef.{StatesetDef}
 use Rattle.estelle_tree.specs.declared.tree.specification.Body.{Body}
 use Rattle.estelle_tree.specs.Spans.{nowhere}
+use Rattle.estelle_tree.specs.declared.required.RequiredIdentifier.{RequiredIdentifier}
+use Rattle.estelle_tree.specs.declared.required.RequiredIdentifier.TheVariants as identifier
+use Rattle.estelle_tree.specs.Required.{identifiers}
+use Rattle.scope_rules.specs.declared.declaration.Denotes.{Denotes}
 use Rattle.scope_rules.specs.declared.declaration.Denotes.TheVariants as d
 use Rattle.scope_rules.specs.declared.declaration.Need.TheVariants as need
 use Rattle.scope_rules.specs.declared.declaration.Inside.TheVariants.{Nothing, At, Named}
@@ -146,13 +150,22 @@ parts = fold-Parts Declaring Events Saying decl_layer body_layer parts_layer
 abbrev pub required : List ℕ → Name
 required word = record { word = word; span = nowhere }
 
--- the required identifiers
+-- what a required identifier denotes
+abbrev pub denotes_required : RequiredIdentifier → Denotes
+denotes_required identifier.Integer = d.Type
+denotes_required identifier.Boolean = d.Type
+denotes_required identifier.Char = d.Type
+denotes_required identifier.False = d.Constant
+denotes_required identifier.True = d.Constant
+denotes_required identifier.Maxint = d.Constant
+denotes_required (identifier.Function f) = d.RequiredFunction
+
+abbrev pub required_event : List ℕ → RequiredIdentifier → Event
+required_event word means = Declare (required word ∷ []) (denotes_required means) Nothing
+
+-- the required identifiers are declared one after another
 abbrev pub required_events : Events
-required_events =
-    Declare (required (codes "integer") ∷ required (codes "boolean") ∷ required (codes "char") ∷ []) d.Type Nothing
-    ∷ Declare (required (codes "true") ∷ required (codes "false") ∷ required (codes "maxint") ∷ []) d.Constant Nothing
-    ∷ Declare (required (codes "abs") ∷ required (codes "sqr") ∷ required (codes "odd") ∷ required (codes "succ") ∷ required (codes "pred") ∷ required (codes "ord") ∷ required (codes "chr") ∷ []) d.RequiredFunction Nothing
-    ∷ []
+required_events = map (λ e. required_event e.0 e.1) identifiers
 
 -- the required identifiers are the outermost scope, and the specification is the next one; its own name is in none
 unfoldable pub events : Spec → Events

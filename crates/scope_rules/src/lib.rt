@@ -16,4 +16,4 @@ mod refusal;
 
 pub use declaration::{Declared, Denotes, Inside, Need, may_be};
 pub use event::{Event, ScopeForm, Step};
-pub use refusal::{Breach, Refusal, noted};
+pub use refusal::{Breach, Refusal, noted, only_if};

@@ -38,6 +38,16 @@ fn is_before(a: Breach, b: Breach) -> bool
     a.number < b.number || (a.number == b.number && a.span.start < b.span.start)
 }
 
+/// A breach where something is so.
+pub fn only_if(broken: bool, number: u8, span: Span) -> Option<Breach>
+    ensures { result ≡ least.only_if broken (least.breach number span) }
+{
+    if broken {
+        return Some(Breach { number, span });
+    }
+    None
+}
+
 /// The one of two that is reported.
 pub fn noted(old: Option<Breach>, new: Option<Breach>) -> Option<Breach>
     ensures { result ≡ least.noted old new }

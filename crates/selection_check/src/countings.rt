@@ -1,11 +1,10 @@
 //! What the transitions of instances let a system select.
 
 ghost use Rattle.std.specs.Prelude.{◌≡◌, ◌≤◌, length};
-ghost use Rattle.estelle_model.specs.Selection.{is_higher};
 ghost use Rattle.selection_check.specs.Countings as spec;
 
 use estelle_tree::{Pair, Path};
-use transition_select::{Countable, Counting};
+use transition_select::{Countable, Counting, is_higher};
 
 /// How many of these, in a row from the first on, are at or below an instance.
 pub(crate) fn block_len(path: &Path, counts: &[Counting]) -> usize
@@ -44,16 +43,6 @@ pub(crate) fn begins_in(path: &Path, takes: &[Pair]) -> bool
     match takes.first() {
         None => false,
         Some(take) => path.is_at_or_above(&take.path),
-    }
-}
-
-fn is_higher(a: Option<i64>, b: Option<i64>) -> bool
-    ensures { result ≡ is_higher a b }
-{
-    match (a, b) {
-        (Some(a), Some(b)) => a < b,
-        (Some(_), None) => true,
-        (None, _) => false,
     }
 }
 

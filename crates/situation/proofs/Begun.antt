@@ -1,5 +1,5 @@
 -- A course begins: it is fresh, the start may be settled, and what that comes to.
-use Rattle.std.proofs.Common.{◌≡◌, ℕ, ◌+◌, ◌*◌, ◌^◌, ◌<◌, ◌≤◌, Bool, true, false, List, [], ◌∷◌, ◌++◌, Option, Some, None, refl, sym, ap, subst, ◌∙◌, arith, length}
+use Rattle.std.proofs.Common.{◌≡◌, ℕ, ◌+◌, ◌*◌, ◌^◌, ◌<◌, ◌≤◌, Bool, true, false, List, [], ◌∷◌, ◌++◌, Option, Some, None, refl, sym, ap, subst, ◌∙◌, inl, arith, length}
 use Rattle.std.specs.Prelude.{map as each}
 use Rattle.std.specs.FinMap as map
 use Rattle.pascal_values.specs.declared.fault.Fault as fault
@@ -13,7 +13,7 @@ use Rattle.estelle_model.specs.declared.job.Outcome.{Outcome}
 use Rattle.estelle_model.specs.declared.job.Outcome.TheVariants as outcome
 use Rattle.estelle_model.specs.Subject.{Subject}
 use Rattle.estelle_model.specs.Situation.{Situation, Acting}
-use Rattle.estelle_model.specs.Firing.{bare}
+use Rattle.estelle_model.specs.Firing.{start, bare}
 use Rattle.estelle_model.specs.Delays.{has_delays}
 use Rattle.estelle_model.specs.Jobs.{Answers}
 use Rattle.estelle_model.specs.Runs.{situation}
@@ -35,9 +35,9 @@ use Rattle.situation_steps.specs.Laws.{first_time}
 use Rattle.situation.specs.declared.limits.Limits.{Limits}
 use Rattle.situation.specs.declared.course.Course.{Course}
 use Rattle.situation.specs.Runs.{noted, ending, IsGoing, IsClosed, AreReached}
-use Rattle.situation.specs.Worlds.{Holds, IsOpenCourse, IsKept}
+use Rattle.situation.specs.Worlds.{Holds, HasOnlyStarted, IsOpenCourse, IsEndedCourse, IsKept}
 use Rattle.situation.specs.Steps.{IsFresh, MaySettle, HasBeenPut, HasFailed, StartedSo, HasStarted, FindsSystems, HasAllSystems, IsBegun}
-use Rattle.situation.proofs.Starts.{start_answers_in, start_numbers, start_situation, start_legal, start_going, start_pending, start_timers, start_reached, start_closes, start_failed_reached}
+use Rattle.situation.proofs.Starts.{start_answers_in, start_numbers, start_situation, start_legal, start_going, start_pending, start_timers, start_reached, start_stays, start_closes, start_failed_reached, only_started, only_failed}
 
 -- what sees the same stands for the same situation
 pub stands_same : (s : Subject) (old new : Shared) (g : Situation) → SeesTheSame old new → Stands s old g → Stands s new g
@@ -118,6 +118,11 @@ module _ {H : Type 0} (s : Subject) (limits : Limits) (chooser : H) where
       subst (λ (c : H). AreReached draw x.program.now x.limits.budget x.limits.turns moment chooser x.history.entries c x.time moment) (sym a.chooser_is)
       (subst (λ (q : Whole). AreReached draw q.0 q.1.budget q.1.turns moment chooser q.2 chooser q.3 moment) (same_whole x its a) r)
 
+  -- and what has happened
+  started_by : (x : Course H) (its : List Entry) → IsAsBegun x its → (e : Option End) → x.end ≡ e → HasOnlyStarted (start s limits.budget) its e → HasOnlyStarted (start x.program.now x.limits.budget) x.history.entries x.end
+  started_by x its a e is h =
+      subst (λ (q : Whole). HasOnlyStarted (start q.0 q.1.budget) q.2 x.end) (same_whole x its a) (subst (HasOnlyStarted (start s limits.budget) its) (sym is) h)
+
   module _ (leads : LeadsToStates s) (room : limits.budget * (limits.turns + 1) < 2 ^ 63) (job : Job) (start : IsStart limits.budget job) (done : Done) (answers : Answers s job done) where
     few : (o : Outcome) → done.outcome ≡ o → IsRan o → outputs_in (log_of done.outcome) < 2 ^ 64
     few (outcome.Ran image effects) e ran = start_numbers s leads limits.budget limits.turns job start.trans start.path start.units done answers image effects e room
@@ -185,6 +190,8 @@ module _ {H : Type 0} (s : Subject) (limits : Limits) (chooser : H) where
           keeps = subst (IsKept x) (sym unended) opened;
           of = record { subject = program_is; same = as_begun.limits_are };
           begun = λ moment. reached_by draw x its as_begun moment (start_reached s leads b t job start.trans start.path start.units done answers image effects is draw chooser moment);
+          starts = started_by x its as_begun None unended (only_started s leads b t job start.trans start.path start.units done answers image effects is);
+          time = as_begun.time;
           unclocked = λ ended. absurd (not_ended x.end unended ended);
         }
 
@@ -207,10 +214,29 @@ module _ {H : Type 0} (s : Subject) (limits : Limits) (chooser : H) where
         let closed : IsClosed s b t its 0 (Faulted kind) = start_closes s leads b t job start.trans start.path start.units done answers kind is in
         let there : IsClosed x.program.now x.limits.budget x.limits.turns x.history.entries x.time.waited (Faulted kind) =
         subst (λ (q : Whole). IsClosed q.0 q.1.budget q.1.turns q.2 q.3.waited (Faulted kind)) (same_whole x its as_begun) closed in
+        let situation_is = start_stays s leads b t job start.trans start.path start.units done answers kind is in
+        let holds : Holds s b its x.shared x.timers x.pending.items = record {
+          stands = subst (Stands s x.shared) (sym situation_is) (subst (λ (y : Shared). Stands s y (bare s)) (sym (ap (λ (y : Course H). y.shared) same)) f.stands);
+          timers = ap (λ (y : Course H). y.timers) same ∙ f.timers ∙ sym (ap (λ (g : Situation). g.timers) situation_is);
+          pending = ap (λ (y : Course H). y.pending.items) same ∙ f.pending ∙ sym (ap (λ (g : Situation). g.pending) situation_is);
+        } in
+        let tickets_are : x.tickets ≡ 0 = ap (λ (y : Course H). y.tickets) same ∙ f.tickets in
+        let closes : IsEndedCourse x (Faulted kind) = record {
+          leads = subst LeadsToStates (sym program_is) leads;
+          room = subst (λ (l : Limits). l.budget * (l.turns + 1) < 2 ^ 63) (sym as_begun.limits_are) room;
+          delays = ap (λ (y : Course H). y.delays) same ∙ f.delays ∙ ap has_delays (sym program_is);
+          closed = there;
+          holds = subst (λ (q : Whole). Holds q.0 q.1.budget q.2 x.shared x.timers x.pending.items) (same_whole x its as_begun) holds;
+          taken = ap (λ (es : List Entry). length (tickets es)) as_begun.entries ∙ sym tickets_are;
+          fired = inl (tickets_are ∙ sym (ap fires as_begun.entries));
+          empty = record { outs = ap (λ (y : Course H). y.notes.outs.items) same ∙ f.empty.outs; drops = ap (λ (y : Course H). y.notes.drops.items) same ∙ f.empty.drops; arrivals = ap (λ (y : Course H). y.notes.arrivals.items) same ∙ f.empty.arrivals };
+        } in
         record {
-          keeps = subst (IsKept x) (sym ended) there;
+          keeps = subst (IsKept x) (sym ended) closes;
           of = record { subject = program_is; same = as_begun.limits_are };
           begun = λ moment. reached_by draw x its as_begun moment (start_failed_reached s leads b t job start.trans start.path start.units done answers kind is draw chooser moment);
+          starts = started_by x its as_begun (Some (Faulted kind)) ended (only_failed s leads b t job start.trans start.path start.units done answers kind is);
+          time = as_begun.time;
           unclocked = λ clocked. absurd (not_clocked x.end kind ended clocked);
         }
 

@@ -1,5 +1,5 @@
 -- What a firing comes to.
-use Rattle.std.proofs.Common.{◌≡◌, ℕ, ◌+◌, ◌-◌, ◌*◌, ◌^◌, ◌<◌, ◌≤◌, Bool, true, List, [], ◌∷◌, ◌++◌, Option, Some, None, refl, sym, ap, subst, ◌∙◌, arith, length}
+use Rattle.std.proofs.Common.{◌≡◌, ℕ, ◌+◌, ◌-◌, ◌*◌, ◌^◌, ◌<◌, ◌≤◌, Bool, true, List, [], ◌∷◌, ◌++◌, Option, Some, None, refl, sym, ap, subst, ◌∙◌, inr, arith, length}
 use Rattle.std.specs.Prelude.{Contains, map as each, count_by, if◌then◌else◌}
 use Rattle.std.specs.FinMap as map
 use Rattle.std.proofs.lemmas.List.{append-nil, length-map}
@@ -9,7 +9,7 @@ use Rattle.estelle_tree.specs.Timers.{Timers}
 use Rattle.estelle_model.specs.declared.event.Event.TheVariants.{Fire, Fault}
 use Rattle.estelle_model.specs.declared.event.End.{End}
 use Rattle.estelle_model.specs.declared.event.End.TheVariants.{Clock, Faulted}
-use Rattle.estelle_model.specs.declared.effect.Effect.{Effect as LoggedEffect}
+use Rattle.estelle_model.specs.declared.effect.Effect.{Effect}
 use Rattle.estelle_model.specs.declared.image.Image.{Image}
 use Rattle.estelle_model.specs.declared.job.Done.{Done}
 use Rattle.estelle_model.specs.declared.job.Outcome.{Outcome}
@@ -32,12 +32,14 @@ use Rattle.situation.specs.declared.limits.Stepped.TheVariants as did
 use Rattle.situation.specs.declared.course.Course.{Course}
 use Rattle.situation.specs.Runs.{noted, ending, take_of, IsGoing, IsClosed, AreReached}
 use Rattle.situation_images.specs.Putting.{arrivals_of}
-use Rattle.situation.specs.Worlds.{IsOpenCourse, IsKept, HasStepped, now, work, left_to_do}
+use Rattle.situation.specs.Worlds.{IsOpenCourse, IsEndedCourse, IsKept, HasStepped, now, work, left_to_do}
 use Rattle.situation.specs.Steps.{GoesOn, MayPut, MaySettle, IsComputed, HasFired, SettledSo, HasSettled}
 use Rattle.situation.proofs.Standing.{stands_still}
 use Rattle.situation.proofs.Steps.{project_push}
+use Rattle.situation.proofs.Adding.{adds_on}
+use Rattle.situation.proofs.Ended.{holds_same}
 use Rattle.situation.proofs.Less.{left_open, less_fired}
-use Rattle.situation.proofs.Firings.{answers_in, failing, failed_closes, failed_reached, fired_situation, fired_going, fired_next, fired_reached, fired_numbers, count_is}
+use Rattle.situation.proofs.Firings.{answers_in, failing, failed_closes, failed_now, failed_count, failed_next, failed_reached, fired_situation, fired_going, fired_next, fired_reached, fired_numbers, count_is}
 
 -- a fault, which ends the run, leaves less to do
 less_ended : (n y : ℕ) → y ≡ 1 + n → 0 < y
@@ -58,14 +60,14 @@ module _ {H : Type 0} where
 
   -- the course where a firing is taken
   abbrev pub with_take : Course H → Course H → Course H
-  with_take c m = record c { pending = m.pending; history = m.history; tickets = c.tickets + 1 }
+  with_take c m = record c { history = m.history; tickets = c.tickets + 1 }
 
   -- the course where it was put
   abbrev with_firing : Course H → Course H → Course H → Course H
-  with_firing c m n = record (with_take c m) { shared = n.shared; history = n.history; notes = n.notes; timers = n.timers; systems = n.systems; time = record c.time { may_wait = true } }
+  with_firing c m n = record (with_take c m) { shared = n.shared; history = n.history; notes = n.notes; timers = n.timers; pending = n.pending; systems = n.systems; time = record c.time { may_wait = true } }
 
   module _ (c m : Course H) (p : Pair) (done : Done) (opened : GoesOn 3 c) (below : fires c.history.entries < c.limits.turns) (none_due : NoneIsDue c.systems.items) (computed : IsComputed c p done)
-      (left : m.pending.items ≡ without p c.pending.items) (taken_is : m.history.entries ≡ c.history.entries ++ take_of (c.tickets + 1) p ∷ []) where
+      (taken_is : m.history.entries ≡ c.history.entries ++ take_of (c.tickets + 1) p ∷ []) where
     abbrev s : Subject
     s = c.program.now
 
@@ -124,8 +126,21 @@ module _ {H : Type 0} where
       failed_step n kind is entries_are =
           let e : n.history.entries ≡ ((es ++ take_of (c.tickets + 1) p ∷ []) ++ noted (Fault p.path p.trans kind) ∷ []) ++ ending (Faulted kind) ∷ [] = entries_are ∙ ap (λ (xs : List Entry). (xs ++ noted (Fault p.path p.trans kind) ∷ []) ++ ending (Faulted kind) ∷ []) taken_is in
           let f : FiringFaults s b (now c) p.path p.trans kind = failing s b (now c) o.going.under_way.legal p is_pending computed.job computed.is_for done computed.answers kind is in
+          let count : fires n.history.entries ≡ fires es = ap fires e ∙ failed_count s o.leads b t es c.time c.systems.items o.going none_due below p is_pending (c.tickets + 1) next_is kind in
+          let one_more : c.tickets + 1 ≡ fires n.history.entries + 1 = ap (λ (k : ℕ). k + 1) (sym o.fired ∙ sym count) in
+          let closes : IsEndedCourse (record (with_take c m) { history = n.history; end = Some (Faulted kind) }) (Faulted kind) = record {
+            leads = o.leads;
+            room = o.room;
+            delays = o.delays;
+            closed = subst (λ (xs : List Entry). IsClosed s b t xs c.time.waited (Faulted kind)) (sym e) (failed_closes s o.leads b t es c.time c.systems.items o.going none_due below p is_pending (c.tickets + 1) next_is kind f);
+            holds = holds_same s b es n.history.entries c.shared c.timers c.pending.items
+                (ap (λ (xs : List Entry). situation s b (project xs)) e ∙ failed_now s o.leads b t es c.time c.systems.items o.going none_due below p is_pending (c.tickets + 1) next_is kind) o.holds;
+            taken = ap (λ (xs : List Entry). length (tickets xs)) e ∙ failed_next s o.leads b t es c.time c.systems.items o.going none_due below p is_pending (c.tickets + 1) next_is kind;
+            fired = inr one_more;
+            empty = o.empty;
+          } in
           record {
-            keeps = subst (λ (xs : List Entry). IsClosed s b t xs c.time.waited (Faulted kind)) (sym e) (failed_closes s o.leads b t es c.time c.systems.items o.going none_due below p is_pending (c.tickets + 1) next_is kind f);
+            keeps = closes;
             goes_on = record {
               program = refl;
               limits = refl;
@@ -133,11 +148,12 @@ module _ {H : Type 0} where
                   (failed_reached s o.leads b t es c.time c.systems.items o.going none_due below p is_pending (c.tickets + 1) next_is kind draw first_chooser c.chooser picked moment clock first r);
             };
             leaves = less_ended ((t - fires es) * (2 * length c.systems.items + 3) + ((if c.time.may_wait then length c.systems.items + 1 else 0) + count_by (λ (x : System). x.awaits) c.systems.items)) (left_to_do before) start;
-            adds = (c.tickets + 1, p, kind, e);
+            adds = adds_on c.end es n.history.entries did.Faulted opened.unended (c.tickets + 1, p, kind, e);
+            waits = refl;
             ends = λ clocked. absurd (no_clock kind clocked);
           }
 
-      fired_step : (n : Course H) (image : Image) (effects : List LoggedEffect) → done.outcome ≡ outcome.Ran image effects → HasFired (now c) (with_take c m) n p.path p.trans done → HasStepped draw moment moment before (with_firing c m n) did.Fired
+      fired_step : (n : Course H) (image : Image) (effects : List Effect) → done.outcome ≡ outcome.Ran image effects → HasFired (now c) (with_take c m) n p.path p.trans done → HasStepped draw moment moment before (with_firing c m n) did.Fired
       fired_step n image effects is f =
           let a = after_put s (now c) done in
           let fire_entry = noted (Fire p.path p.trans a.outs a.drops) in
@@ -158,7 +174,7 @@ module _ {H : Type 0} where
             holds = record {
               stands = subst (Stands s n.shared) (sym is_now) (stands_still s n.shared a.situation (map.remove (now c).timers p) (without p (now c).pending) f.stands);
               timers = f.timers ∙ ap (λ (ts : Timers). map.remove ts p) o.holds.timers ∙ sym (ap (λ (g : Situation). g.timers) is_now);
-              pending = left ∙ ap (without p) o.holds.pending ∙ sym (ap (λ (g : Situation). g.pending) is_now);
+              pending = f.pending ∙ ap (without p) o.holds.pending ∙ sym (ap (λ (g : Situation). g.pending) is_now);
             };
             taken = ap (λ (xs : List Entry). length (tickets xs)) e ∙ next;
             fired = ap fires e ∙ counted ∙ ap (λ (k : ℕ). k + 1) o.fired;
@@ -176,7 +192,8 @@ module _ {H : Type 0} where
                   (fired_reached s o.leads b t es c.time c.systems.items o.going none_due below p is_pending (c.tickets + 1) next_is computed.job computed.is_for done computed.answers image effects is draw first_chooser c.chooser picked moment clock first r);
             };
             leaves = less_fired (fires n.history.entries) (fires es) t c.time.may_wait c.systems.items n.systems.items (left_to_do (with_firing c m n)) (left_to_do before) count below many after start;
-            adds = (c.tickets + 1, p, a.outs, a.drops, e);
+            adds = adds_on c.end es n.history.entries did.Fired opened.unended (c.tickets + 1, p, a.outs, a.drops, e);
+            waits = refl;
             ends = λ clocked. absurd (not_by_clock c.end opened.unended clocked);
           }
 

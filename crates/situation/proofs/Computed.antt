@@ -101,6 +101,7 @@ module _ {H : Type 0} where
     limits = refl;
     entries = refl;
     time = refl;
+    systems = refl;
   }
 
   pub from_room : (draw : Draw H) (moment : Option ℕ) (c : Course H) (shared : Shared) (notes : Notes) (n : Course H) (d : Stepped) → HasStepped draw moment moment (with_room c shared notes) n d → HasStepped draw moment moment c n d
@@ -109,6 +110,7 @@ module _ {H : Type 0} where
     goes_on = record { program = h.goes_on.program; limits = h.goes_on.limits; reached = h.goes_on.reached };
     leaves = h.leaves;
     adds = h.adds;
+    waits = h.waits;
     ends = h.ends;
   }
 

@@ -13,7 +13,7 @@ use Rattle.estelle_tree.specs.Timers.{pair, Timers}
 use Rattle.estelle_model.specs.declared.event.Event.{Event}
 use Rattle.estelle_model.specs.declared.event.Event.TheVariants.{Start, Select, Fire, Fault}
 use Rattle.estelle_model.specs.declared.event.End.TheVariants.{Faulted}
-use Rattle.estelle_model.specs.declared.effect.Effect.{Effect as LoggedEffect}
+use Rattle.estelle_model.specs.declared.effect.Effect.{Effect}
 use Rattle.estelle_model.specs.declared.image.Image.{Image}
 use Rattle.estelle_model.specs.declared.image.Part.{Part}
 use Rattle.estelle_model.specs.declared.job.Job.{Job}
@@ -21,7 +21,7 @@ use Rattle.estelle_model.specs.declared.job.Done.{Done}
 use Rattle.estelle_model.specs.declared.job.Outcome.{Outcome}
 use Rattle.estelle_model.specs.declared.job.Outcome.TheVariants as outcome
 use Rattle.estelle_model.specs.Core.{Instance}
-use Rattle.estelle_model.specs.Effects.{Effect, Output, Connect, Disconnect, Attach, Detach, Create, Remove}
+use Rattle.estelle_model.specs.Effects.{StatementEffect, Output, Connect, Disconnect, Attach, Detach, Create, Remove}
 use Rattle.estelle_model.specs.Transitions.{Transition, When}
 use Rattle.estelle_model.specs.Subject.{Subject}
 use Rattle.estelle_model.specs.Situation.{Situation, Acting, acting_after, made_after}
@@ -52,10 +52,10 @@ use Rattle.situation_steps.proofs.Ends.{faults_end}
 use Rattle.situation_units.specs.Counting.{births_at, IsWithinUnits}
 use Rattle.situation_units.proofs.Weighing.{firings_are_within}
 use Rattle.estelle_model_legality.proofs.Lists.{path_is, number_is, both_and}
-use Rattle.situation.specs.Runs.{noted, ending, take_of, AllSettled, IsWithin, IsGoing, IsClosed, AreReached, IsJobFor}
+use Rattle.situation.specs.Runs.{noted, ending, take_of, IsWithin, IsGoing, IsClosed, AreReached, IsJobFor}
 use Rattle.situation_images.specs.Putting.{arrivals_of}
-use Rattle.situation.proofs.Tickets.{still_settled, still_tickets, fired_tickets, fired_settled, fired_count}
-use Rattle.situation.proofs.Steps.{project_push, reached_end, closed_on, counted_event, counted_take}
+use Rattle.situation.proofs.Tickets.{tickets_same, fired_tickets, fired_settled, fired_count}
+use Rattle.situation.proofs.Steps.{project_push, project_end, reached_end, within_same, closed_on, fault_stays, counted_event, counted_take}
 
 -- ---- numbers
 
@@ -63,12 +63,12 @@ pub once_more : (b f : ℕ) → b * (f + 1) ≡ b * f + b
 once_more b f = let e : f + 1 ≡ suc f = omega arith in ap (λ n. b * n) e ∙ mul-suc b f
 
 -- outputs are counted
-pub made_all : (s : Subject) (es : List Effect) (a : Acting) → (after_all es a).situation.made ≡ a.situation.made + outputs_in (all_logged s es)
+pub made_all : (s : Subject) (es : List StatementEffect) (a : Acting) → (after_all es a).situation.made ≡ a.situation.made + outputs_in (all_logged s es)
 unfolding made_after
 made_all s [] a = omega arith
 made_all s (e ∷ es) a = one e (made_all s es (acting_after e a)) (sum_by-cons outputs_of (logged_as s e) (all_logged s es))
   where
-    one : (e : Effect) → (after_all es (acting_after e a)).situation.made ≡ (acting_after e a).situation.made + outputs_in (all_logged s es) → outputs_in (all_logged s (e ∷ es)) ≡ outputs_of (logged_as s e) + outputs_in (all_logged s es)
+    one : (e : StatementEffect) → (after_all es (acting_after e a)).situation.made ≡ (acting_after e a).situation.made + outputs_in (all_logged s es) → outputs_in (all_logged s (e ∷ es)) ≡ outputs_of (logged_as s e) + outputs_in (all_logged s es)
         → (after_all es (acting_after e a)).situation.made ≡ a.situation.made + outputs_in (all_logged s (e ∷ es))
     one (Output from ip name values) h sum = omega (arith, h, sum)
     one (Connect x y) h sum = omega (arith, h, sum)
@@ -126,7 +126,7 @@ module _ (s : Subject) (budget : ℕ) (g : Situation) (legal : IsLegal s g) (p :
       let f : fire s budget g p.path p.trans ≡ Failed kind done.left = subst (λ (o : Outcome). IsAnswer s p.path p.trans (taken_by s g p.path at_it) o done.left (fire s budget g p.path p.trans)) is answer in
       record { pending = pending; failed = subst (HasFailed kind) (sym f) refl }
 
-  module _ (image : Image) (effects : List LoggedEffect) (is : done.outcome ≡ outcome.Ran image effects) where
+  module _ (image : Image) (effects : List Effect) (is : done.outcome ≡ outcome.Ran image effects) where
     is_put : IsPut s p.path p.trans (taken_by s g p.path at_it) image effects done.left (fire s budget g p.path p.trans)
     is_put = subst (λ (o : Outcome). IsAnswer s p.path p.trans (taken_by s g p.path at_it) o done.left (fire s budget g p.path p.trans)) is answer
 
@@ -201,16 +201,40 @@ module _ (s : Subject) (leads : LeadsToStates s) (budget turns : ℕ) (es : List
   settles_own : (bytes_eq p.path p.path && nat_eq p.trans p.trans) ≡ true
   settles_own = both_and (bytes_eq p.path p.path) (nat_eq p.trans p.trans) (path_is p.path) (number_is p.trans)
 
-  -- it faults
+  -- it faults, which leaves the situation
+  failed_stays : (kind : fault.Fault) → situation s budget (project (with_take ++ noted (Fault p.path p.trans kind) ∷ [])) ≡ g
+  failed_stays kind = ap (situation s budget) (project_after (Fault p.path p.trans kind)) ∙ fault_stays s budget turns es time systems w p.path p.trans kind
+
   pub failed_closes : (kind : fault.Fault) → FiringFaults s budget g p.path p.trans kind → IsClosed s budget turns ((with_take ++ noted (Fault p.path p.trans kind) ∷ []) ++ ending (Faulted kind) ∷ []) time.waited (Faulted kind)
   failed_closes kind f =
       let e = noted (Fault p.path p.trans kind) in
       let count : fires (with_take ++ e ∷ []) ≡ fires es = omega (arith, fires_more with_take e, fires_more es (take_of k p)) in
       let t = fired_tickets s budget es k p.trans p.path e w.tickets w.settled next_is may_take refl refl settles_own in
       let settled = fired_settled s budget es k p.trans p.path e w.tickets w.settled next_is may_take refl refl settles_own in
-      closed_on s budget turns (with_take ++ e ∷ []) time.waited (Faulted kind)
-      (subst (λ (events : List Event). HasEnded s budget turns events time.waited (Faulted kind)) (sym (project_after (Fault p.path p.trans kind))) (faults_end s budget turns (project es) time systems w.under_way p.path p.trans kind (inl f)))
-      (omega (arith, count, w.below)) (still_tickets s budget (with_take ++ e ∷ []) (ending (Faulted kind)) refl settled t)
+      let stays = failed_stays kind in
+      closed_on s budget turns (with_take ++ e ∷ []) time.waited (Faulted kind) (record {
+        ended = subst (λ (events : List Event). HasEnded s budget turns events time.waited (Faulted kind)) (sym (project_after (Fault p.path p.trans kind))) (faults_end s budget turns (project es) time systems w.under_way p.path p.trans kind (inl f));
+        legal = λ started. subst (IsLegal s) (sym stays) w.under_way.legal;
+        below = omega (arith, count, w.below);
+        within = within_same budget (fires es) (fires (with_take ++ e ∷ [])) g (situation s budget (project (with_take ++ e ∷ []))) count stays w.within;
+        tickets = t;
+        settled = settled;
+        counted = counted_event with_take (Fault p.path p.trans kind) (counted_take es k p w.counted);
+      })
+
+  -- then as many firings were taken as there were, and one more
+  pub failed_now : (kind : fault.Fault) → situation s budget (project ((with_take ++ noted (Fault p.path p.trans kind) ∷ []) ++ ending (Faulted kind) ∷ [])) ≡ g
+  failed_now kind = ap (situation s budget) (project_end (with_take ++ noted (Fault p.path p.trans kind) ∷ []) (Faulted kind)) ∙ failed_stays kind
+
+  pub failed_count : (kind : fault.Fault) → fires ((with_take ++ noted (Fault p.path p.trans kind) ∷ []) ++ ending (Faulted kind) ∷ []) ≡ fires es
+  failed_count kind =
+      let e = noted (Fault p.path p.trans kind) in
+      omega (arith, fires_more (with_take ++ e ∷ []) (ending (Faulted kind)), fires_more with_take e, fires_more es (take_of k p))
+
+  pub failed_next : (kind : fault.Fault) → length (tickets ((with_take ++ noted (Fault p.path p.trans kind) ∷ []) ++ ending (Faulted kind) ∷ [])) ≡ k
+  failed_next kind =
+      let e = noted (Fault p.path p.trans kind) in
+      ap length (tickets_same (with_take ++ e ∷ []) (ending (Faulted kind)) refl) ∙ fired_count s budget es k p.trans p.path e w.tickets w.settled next_is may_take refl refl settles_own
 
   pub failed_reached : (kind : fault.Fault) {C : Type 0} (draw : Draw C) (c rest : C) → Picks draw c g.pending p rest → (moment clock : Option ℕ) (first : C)
       → AreReached draw s budget turns clock first es c time moment → AreReached draw s budget turns clock first ((with_take ++ noted (Fault p.path p.trans kind) ∷ []) ++ ending (Faulted kind) ∷ []) rest time moment
@@ -220,7 +244,7 @@ module _ (s : Subject) (leads : LeadsToStates s) (budget turns : ℕ) (es : List
       (reached_fired draw s budget turns es (with_take ++ e ∷ []) (Fault p.path p.trans kind) c rest time time moment (project_after (Fault p.path p.trans kind)) below refl refl (λ told. inr (planned draw c rest picks told)) clock first reached)
 
   -- it runs
-  module _ (job : Job) (of : IsJobFor s g budget p job) (done : Done) (answers : Answers s job done) (image : Image) (effects : List LoggedEffect) (is : done.outcome ≡ outcome.Ran image effects) where
+  module _ (job : Job) (of : IsJobFor s g budget p job) (done : Done) (answers : Answers s job done) (image : Image) (effects : List Effect) (is : done.outcome ≡ outcome.Ran image effects) where
     abbrev a : Acting
     a = after_put s g done
 

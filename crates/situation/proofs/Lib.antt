@@ -3,6 +3,7 @@ pub mod Taking
 pub mod Tickets
 pub mod Steps
 pub mod Less
+pub mod Adding
 pub mod Selected
 pub mod Ended
 pub mod Waited

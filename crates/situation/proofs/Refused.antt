@@ -61,9 +61,9 @@ module _ {H : Type 0} where
     where
       by : (x y : Option End) → IsKept c x → IsKept n y → y ≡ x
       by None None k l = refl
-      by None (Some f) k l = absurd (none_ended l.before f (subst AreCounted (sym u.entries ∙ l.last) k.going.counted))
-      by (Some e) None k l = absurd (none_ended k.before e (subst AreCounted (u.entries ∙ k.last) l.going.counted))
-      by (Some e) (Some f) k l = ap Some (one_end l.before k.before f e (sym l.last ∙ u.entries ∙ k.last))
+      by None (Some f) k l = absurd (none_ended l.closed.before f (subst AreCounted (sym u.entries ∙ l.closed.last) k.going.counted))
+      by (Some e) None k l = absurd (none_ended k.closed.before e (subst AreCounted (u.entries ∙ k.closed.last) l.going.counted))
+      by (Some e) (Some f) k l = ap Some (one_end l.closed.before k.closed.before f e (sym l.closed.last ∙ u.entries ∙ k.closed.last))
 
   -- what a caller knows of a run
   abbrev seen : {C : Type 0} → Course H → C → Known C H
@@ -71,7 +71,7 @@ module _ {H : Type 0} where
 
   pub as_before : {A E C : Type 0} (r : Result A E) (c n : Course H) (clock clock' : C) → IsCourse c → OnErr r (IsUnchanged c n) → OnErr r (IsAsBefore (seen c clock) (seen n clock'))
   as_before (Ok a) c n clock clock' k u = tt
-  as_before (Err e) c n clock clock' k u = record { subject = ap (λ p. p.now) u.program; limits = u.limits; entries = u.entries; end = end_as_before c n k u; time = u.time }
+  as_before (Err e) c n clock clock' k u = record { subject = ap (λ p. p.now) u.program; limits = u.limits; entries = u.entries; end = end_as_before c n k u; time = u.time; systems = u.systems }
 
   -- ---- steps
 
@@ -90,6 +90,7 @@ module _ {H : Type 0} where
     reached = h.goes_on.reached;
     leaves = leaves_so c n clock clock' d h.leaves;
     adds = h.adds;
+    waits = h.waits;
     ends = h.ends;
   }
   planned draw moment (Err e) c n clock clock' h = tt

@@ -11,13 +11,12 @@ use Rattle.estelle_model.specs.declared.event.End.{End}
 use Rattle.estelle_model.specs.declared.event.End.TheVariants.{Clock}
 use Rattle.estelle_model.specs.Subject.{Subject}
 use Rattle.estelle_model.specs.Situation.{Situation}
-use Rattle.estelle_model.specs.Delays.{has_delays, wanted, renew}
+use Rattle.estelle_model.specs.Delays.{has_delays, wanted}
 use Rattle.estelle_model.specs.Runs.{selected, situation}
 use Rattle.estelle_model.specs.Choosers.{Draw}
-use Rattle.estelle_model.specs.Schedule.{Chosen}
 use Rattle.effect_log.specs.declared.shared.Shared.{Shared}
 use Rattle.effect_log.specs.Standing.{Stands}
-use Rattle.transition_select.specs.declared.offers.Offer.{Offer}
+use Rattle.situation_offers.specs.Selections.{IsSelection}
 use Rattle.run_history.specs.declared.entry.Entry.{Entry}
 use Rattle.run_history.specs.Histories.{project, fires}
 use Rattle.run_history.specs.Tickets.{tickets}
@@ -29,11 +28,13 @@ use Rattle.situation_steps.proofs.Selections.{selections_go_on}
 use Rattle.situation.specs.declared.limits.Stepped.TheVariants as did
 use Rattle.situation.specs.declared.course.Course.{Course}
 use Rattle.situation.specs.Runs.{noted, IsWithin, IsGoing, AreReached}
-use Rattle.situation.specs.Worlds.{Holds, IsOpenCourse, IsKept, HasStepped, now, work, left_to_do}
-use Rattle.situation.specs.Steps.{GoesOn, IsDueAt, IsOfferedAt, MayBeNow}
+use Rattle.situation.specs.Worlds.{Holds, IsOpenCourse, IsKept, HasStepped, IsUnchanged, now, work, left_to_do}
+use Rattle.situation.specs.Steps.{GoesOn, IsDueAt, MayBeNow}
 use Rattle.situation.proofs.Tickets.{still_settled, still_tickets, tickets_same}
 use Rattle.situation.proofs.Steps.{project_push, fires_same, counted_event, reached_on, moment_by}
+use Rattle.situation.proofs.Adding.{adds_on}
 use Rattle.situation.proofs.Less.{less_selected, left_open}
+use Rattle.situation.proofs.Computed.{still_drawn}
 
 -- the shared state stands for a situation whatever is pending in it, whatever timers run, and at any moment
 stands_later : (s : Subject) (shared : Shared) (g : Situation) (moment : ℕ) (timers : Timers) (pending : List Pair) → Stands s shared g → Stands s shared (record g { now = moment; timers = timers; pending = pending })
@@ -55,24 +56,23 @@ module _ {H : Type 0} where
   with_selection c n moment = record c { pending = n.pending; timers = n.timers; systems = n.systems; time = record c.time { known = moment }; history = n.history; chooser = n.chooser }
 
   -- a system selects
-  pub selected_step : (draw : Draw H) (told : Option ℕ) (c n : Course H) (at moment : ℕ) (takes : List Pair) (offers : List Offer) (wants : List Wanted)
-      → GoesOn 2 c → (due : IsDueAt at c) → MayBeNow told moment c → IsOfferedAt at moment c offers wants
-      → Chosen draw c.program.now c.limits.budget (renew c.program.now c.limits.budget (now c) due.first.0.path moment) due.first.0.path c.chooser takes n.chooser
+  pub selected_step : (draw : Draw H) (told : Option ℕ) (c n : Course H) (at moment : ℕ) (takes : List Pair) (wants : List Wanted)
+      → GoesOn 2 c → (due : IsDueAt at c) → MayBeNow told moment c
+      → IsSelection draw c.program.now c.limits.budget (now c) due.first.0.path moment c.chooser n.chooser takes wants
       → n.pending.items ≡ c.pending.items ++ takes
       → n.timers ≡ renewed due.first.0.path moment wants c.timers
       → n.systems.items ≡ after_selection at due.first.0 (length takes) c.systems.items
       → n.history.entries ≡ c.history.entries ++ noted (Select due.first.0.path moment takes) ∷ []
       → HasStepped draw told told c (with_selection c n moment) did.Selected
-  selected_step draw told c n at moment takes offers wants opened due may offered chosen pending_is timers_are systems_are entries_are =
+  selected_step draw told c n at moment takes wants opened due may it pending_is timers_are systems_are entries_are =
       let o = opened.is_open in
       let s = c.program.now in
       let b = c.limits.budget in
       let t = c.limits.turns in
       let es = c.history.entries in
       let x : System = due.first.0 in
-      let it = offered x due.first.1.there in
       let undelayed : has_delays s ≡ false → moment ≡ 0 = λ none. may.undelayed (o.delays ∙ none) in
-      let h = selections_go_on draw s o.leads b (project es) c.time c.systems.items o.going.under_way at x due.first.1 moment may.no_earlier may.last undelayed it.sound c.chooser takes n.chooser chosen in
+      let h = selections_go_on draw s o.leads b (project es) c.time c.systems.items o.going.under_way at x due.first.1 moment may.no_earlier may.last undelayed it.sound c.chooser takes n.chooser it.chosen in
       let e = noted (Select x.path moment takes) in
       let after : Time = record c.time { known = moment } in
       let is : project (es ++ e ∷ []) ≡ project es ++ Select x.path moment takes ∷ [] = project_push es e in
@@ -117,6 +117,27 @@ module _ {H : Type 0} where
         };
         leaves = less_selected (fires n.history.entries) (fires es) t c.time.may_wait c.systems.items n.systems.items at x (length takes) (left_to_do new) (left_to_do c) fired due.first.1.there
             (and_left x.awaits (nat_eq x.pending 0) due.first.1.due) systems_are (left_open new opened.unended) (left_open c opened.unended);
-        adds = (x.path, moment, takes, entries_are);
+        adds = adds_on c.end es n.history.entries did.Selected opened.unended (x.path, moment, takes, entries_are);
+        waits = refl;
         ends = λ clocked. let wrong : None ≡ Some Clock = sym opened.unended ∙ clocked in absurd (cc);
       }
+
+  -- it has selected, by a chooser that is left as it is now
+  pub selected_by : (draw : Draw H) (told : Option ℕ) (first : H) (c n : Course H) → n.chooser ≡ c.chooser → (at moment : ℕ) (takes : List Pair) (wants : List Wanted)
+      → GoesOn 2 c → (due : IsDueAt at c) → MayBeNow told moment c
+      → IsSelection draw c.program.now c.limits.budget (now c) due.first.0.path moment first c.chooser takes wants
+      → n.pending.items ≡ c.pending.items ++ takes
+      → n.timers ≡ renewed due.first.0.path moment wants c.timers
+      → n.systems.items ≡ after_selection at due.first.0 (length takes) c.systems.items
+      → n.history.entries ≡ c.history.entries ++ noted (Select due.first.0.path moment takes) ∷ []
+      → HasStepped draw told told (record c { chooser = first }) (with_selection c n moment) did.Selected
+  selected_by draw told first c n same at moment takes wants opened due may it =
+      selected_step draw told (record c { chooser = first }) n at moment takes wants (still_drawn c first 2 opened) (record { first = due.first; below = due.below })
+      (record { no_earlier = may.no_earlier; last = may.last; undelayed = may.undelayed; told = may.told })
+      (subst (λ (h : H). IsSelection draw c.program.now c.limits.budget (now c) due.first.0.path moment first h takes wants) (sym same) it)
+
+  -- ---- refusals
+
+  -- where it is as before the selection, it is as before the chooser was asked
+  pub unchanged_before : (c : Course H) (chooser : H) (n : Course H) → IsUnchanged (record c { chooser = chooser }) n → IsUnchanged c n
+  unchanged_before c chooser n same = record { keeps = same.keeps; program = same.program; limits = same.limits; entries = same.entries; time = same.time; systems = same.systems }

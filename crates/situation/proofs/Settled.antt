@@ -1,10 +1,9 @@
 -- What a done that is settled comes to.
 use Rattle.std.proofs.Common.{◌≡◌, ℕ, true, List, [], ◌∷◌, ◌++◌, Option, Some, None, refl, sym, ap, subst, ◌∙◌}
 use Rattle.pascal_values.specs.declared.fault.Fault as fault
-use Rattle.std.specs.Prelude.{IfSome, IfNone, map as each}
+use Rattle.std.specs.Prelude.{map as each}
 use Rattle.std.specs.FinMap as map
 use Rattle.estelle_tree.specs.Paths.{Path}
-use Rattle.estelle_tree.specs.declared.transition.Pair.{Pair}
 use Rattle.estelle_tree.specs.Timers.{pair, Timers}
 use Rattle.estelle_model.specs.declared.event.Event.TheVariants.{Fire}
 use Rattle.estelle_model.specs.declared.event.End.TheVariants.{Clock}
@@ -14,9 +13,9 @@ use Rattle.estelle_model.specs.declared.job.Outcome.{Outcome}
 use Rattle.estelle_model.specs.declared.job.Outcome.TheVariants as outcome
 use Rattle.estelle_model.specs.Subject.{Subject}
 use Rattle.estelle_model.specs.Situation.{Situation}
+use Rattle.estelle_model.specs.Runs.{without}
 use Rattle.effect_log.specs.Standing.{Stands}
 use Rattle.effect_log.specs.Putting.{IsRan, after_put}
-use Rattle.run_history.specs.declared.entry.Entry.{Entry}
 use Rattle.situation.specs.declared.limits.Stepped.{Stepped}
 use Rattle.situation.specs.declared.limits.Stepped.TheVariants as did
 use Rattle.situation.specs.declared.course.Course.{Course}
@@ -24,8 +23,8 @@ use Rattle.situation_steps.specs.declared.systems.System.{System}
 use Rattle.situation_steps.specs.Systems.{after_firing}
 use Rattle.situation.specs.Runs.{noted}
 use Rattle.situation_images.specs.Putting.{arrivals_of}
-use Rattle.situation.specs.Worlds.{AreEmpty}
-use Rattle.situation.specs.Steps.{failure_of, HasPut, HasFired, HasFailed, SettledSo, HasSettled}
+use Rattle.situation.specs.Worlds.{AreEmpty, now}
+use Rattle.situation.specs.Steps.{failure_of, MayPut, HasPut, HasFired, HasFailed, SettledSo, HasSettled}
 
 -- what came to no fault ran
 pub ran_if : (o : Outcome) → failure_of o ≡ None → IsRan o
@@ -34,6 +33,10 @@ ran_if (outcome.Faulted kind) e = absurd (cc)
 
 same_kind : (a b : fault.Fault) → Some a ≡ Some b → a ≡ b
 same_kind a b e = cc
+
+-- what may be put may be put where other firings are pending
+pub may_put_left : {H : Type 0} (old l : Course H) (done : Done) → l ≡ record old { pending = l.pending } → MayPut (now old) old done → MayPut (now l) l done
+may_put_left {H} old l done is h = subst (λ (x : Course H). MayPut (now x) x done) (sym is) (record { stands = h.stands; answers = h.answers; room = h.room; numbers = h.numbers })
 
 module _ {H : Type 0} (g : Situation) (old : Course H) (path : Path) (trans : ℕ) (done : Done) where
   pub settled_fired : (new : Course H) → failure_of done.outcome ≡ None → HasFired g old new path trans done → HasSettled g old new path trans done did.Fired
@@ -50,24 +53,27 @@ module _ {H : Type 0} (g : Situation) (old : Course H) (path : Path) (trans : �
       by (outcome.Ran image effects) e = absurd (cc)
       by (outcome.Faulted k) e = (subst (HasFailed old new path trans) (sym (same_kind k kind e)) h, refl)
 
-  -- it was put, its timer went and the systems await selections, and then it was noted
-  pub put_and_noted : (m o n : Course H) → AreEmpty old.notes → HasPut g old.notes m done → m ≡ record old { shared = m.shared; notes = m.notes }
+  -- it was no longer pending, it was put, its timer went and the systems await selections, and then it was noted
+  pub put_and_noted : (l m o n : Course H) → AreEmpty old.notes → l.pending.items ≡ without (pair path trans) old.pending.items → l ≡ record old { pending = l.pending } → HasPut g l.notes m done → m ≡ record l { shared = m.shared; notes = m.notes }
       → o.systems.items ≡ each (after_firing path m.notes.arrivals.items) m.systems.items → o.timers ≡ map.remove m.timers (pair path trans)
       → o ≡ record m { timers = o.timers; systems = o.systems; time = record m.time { may_wait = true } }
       → n.history.entries ≡ o.history.entries ++ noted (Fire path trans o.notes.outs.items o.notes.drops.items) ∷ [] → AreEmpty n.notes → n ≡ record o { history = n.history; notes = n.notes } → HasFired g old n path trans done
-  put_and_noted m o n before put rest systems timers others noted_is empty rest_is =
+  put_and_noted l m o n before left taken put put_is systems timers others noted_is empty rest_is =
+      let rest : m ≡ record old { pending = l.pending; shared = m.shared; notes = m.notes } = put_is ∙ ap (λ (c : Course H). record c { shared = m.shared; notes = m.notes }) taken in
+      let none : AreEmpty l.notes = subst AreEmpty (sym (ap (λ (c : Course H). c.notes) taken)) before in
       let program : m.program.now ≡ old.program.now = ap (λ (c : Course H). c.program.now) rest in
-      let both : o ≡ record old { shared = m.shared; notes = m.notes; timers = o.timers; systems = o.systems; time = record old.time { may_wait = true } } = others
+      let both : o ≡ record old { pending = l.pending; shared = m.shared; notes = m.notes; timers = o.timers; systems = o.systems; time = record old.time { may_wait = true } } = others
       ∙ ap (λ (c : Course H). record c { timers = o.timers; systems = o.systems; time = record c.time { may_wait = true } }) rest in
-      let all : n ≡ record old { shared = m.shared; notes = n.notes; timers = o.timers; systems = o.systems; time = record old.time { may_wait = true }; history = n.history } = rest_is
+      let all : n ≡ record old { pending = l.pending; shared = m.shared; notes = n.notes; timers = o.timers; systems = o.systems; time = record old.time { may_wait = true }; history = n.history } = rest_is
       ∙ ap (λ (c : Course H). record c { history = n.history; notes = n.notes }) both in
       let shared : m.shared ≡ n.shared = sym (ap (λ (c : Course H). c.shared) all) in
       let timers_then : o.timers ≡ n.timers = sym (ap (λ (c : Course H). c.timers) all) in
+      let pending_then : l.pending ≡ n.pending = sym (ap (λ (c : Course H). c.pending) all) in
       let systems_then : o.systems ≡ n.systems = sym (ap (λ (c : Course H). c.systems) all) in
       let entries : o.history.entries ≡ old.history.entries = ap (λ (c : Course H). c.history.entries) both in
-      let outs : o.notes.outs.items ≡ (after_put old.program.now g done).outs = ap (λ (c : Course H). c.notes.outs.items) both ∙ put.outs ∙ (λ i. before.outs i ++ (after_put (program i) g done).outs) in
-      let drops : o.notes.drops.items ≡ (after_put old.program.now g done).drops = ap (λ (c : Course H). c.notes.drops.items) both ∙ put.drops ∙ (λ i. before.drops i ++ (after_put (program i) g done).drops) in
-      let arrived : m.notes.arrivals.items ≡ arrivals_of old.program.now g done = put.arrivals ∙ (λ i. before.arrivals i ++ arrivals_of (program i) g done) in
+      let outs : o.notes.outs.items ≡ (after_put old.program.now g done).outs = ap (λ (c : Course H). c.notes.outs.items) both ∙ put.outs ∙ (λ i. none.outs i ++ (after_put (program i) g done).outs) in
+      let drops : o.notes.drops.items ≡ (after_put old.program.now g done).drops = ap (λ (c : Course H). c.notes.drops.items) both ∙ put.drops ∙ (λ i. none.drops i ++ (after_put (program i) g done).drops) in
+      let arrived : m.notes.arrivals.items ≡ arrivals_of old.program.now g done = put.arrivals ∙ (λ i. none.arrivals i ++ arrivals_of (program i) g done) in
       let systems_before : m.systems.items ≡ old.systems.items = ap (λ (c : Course H). c.systems.items) rest in
       record {
         stands = subst (λ x. Stands old.program.now x (after_put old.program.now g done).situation) shared (subst (λ (s : Subject). Stands s m.shared (after_put s g done).situation) program put.stands);
@@ -75,18 +81,9 @@ module _ {H : Type 0} (g : Situation) (old : Course H) (path : Path) (trans : �
         empty = empty;
         systems = sym (ap (λ x. x.items) systems_then) ∙ systems ∙ (λ i. each (after_firing path (arrived i)) (systems_before i));
         timers = sym timers_then ∙ timers ∙ ap (λ (c : Course H). map.remove c.timers (pair path trans)) rest;
-        rest = all ∙ (λ i. record old { shared = shared i; notes = n.notes; timers = timers_then i; systems = systems_then i; time = record old.time { may_wait = true }; history = n.history });
+        pending = sym (ap (λ x. x.items) pending_then) ∙ left;
+        rest = all ∙ (λ i. record old { pending = pending_then i; shared = shared i; notes = n.notes; timers = timers_then i; systems = systems_then i; time = record old.time { may_wait = true }; history = n.history });
       }
-
--- what is there is found
-pub found_if : (r : Option Pair) (P : Type 0) → r ≡ None → IfNone r (P → ⊥) → P → ⊥
-found_if None P e h there = h there
-found_if (Some x) P e h there = absurd (cc)
-
--- what was found is this
-pub found_is : (r : Option Pair) (p q : Pair) → r ≡ Some q → IfSome r (λ x. x ≡ p) → q ≡ p
-found_is None p q e h = absurd (cc)
-found_is (Some x) p q e h = let same : x ≡ q = cc in sym same ∙ h
 
 -- what was settled has not ended by the clock
 pub settled_unclocked : {H : Type 0} (g : Situation) (old new : Course H) (path : Path) (trans : ℕ) (done : Done) (d : Stepped) → HasSettled g old new path trans done d → d ≡ did.Ended Clock → ⊥

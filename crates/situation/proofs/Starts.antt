@@ -10,7 +10,7 @@ use Rattle.estelle_tree.specs.Timers.{pair}
 use Rattle.estelle_model.specs.declared.event.Event.{Event}
 use Rattle.estelle_model.specs.declared.event.Event.TheVariants.{Start, Fault}
 use Rattle.estelle_model.specs.declared.event.End.TheVariants.{Faulted}
-use Rattle.estelle_model.specs.declared.effect.Effect.{Effect as LoggedEffect}
+use Rattle.estelle_model.specs.declared.effect.Effect.{Effect}
 use Rattle.estelle_model.specs.declared.image.Image.{Image}
 use Rattle.estelle_model.specs.declared.job.Job.{Job}
 use Rattle.estelle_model.specs.declared.job.Done.{Done}
@@ -18,7 +18,7 @@ use Rattle.estelle_model.specs.declared.job.Outcome.{Outcome}
 use Rattle.estelle_model.specs.declared.job.Outcome.TheVariants as outcome
 use Rattle.estelle_model.specs.Bodies.{BodyAlone}
 use Rattle.estelle_model.specs.Core.{Instance, Instances}
-use Rattle.estelle_model.specs.Effects.{Effect}
+use Rattle.estelle_model.specs.Effects.{StatementEffect}
 use Rattle.estelle_model.specs.Transitions.{Transition}
 use Rattle.estelle_model.specs.Subject.{Subject, body, new_instance}
 use Rattle.estelle_model.specs.Situation.{Situation, Acting, acting_after}
@@ -28,6 +28,7 @@ use Rattle.estelle_model.specs.Runs.{Begins, situation, started}
 use Rattle.estelle_model.specs.Choosers.{Draw}
 use Rattle.estelle_model.specs.Schedule.{begins}
 use Rattle.estelle_model_legality.specs.Instances.{LeadsToStates}
+use Rattle.estelle_model_legality.specs.Keeping.{HasStarted}
 use Rattle.estelle_model_legality.specs.Situations.{IsLegal}
 use Rattle.estelle_model.proofs.Maps.{total}
 use Rattle.effect_log.specs.Putting.{log_of, parts_of, effects_of, IsJobAt, AnswersIn, begun_by, after_put}
@@ -45,6 +46,7 @@ use Rattle.situation_steps.proofs.Starting.{starts_go_on}
 use Rattle.situation_units.specs.Counting.{births_of, births_at, IsWithinUnits}
 use Rattle.situation_units.proofs.Weighing.{starts_are_within}
 use Rattle.situation.specs.Runs.{noted, ending, AllSettled, IsWithin, IsGoing, IsClosed, IsTold, AreReached}
+use Rattle.situation.specs.Worlds.{HasOnlyStarted}
 use Rattle.situation.proofs.Tickets.{too_short, still_settled, still_tickets}
 use Rattle.situation.proofs.Steps.{counted_event}
 use Rattle.situation.proofs.Firings.{once_more, made_all}
@@ -89,11 +91,11 @@ no_births s q = by (body s 0)
     by (Some b) = births_alone q (new_instance s 0 b []) refl
 
 -- timers and what is pending stay
-timers_stay : (es : List Effect) (a : Acting) → (after_all es a).situation.timers ≡ a.situation.timers
+timers_stay : (es : List StatementEffect) (a : Acting) → (after_all es a).situation.timers ≡ a.situation.timers
 timers_stay [] a = refl
 timers_stay (e ∷ es) a = timers_stay es (acting_after e a)
 
-pending_stays : (es : List Effect) (a : Acting) → (after_all es a).situation.pending ≡ a.situation.pending
+pending_stays : (es : List StatementEffect) (a : Acting) → (after_all es a).situation.pending ≡ a.situation.pending
 pending_stays [] a = refl
 pending_stays (e ∷ es) a = pending_stays es (acting_after e a)
 
@@ -113,17 +115,31 @@ module _ (s : Subject) (leads : LeadsToStates s) (budget turns : ℕ) (job : Job
     failed : start s budget ≡ Failed kind done.left
     failed = subst (λ (o : Outcome). IsAnswer s [] 0 (bare s) o done.left (start s budget)) is answer
 
+    pub only_failed : HasOnlyStarted (start s budget) failed_entries (Some (Faulted kind))
+    only_failed = subst (λ (f : Firing). HasOnlyStarted f failed_entries (Some (Faulted kind))) (sym failed) (refl, refl)
+
+    -- there is no situation after it but the one before it
+    pub start_stays : situation s budget (project failed_entries) ≡ bare s
+    start_stays = ap (started s) failed
+
+    none_made : IsWithin budget 0 (bare s)
+    none_made = record { made = omega arith; births = λ q. omega (arith, no_births s q) }
+
     pub start_closes : IsClosed s budget turns failed_entries 0 (Faulted kind)
     start_closes =
         let e = noted (Fault [] 0 kind) in
         record {
           before = e ∷ [];
           last = refl;
+          counted = counted_event [] (Fault [] 0 kind) refl;
           run = subst (λ (f : Firing). Begins s budget f (Fault [] 0 kind) []) (sym failed) (refl, refl, refl, refl);
           stops = refl;
           planned = refl;
+          legal = λ ran. absurd (subst HasStarted failed ran);
           below = omega arith;
+          within = subst (IsWithin budget 0) (sym start_stays) none_made;
           tickets = still_tickets s budget (e ∷ []) (ending (Faulted kind)) refl (still_settled [] e refl none_settled) (still_tickets s budget [] e refl none_settled (no_tickets s budget));
+          settled = still_settled (e ∷ []) (ending (Faulted kind)) refl (still_settled [] e refl none_settled);
         }
 
     pub start_failed_reached : {C : Type 0} (draw : Draw C) (c : C) (moment : Option ℕ) → AreReached draw s budget turns moment c failed_entries c first_time moment
@@ -131,7 +147,7 @@ module _ (s : Subject) (leads : LeadsToStates s) (budget turns : ℕ) (job : Job
 
   -- ---- it runs
 
-  module _ (image : Image) (effects : List LoggedEffect) (is : done.outcome ≡ outcome.Ran image effects) where
+  module _ (image : Image) (effects : List Effect) (is : done.outcome ≡ outcome.Ran image effects) where
     is_put : IsPut s [] 0 (bare s) image effects done.left (start s budget)
     is_put = subst (λ (o : Outcome). IsAnswer s [] 0 (bare s) o done.left (start s budget)) is answer
 
@@ -162,6 +178,9 @@ module _ (s : Subject) (leads : LeadsToStates s) (budget turns : ℕ) (job : Job
 
     start_left : situation s budget (project begun_entries) ≡ record (put [] is_put.log image.parts (begun (bare s))).situation { timers = map.remove (put [] is_put.log image.parts (begun (bare s))).situation.timers (pair [] 0) }
     start_left = ap (started s) is_put.result
+
+    pub only_started : HasOnlyStarted (start s budget) begun_entries None
+    only_started = subst (λ (f : Firing). HasOnlyStarted f begun_entries None) (sym is_put.result) (ap (λ (x : Acting). noted (Start x.outs x.drops) ∷ []) after_is, refl)
 
     -- nothing is pending then, and no timer runs
     pub start_pending : a.situation.pending ≡ []

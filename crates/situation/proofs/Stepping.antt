@@ -9,8 +9,8 @@ use Rattle.run_history.specs.Tickets.{tickets}
 use Rattle.situation.specs.declared.limits.Stepped.{Stepped}
 use Rattle.situation.specs.declared.limits.Stepped.TheVariants as did
 use Rattle.situation.specs.declared.course.Course.{Course}
-use Rattle.situation.specs.Runs.{IsGoing, IsClosed, AreReached}
-use Rattle.situation.specs.Worlds.{Holds, IsOpenCourse, IsKept, IsCourse, HasStepped, IsUnchanged, Adds, Leaves, work, left_to_do}
+use Rattle.situation.specs.Runs.{IsGoing, IsClosed, AreAllTaken, AreReached}
+use Rattle.situation.specs.Worlds.{Holds, IsOpenCourse, IsKept, IsCourse, HasStepped, IsUnchanged, Adds, Waits, Leaves, work, left_to_do}
 use Rattle.situation.specs.Steps.{GoesOn}
 use Rattle.situation.proofs.Ended.{says}
 
@@ -21,7 +21,8 @@ module _ {H : Type 0} where
     keeps = h;
     goes_on = record { program = refl; limits = refl; reached = λ clock first r. r };
     leaves = is;
-    adds = tt;
+    adds = subst (λ (x : Option End). Adds x c.history.entries c.history.entries (did.Ended e)) (sym is) (refl, refl);
+    waits = refl;
     ends = λ clocked. ap (says e) (sym is ∙ clocked);
   }
 
@@ -39,11 +40,20 @@ module _ {H : Type 0} where
     fired = ap fires same ∙ k.fired;
     empty = k.empty;
   }
-  kept_so c h same (Some e) k = subst (λ (es : List Entry). IsClosed c.program.now c.limits.budget c.limits.turns es c.time.waited e) (sym same) k
+  kept_so c h same (Some e) k = record {
+    leads = k.leads;
+    room = k.room;
+    delays = k.delays;
+    closed = subst (λ (es : List Entry). IsClosed c.program.now c.limits.budget c.limits.turns es c.time.waited e) (sym same) k.closed;
+    holds = subst (λ (es : List Entry). Holds c.program.now c.limits.budget es c.shared c.timers c.pending.items) (sym same) k.holds;
+    taken = ap (λ (es : List Entry). length (tickets es)) same ∙ k.taken;
+    fired = subst (λ (es : List Entry). AreAllTaken e (fires es) c.tickets) (sym same) k.fired;
+    empty = k.empty;
+  }
 
   -- it is the same run
   pub refused_so : (c : Course H) (h : History) → h.entries ≡ c.history.entries → IsCourse c → IsUnchanged c (with_history c h)
-  refused_so c h same k = record { keeps = kept_so c h same c.end k; program = refl; limits = refl; entries = same; time = refl }
+  refused_so c h same k = record { keeps = kept_so c h same c.end k; program = refl; limits = refl; entries = same; time = refl; systems = refl }
 
   -- which goes on where it has not ended
   pub goes_on_so : (c : Course H) (h : History) (n : ℕ) → h.entries ≡ c.history.entries → n ≤ h.spare → c.end ≡ None → IsCourse c → GoesOn n (with_history c h)
@@ -65,12 +75,13 @@ module _ {H : Type 0} where
       reached = λ clock first r. s.goes_on.reached clock first (subst (λ (es : List Entry). AreReached draw c.program.now c.limits.budget c.limits.turns clock first es c.chooser c.time moment) (sym same) r);
     };
     leaves = leaves_so (with_history c h) c n d (ap (λ (es : List Entry). work c.limits.turns (fires es) c.systems.items c.time.may_wait c.end) same) s.leaves;
-    adds = subst (λ (es : List Entry). Adds es n.history.entries d) same s.adds;
+    adds = subst (λ (es : List Entry). Adds c.end es n.history.entries d) same s.adds;
+    waits = subst (λ (es : List Entry). Waits c.program.now c.limits.budget es c.time n.time d) same s.waits;
     ends = s.ends;
   }
 
   pub unchanged_so : (c n : Course H) (h : History) → h.entries ≡ c.history.entries → IsUnchanged (with_history c h) n → IsUnchanged c n
-  unchanged_so c n h same u = record { keeps = u.keeps; program = u.program; limits = u.limits; entries = u.entries ∙ same; time = u.time }
+  unchanged_so c n h same u = record { keeps = u.keeps; program = u.program; limits = u.limits; entries = u.entries ∙ same; time = u.time; systems = u.systems }
 
   -- how many events there were
   pub events_are : (c : Course H) → IsOpenCourse c → length c.history.entries - c.tickets ≡ length (project c.history.entries)

@@ -12,11 +12,14 @@ use Rattle.estelle_model.specs.declared.event.End.{End}
 use Rattle.estelle_model.specs.declared.event.End.TheVariants.{Faulted}
 use Rattle.estelle_model.specs.Subject.{Subject}
 use Rattle.estelle_model.specs.Situation.{Situation}
+use Rattle.estelle_model.specs.Firing.{start}
 use Rattle.estelle_model.specs.Delays.{has_delays}
 use Rattle.estelle_model.specs.Runs.{IsRun, Applies, IsFirstFault, situation}
 use Rattle.estelle_model.specs.Ends.{Stops}
 use Rattle.estelle_model.specs.Choosers.{Draw}
 use Rattle.estelle_model.specs.Schedule.{Kept, kept_after, known_after, told_after, Reaches, goes_on, waits, IsPlanned, IsPlannedEnd, IsWaiting, MayAnswer, IsMomentBy, wait_until}
+use Rattle.estelle_model_legality.specs.Keeping.{HasStarted}
+use Rattle.estelle_model_legality.specs.Situations.{IsLegal}
 use Rattle.run_history.specs.declared.entry.Entry.{Entry}
 use Rattle.run_history.specs.declared.entry.What.TheVariants as what
 use Rattle.run_history.specs.Histories.{event_of, project, fires}
@@ -27,12 +30,17 @@ use Rattle.situation_steps.specs.declared.systems.Time.{Time}
 use Rattle.situation_steps.specs.Ends.{HasEnded}
 use Rattle.situation_steps.specs.Systems.{IsFirstDueAt}
 use Rattle.situation_steps.proofs.Ends.{faults_end, guard_faults_are_planned}
-use Rattle.situation.specs.Runs.{noted, ending, take_of, AreCounted, IsGoing, IsClosed, IsTold, AreReached}
+use Rattle.situation_steps.proofs.Going.{situation-push}
+use Rattle.situation.specs.Runs.{noted, ending, take_of, AllSettled, AreCounted, IsWithin, IsGoing, IsClosed, IsTold, AreReached}
 use Rattle.situation.proofs.Tickets.{still_settled, still_tickets, tickets_same}
 
 -- the events with one more entry
 pub project_push : (es : List Entry) (e : Entry) → project (es ++ e ∷ []) ≡ project es ++ project (e ∷ [])
 project_push es e = filter_map-append (λ (x : Entry). event_of x.what) es (e ∷ [])
+
+-- the entry of an end is no event
+pub project_end : (es : List Entry) (e : End) → project (es ++ ending e ∷ []) ≡ project es
+project_end es e = project_push es (ending e) ∙ append-nil (project es)
 
 pub fires_same : (es : List Entry) (e : Entry) → fires (e ∷ []) ≡ 0 → fires (es ++ e ∷ []) ≡ fires es
 fires_same es e none = omega (arith, fires_more es e, none)
@@ -66,11 +74,10 @@ module _ {C : Type 0} (draw : Draw C) (s : Subject) (budget turns : ℕ) (clock 
   -- what was reached is reached with the entry of the end
   pub reached_end : (e : End) → AreReached draw s budget turns clock first es c time moment → AreReached draw s budget turns clock first (es ++ ending e ∷ []) c time moment
   reached_end e r =
-      let same : project (es ++ ending e ∷ []) ≡ project es = project_push es (ending e) ∙ append-nil (project es) in
       record {
         known = r.known;
         told = r.told;
-        reached = subst (λ (events : List Event). Reaches draw s budget turns clock first events (record { chooser = c; known = time.known; waited = time.waited; clock = r.known })) (sym same) r.reached;
+        reached = subst (λ (events : List Event). Reaches draw s budget turns clock first events (record { chooser = c; known = time.known; waited = time.waited; clock = r.known })) (sym (project_end es e)) r.reached;
       }
 
   -- and where the clock is waited for
@@ -105,24 +112,46 @@ still_told (Some k) moment after now told is = subst (λ (o : Option ℕ). IfSom
 
 -- ---- ends
 
+pub within_same : (budget n k : ℕ) (g h : Situation) → k ≡ n → h ≡ g → IsWithin budget n g → IsWithin budget k h
+within_same budget n k g h count same within = subst (λ (x : ℕ). IsWithin budget x h) (sym count) (subst (IsWithin budget n) (sym same) within)
+
+-- what is kept of a history that ends next
+pub record MayClose (s : Subject) (budget turns : ℕ) (es : List Entry) (waited : ℕ) (e : End) : Type 0 where
+  pub ended : HasEnded s budget turns (project es) waited e
+  pub legal : HasStarted (start s budget) → IsLegal s (situation s budget (project es))
+  pub below : fires es ≤ turns
+  pub within : IsWithin budget (fires es) (situation s budget (project es))
+  pub tickets : AreTickets s budget es
+  pub settled : AllSettled es
+  pub counted : AreCounted es
+
 -- the run has ended with an entry that says so
-pub closed_on : (s : Subject) (budget turns : ℕ) (es : List Entry) (waited : ℕ) (e : End) → HasEnded s budget turns (project es) waited e → fires es ≤ turns → AreTickets s budget (es ++ ending e ∷ []) → IsClosed s budget turns (es ++ ending e ∷ []) waited e
-closed_on s budget turns es waited e h below tickets =
-    let same : project (es ++ ending e ∷ []) ≡ project es = project_push es (ending e) ∙ append-nil (project es) in
+pub closed_on : (s : Subject) (budget turns : ℕ) (es : List Entry) (waited : ℕ) (e : End) → MayClose s budget turns es waited e → IsClosed s budget turns (es ++ ending e ∷ []) waited e
+closed_on s budget turns es waited e h =
+    let same = project_end es e in
+    let count : fires (es ++ ending e ∷ []) ≡ fires es = fires_same es (ending e) refl in
     record {
       before = es;
       last = refl;
-      run = subst (IsRun s budget) (sym same) h.run;
-      stops = subst (λ (events : List Event). Stops s budget turns events e) (sym same) h.stops;
-      planned = subst (λ (events : List Event). IsPlannedEnd s budget turns events waited e) (sym same) h.planned;
-      below = omega (arith, fires_same es (ending e) refl, below);
-      tickets = tickets;
+      counted = h.counted;
+      run = subst (IsRun s budget) (sym same) h.ended.run;
+      stops = subst (λ (events : List Event). Stops s budget turns events e) (sym same) h.ended.stops;
+      planned = subst (λ (events : List Event). IsPlannedEnd s budget turns events waited e) (sym same) h.ended.planned;
+      legal = λ started. subst (λ (events : List Event). IsLegal s (situation s budget events)) (sym same) (h.legal started);
+      below = omega (arith, count, h.below);
+      within = within_same budget (fires es) (fires (es ++ ending e ∷ [])) (situation s budget (project es)) (situation s budget (project (es ++ ending e ∷ []))) count (ap (situation s budget) same) h.within;
+      tickets = still_tickets s budget es (ending e) refl h.settled h.tickets;
+      settled = still_settled es (ending e) refl h.settled;
     }
 
 module _ (s : Subject) (budget turns : ℕ) (es : List Entry) (time : Time) (systems : List System) (w : IsGoing s budget turns es time systems) where
   -- an end of the events ends the run
   pub ended_closes : (e : End) → HasEnded s budget turns (project es) time.waited e → IsClosed s budget turns (es ++ ending e ∷ []) time.waited e
-  ended_closes e h = closed_on s budget turns es time.waited e h w.below (still_tickets s budget es (ending e) refl w.settled w.tickets)
+  ended_closes e h = closed_on s budget turns es time.waited e (record { ended = h; legal = λ started. w.under_way.legal; below = w.below; within = w.within; tickets = w.tickets; settled = w.settled; counted = w.counted })
+
+  -- a fault leaves the situation
+  pub fault_stays : (m : Path) (n : ℕ) (kind : fault.Fault) → situation s budget (project es ++ Fault m n kind ∷ []) ≡ situation s budget (project es)
+  fault_stays m n kind = situation-push s budget (project es) (Fault m n kind) w.under_way.run
 
   -- so does a fault that applies, where no firing was taken
   pub fault_closes : (m : Path) (n : ℕ) (kind : fault.Fault) → Applies s budget (situation s budget (project es)) (Fault m n kind)
@@ -130,14 +159,24 @@ module _ (s : Subject) (budget turns : ℕ) (es : List Entry) (time : Time) (sys
   fault_closes m n kind applies =
       let e = noted (Fault m n kind) in
       let is : project (es ++ e ∷ []) ≡ project es ++ Fault m n kind ∷ [] = project_push es e in
-      closed_on s budget turns (es ++ e ∷ []) time.waited (Faulted kind)
-      (subst (λ (events : List Event). HasEnded s budget turns events time.waited (Faulted kind)) (sym is) (faults_end s budget turns (project es) time systems w.under_way m n kind applies))
-      (omega (arith, fires_same es e refl, w.below))
-      (still_tickets s budget (es ++ e ∷ []) (ending (Faulted kind)) refl (still_settled es e refl w.settled) (still_tickets s budget es e refl w.settled w.tickets))
+      let stays : situation s budget (project (es ++ e ∷ [])) ≡ situation s budget (project es) = ap (situation s budget) is ∙ fault_stays m n kind in
+      let count : fires (es ++ e ∷ []) ≡ fires es = fires_same es e refl in
+      closed_on s budget turns (es ++ e ∷ []) time.waited (Faulted kind) (record {
+        ended = subst (λ (events : List Event). HasEnded s budget turns events time.waited (Faulted kind)) (sym is) (faults_end s budget turns (project es) time systems w.under_way m n kind applies);
+        legal = λ started. subst (IsLegal s) (sym stays) w.under_way.legal;
+        below = omega (arith, count, w.below);
+        within = within_same budget (fires es) (fires (es ++ e ∷ [])) (situation s budget (project es)) (situation s budget (project (es ++ e ∷ []))) count stays w.within;
+        tickets = still_tickets s budget es e refl w.settled w.tickets;
+        settled = still_settled es e refl w.settled;
+        counted = counted_event es (Fault m n kind) w.counted;
+      })
 
 -- a guard faults where its system would select
 pub record HasFaultedNow {C : Type 0} (draw : Draw C) (s : Subject) (budget turns : ℕ) (es : List Entry) (time : Time) (m : Path) (n : ℕ) (kind : fault.Fault) : Type 0 where
   pub closed : IsClosed s budget turns ((es ++ noted (Fault m n kind) ∷ []) ++ ending (Faulted kind) ∷ []) time.waited (Faulted kind)
+  pub stays : situation s budget (project ((es ++ noted (Fault m n kind) ∷ []) ++ ending (Faulted kind) ∷ [])) ≡ situation s budget (project es)
+  pub count : fires ((es ++ noted (Fault m n kind) ∷ []) ++ ending (Faulted kind) ∷ []) ≡ fires es
+  pub given : length (tickets ((es ++ noted (Fault m n kind) ∷ []) ++ ending (Faulted kind) ∷ [])) ≡ length (tickets es)
   pub reached : (clock : Option ℕ) (first c : C) (moment : Option ℕ) → AreReached draw s budget turns clock first es c time moment
       → AreReached draw s budget turns clock first ((es ++ noted (Fault m n kind) ∷ []) ++ ending (Faulted kind) ∷ []) c time moment
 
@@ -148,6 +187,9 @@ guard_faults_now draw s budget turns es time systems w below at x due m n kind f
     let e = noted (Fault m n kind) in
     record {
       closed = fault_closes s budget turns es time systems w m n kind h.applies;
+      stays = ap (situation s budget) (project_end (es ++ e ∷ []) (Faulted kind) ∙ project_push es e) ∙ fault_stays s budget turns es time systems w m n kind;
+      count = fires_same (es ++ e ∷ []) (ending (Faulted kind)) refl ∙ fires_same es e refl;
+      given = ap length (tickets_same (es ++ e ∷ []) (ending (Faulted kind)) refl ∙ tickets_same es e refl);
       reached = λ clock begun c moment r. reached_end draw s budget turns clock begun (es ++ e ∷ []) c time moment (Faulted kind)
           (reached_on draw s budget turns clock begun es c time moment (Fault m n kind) c r below (λ known told. inl (h.planned (record { chooser = c; known = time.known; waited = time.waited; clock = known }) refl)));
     }

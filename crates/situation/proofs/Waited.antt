@@ -22,6 +22,7 @@ use Rattle.situation.specs.Runs.{IsGoing}
 use Rattle.situation.specs.Worlds.{IsOpenCourse, IsKept, HasStepped, now, work, left_to_do}
 use Rattle.situation.specs.Steps.{GoesOn, MayWaitFor}
 use Rattle.situation.proofs.Steps.{reached_wait, may_answer, still_told}
+use Rattle.situation.proofs.Adding.{adds_on}
 use Rattle.situation.proofs.Less.{less_waited, left_open}
 
 module _ {H : Type 0} where
@@ -79,6 +80,7 @@ module _ {H : Type 0} where
               (λ known is_told. still_told known told after moment is_told moved);
         };
         leaves = less_waited (fires es) t c.systems.items n.systems.items (left_to_do new) (left_to_do c) systems_are (left_open new opened.unended) once;
-        adds = refl;
+        adds = adds_on c.end es es did.Waited opened.unended refl;
+        waits = record { waiting = w.waiting; until = subst (λ (until : ℕ). until ≤ moment) (sym w.until) no_earlier; last = refl };
         ends = λ clocked. let wrong : None ≡ Some Clock = sym opened.unended ∙ clocked in absurd (cc);
       }

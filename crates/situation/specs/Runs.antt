@@ -1,22 +1,21 @@
 -- What is kept of the history of a run.
-use Rattle.std.specs.Prelude.{◌≡◌, ◌≤◌, ℕ, ◌+◌, ◌*◌, List, [], ◌∷◌, ◌++◌, length, Option, Some, None}
-use Rattle.pascal_values.specs.declared.fault.Fault.{Fault}
+use Rattle.std.specs.Prelude.{◌≡◌, ◌⊎◌, ◌≤◌, ℕ, ◌+◌, ◌*◌, List, [], ◌∷◌, ◌++◌, length, Option, Some, None}
 use Rattle.estelle_tree.specs.Paths.{Path}
-use Rattle.estelle_tree.specs.declared.names.Names.{Names}
-use Rattle.estelle_tree.specs.declared.tree.specification.Spec.{Spec}
 use Rattle.estelle_tree.specs.declared.transition.Pair.{Pair}
-use Rattle.estelle_model.specs.declared.effect.Out.{Out}
 use Rattle.estelle_model.specs.declared.event.Event.{Event}
-use Rattle.estelle_model.specs.declared.event.Event.TheVariants as event
 use Rattle.estelle_model.specs.declared.event.End.{End}
+use Rattle.estelle_model.specs.declared.event.End.TheVariants.{Faulted}
 use Rattle.estelle_model.specs.declared.job.Job.{Job}
 use Rattle.estelle_model.specs.Jobs.{IsJobIn}
 use Rattle.estelle_model.specs.Subject.{Subject}
 use Rattle.estelle_model.specs.Situation.{Situation}
+use Rattle.estelle_model.specs.Firing.{start}
 use Rattle.estelle_model.specs.Runs.{IsRun, situation}
 use Rattle.estelle_model.specs.Ends.{Stops}
 use Rattle.estelle_model.specs.Choosers.{Draw}
 use Rattle.estelle_model.specs.Schedule.{Reaches, IsPlannedEnd, IsScheduled}
+use Rattle.estelle_model_legality.specs.Keeping.{HasStarted}
+use Rattle.estelle_model_legality.specs.Situations.{IsLegal}
 use Rattle.run_history.specs.declared.entry.Entry.{Entry}
 use Rattle.run_history.specs.declared.entry.What.TheVariants as what
 use Rattle.run_history.specs.Histories.{project, fires}
@@ -69,13 +68,26 @@ pub record IsGoing (s : Subject) (budget turns : ℕ) (entries : List Entry) (ti
 
 -- what is kept of that of a run that has ended, of which the last wait for the clock came after so many events
 pub record IsClosed (s : Subject) (budget turns : ℕ) (entries : List Entry) (waited : ℕ) (e : End) : Type 0 where
+  -- this end is the last entry, and there is no other one
   pub before : List Entry
   pub last : entries ≡ before ++ ending e ∷ []
+  pub counted : AreCounted before
+  -- the events are a run that stops so, as is planned, and where the start ran they lead to a legal situation
   pub run : IsRun s budget (project entries)
   pub stops : Stops s budget turns (project entries) e
   pub planned : IsPlannedEnd s budget turns (project entries) waited e
+  pub legal : HasStarted (start s budget) → IsLegal s (situation s budget (project entries))
+  -- there have been no more firings than the limit, and so many outputs and births at most
   pub below : fires entries ≤ turns
+  pub within : IsWithin budget (fires entries) (situation s budget (project entries))
+  -- tickets are in order, and none is open, also where a firing faulted
   pub tickets : AreTickets s budget entries
+  pub settled : AllSettled entries
+
+-- of so many firings each was taken under one of so many tickets, and so was the one that faulted, if one did
+abbrev pub AreAllTaken : End → ℕ → ℕ → Type 0
+AreAllTaken (Faulted kind) fired taken = (taken ≡ fired) ⊎ (taken ≡ fired + 1)
+AreAllTaken e fired taken = taken ≡ fired
 
 -- ---- the clock
 
@@ -106,9 +118,3 @@ pub record IsJobFor (s : Subject) (g : Situation) (budget : ℕ) (p : Pair) (job
   pub trans : job.trans ≡ p.trans
   pub units : job.budget ≡ budget
   pub in_it : IsJobIn s g job
-
--- ---- what is run
-
--- a specification, with what its names stand for
-abbrev pub subject : Spec → Names → Subject
-subject spec names = record { specification = spec; names = names.uses }

@@ -16,9 +16,9 @@ use Rattle.estelle_model.specs.declared.job.Outcome.{Outcome}
 use Rattle.estelle_model.specs.declared.job.Outcome.TheVariants as outcome
 use Rattle.estelle_model.specs.Subject.{Subject}
 use Rattle.estelle_model.specs.Situation.{Situation}
-use Rattle.estelle_model.specs.Firing.{bare}
-use Rattle.estelle_model.specs.Delays.{has_delays, wanted, renew}
-use Rattle.estelle_model.specs.Runs.{NoGuardFaults, IsFirstFault}
+use Rattle.estelle_model.specs.Firing.{start, bare}
+use Rattle.estelle_model.specs.Delays.{has_delays}
+use Rattle.estelle_model.specs.Runs.{IsFirstFault, without}
 use Rattle.estelle_model.specs.Choosers.{Draw, Picks}
 use Rattle.estelle_model.specs.Jobs.{Answers}
 use Rattle.estelle_model_legality.specs.Situations.{IsLegal}
@@ -26,14 +26,11 @@ use Rattle.effect_log.specs.declared.notes.Notes.{Notes}
 use Rattle.effect_log.specs.Standing.{Stands}
 use Rattle.effect_log.specs.Putting.{IsRan, log_of, AnswersIn, after_put}
 use Rattle.effect_log.specs.Rooms.{outputs_in, HasRoomFor}
-use Rattle.transition_select.specs.declared.offers.Offer.{Offer}
-use Rattle.transition_select.specs.Offers.{AreOffers}
-use Rattle.run_history.specs.declared.entry.Entry.{Entry}
 use Rattle.run_history.specs.Histories.{fires}
+use Rattle.situation_offers.specs.Selections.{IsSelection}
 use Rattle.situation_steps.specs.declared.systems.System.{System}
 use Rattle.situation_steps.specs.Systems.{systems_of, first_kept, after_firing, NoneIsDue}
 use Rattle.situation_steps.specs.Laws.{first_time}
-use Rattle.delay_timers.specs.Moments.{AreDifferent}
 use Rattle.situation.specs.declared.course.Course.{Course}
 use Rattle.situation.specs.declared.limits.Limits.{Limits}
 use Rattle.situation.specs.declared.limits.Stepped.{Stepped}
@@ -41,7 +38,7 @@ use Rattle.situation.specs.declared.limits.Stepped.TheVariants as stepped
 use Rattle.situation.specs.Runs.{noted, ending, IsJobFor}
 use Rattle.situation_images.specs.Putting.{arrivals_of}
 use Rattle.situation.specs.Systems.{IsFirstOne}
-use Rattle.situation.specs.Worlds.{IsOpenCourse, IsCourse, AreEmpty, HasStepped, IsOfProgram, HasBegun, now, entries_of}
+use Rattle.situation.specs.Worlds.{IsOpenCourse, IsCourse, AreEmpty, HasStepped, IsOfProgram, HasBegun, HasOnlyStarted, now}
 
 -- the fault, if it is one
 abbrev pub failure_of : Outcome → Option Fault
@@ -51,13 +48,6 @@ failure_of (outcome.Faulted kind) = Some kind
 -- a run ends by the clock only where the clock's count of faults rose, or where it had ended so
 abbrev pub IsCause : Option End → ℕ → ℕ → Stepped → Type 0
 IsCause before faults faults' did = did ≡ stepped.Ended Clock → Rose faults faults' ⊎ (before ≡ Some Clock)
-
--- no guard of the system faults, its instances offer this at the moment, and these transitions want timers
-pub record IsOffered (s : Subject) (budget : ℕ) (g : Situation) (system : Path) (moment : ℕ) (offered : List Offer) (wants : List Wanted) : Type 0 where
-  pub offers : AreOffers s budget (renew s budget g system moment) system offered
-  pub sound : NoGuardFaults s budget g system
-  pub wanted : wants ≡ wanted s budget g system
-  pub different : AreDifferent wants
 
 module _ {H : Type 0} where
   -- the run goes on, and there is memory for so many entries
@@ -97,9 +87,13 @@ module _ {H : Type 0} where
     pub undelayed : c.delays ≡ false → now ≡ 0
     pub told : c.delays ≡ true → IfSome moment (λ m. now ≡ max m c.time.known)
 
-  -- so it is of the system with this number, in the situation that the run has come to
-  abbrev pub IsOfferedAt : ℕ → ℕ → Course H → List Offer → List Wanted → Type 0
-  IsOfferedAt at moment c offers wants = (x : System) → slice_get c.systems.items at ≡ Some x → IsOffered c.program.now c.limits.budget (now c) x.path moment offers wants
+  -- the system with this number selects so in the situation that the run has come to, by this chooser, which is left as it is now
+  abbrev pub IsSelectedAt : Draw H → ℕ → ℕ → H → Course H → List Pair → List Wanted → Type 0
+  IsSelectedAt draw at moment first c takes wants = (x : System) → slice_get c.systems.items at ≡ Some x → IsSelection draw c.program.now c.limits.budget (now c) x.path moment first c.chooser takes wants
+
+  -- what a selection comes to, where this chooser was asked for it
+  abbrev pub HasSelected : Draw H → ℕ → ℕ → List Pair → List Wanted → Course H → Course H → Stepped → Type 0
+  HasSelected draw at now takes wants old new did = (first : H) (moment : Option ℕ) → MayBeNow moment now old → IsSelectedAt draw at now first old takes wants → HasStepped draw moment moment (record old { chooser = first }) new did
 
   -- of its guards this is the first that faults
   abbrev pub IsFaultAt : ℕ → Course H → Path → ℕ → Fault → Type 0
@@ -141,14 +135,15 @@ module _ {H : Type 0} where
     pub empty : AreEmpty c.notes
     pub spare : 2 ≤ c.history.spare
 
-  -- the firing was put and noted
+  -- the firing was put and noted, and is no longer pending
   pub record HasFired (g : Situation) (old new : Course H) (path : Path) (trans : ℕ) (done : Done) : Type 0 where
     pub stands : Stands old.program.now new.shared (after_put old.program.now g done).situation
     pub noted : new.history.entries ≡ old.history.entries ++ noted (event.Fire path trans (after_put old.program.now g done).outs (after_put old.program.now g done).drops) ∷ []
     pub empty : AreEmpty new.notes
     pub systems : new.systems.items ≡ each (after_firing path (arrivals_of old.program.now g done)) old.systems.items
     pub timers : new.timers ≡ map.remove old.timers (pair path trans)
-    pub rest : new ≡ record old { shared = new.shared; history = new.history; notes = new.notes; timers = new.timers; systems = new.systems; time = record old.time { may_wait = true } }
+    pub pending : new.pending.items ≡ without (pair path trans) old.pending.items
+    pub rest : new ≡ record old { shared = new.shared; history = new.history; notes = new.notes; timers = new.timers; pending = new.pending; systems = new.systems; time = record old.time { may_wait = true } }
 
   -- its fault was noted, which ends the run
   pub record HasFailed (old new : Course H) (path : Path) (trans : ℕ) (kind : Fault) : Type 0 where
@@ -211,4 +206,6 @@ module _ {H : Type 0} where
     pub keeps : IsCourse c
     pub of : IsOfProgram s limits c
     pub begun : (moment : Option ℕ) → HasBegun draw moment chooser c
+    pub starts : HasOnlyStarted (start c.program.now c.limits.budget) c.history.entries c.end
+    pub time : c.time ≡ first_time
     pub unclocked : c.end ≢ Some Clock

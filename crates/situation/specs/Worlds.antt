@@ -1,18 +1,21 @@
 -- What a world keeps of a run.
-use Rattle.std.specs.Prelude.{◌≡◌, ◌<◌, ℕ, ◌+◌, ◌-◌, ◌*◌, ◌^◌, ◌++◌, ◌∷◌, Bool, if◌then◌else◌, List, [], length, count_by, Option, Some, None}
+use Rattle.std.specs.Prelude.{◌≡◌, ◌≤◌, ◌<◌, ℕ, ◌+◌, ◌-◌, ◌*◌, ◌^◌, ◌++◌, ◌∷◌, Bool, if◌then◌else◌, List, [], length, count_by, Option, Some, None}
 use Rattle.estelle_tree.specs.declared.transition.Pair.{Pair}
 use Rattle.estelle_tree.specs.Paths.{Path}
 use Rattle.estelle_tree.specs.Timers.{Timers}
 use Rattle.pascal_values.specs.declared.fault.Fault.{Fault}
 use Rattle.estelle_model.specs.declared.effect.Out.{Out}
+use Rattle.estelle_model.specs.declared.event.Event.{Event}
 use Rattle.estelle_model.specs.declared.event.Event.TheVariants as event
 use Rattle.estelle_model.specs.declared.event.End.{End}
 use Rattle.estelle_model.specs.declared.event.End.TheVariants.{Clock, Faulted}
 use Rattle.estelle_model.specs.Subject.{Subject}
 use Rattle.estelle_model.specs.Situation.{Situation}
+use Rattle.estelle_model.specs.Firing.{Firing, Ran, Failed, Undefined}
 use Rattle.estelle_model.specs.Delays.{has_delays}
 use Rattle.estelle_model.specs.Runs.{situation}
 use Rattle.estelle_model.specs.Choosers.{Draw}
+use Rattle.estelle_model.specs.Schedule.{IsWaiting, wait_until}
 use Rattle.estelle_model_legality.specs.Instances.{LeadsToStates}
 use Rattle.effect_log.specs.declared.shared.Shared.{Shared}
 use Rattle.effect_log.specs.declared.notes.Notes.{Notes}
@@ -26,7 +29,7 @@ use Rattle.situation.specs.declared.limits.Limits.{Limits}
 use Rattle.situation.specs.declared.limits.Stepped.{Stepped}
 use Rattle.situation.specs.declared.limits.Stepped.TheVariants as stepped
 use Rattle.situation.specs.declared.course.Course.{Course}
-use Rattle.situation.specs.Runs.{noted, ending, take_of, IsGoing, IsClosed, AreReached}
+use Rattle.situation.specs.Runs.{noted, ending, take_of, IsGoing, IsClosed, AreAllTaken, AreReached}
 
 -- the shared state, the timers and what is pending are those of the situation that the events of a history lead to
 pub record Holds (s : Subject) (budget : ℕ) (entries : List Entry) (shared : Shared) (running : Timers) (waiting : List Pair) : Type 0 where
@@ -46,13 +49,40 @@ work turns count systems may_wait None =
     1 + ((turns - count) * (2 * length systems + 3) + ((if may_wait then length systems + 1 else 0) + count_by (λ x. x.awaits) systems))
 work turns count systems may_wait (Some e) = 0
 
--- what a step adds to the history: the selection, or the firing or its fault behind a ticket, where a fault is the end too
-abbrev pub Adds : List Entry → List Entry → Stepped → Type 0
-Adds before after stepped.Selected = (system : Path) × (moment : ℕ) × (takes : List Pair) × (after ≡ before ++ noted (event.Select system moment takes) ∷ [])
-Adds before after stepped.Waited = after ≡ before
-Adds before after stepped.Fired = (ticket : ℕ) × (p : Pair) × (outs : List Out) × (drops : List ℕ) × (after ≡ (before ++ take_of ticket p ∷ []) ++ noted (event.Fire p.path p.trans outs drops) ∷ [])
-Adds before after stepped.Faulted = (ticket : ℕ) × (p : Pair) × (kind : Fault) × (after ≡ ((before ++ take_of ticket p ∷ []) ++ noted (event.Fault p.path p.trans kind) ∷ []) ++ ending (Faulted kind) ∷ [])
-Adds before after (stepped.Ended e) = Unit {0}
+-- what an end adds to the history: itself, behind the fault of a guard where that is the end
+abbrev pub AddsEnd : List Entry → List Entry → End → Type 0
+AddsEnd before after (Faulted kind) = (path : Path) × (trans : ℕ) × (after ≡ (before ++ noted (event.Fault path trans kind) ∷ []) ++ ending (Faulted kind) ∷ [])
+AddsEnd before after e = after ≡ before ++ ending e ∷ []
+
+-- what a step adds while the run goes on: the selection, or the firing or its fault behind a ticket, where a fault is the end too, or the end
+abbrev pub AddsMore : List Entry → List Entry → Stepped → Type 0
+AddsMore before after stepped.Selected = (system : Path) × (moment : ℕ) × (takes : List Pair) × (after ≡ before ++ noted (event.Select system moment takes) ∷ [])
+AddsMore before after stepped.Waited = after ≡ before
+AddsMore before after stepped.Fired = (ticket : ℕ) × (p : Pair) × (outs : List Out) × (drops : List ℕ) × (after ≡ (before ++ take_of ticket p ∷ []) ++ noted (event.Fire p.path p.trans outs drops) ∷ [])
+AddsMore before after stepped.Faulted = (ticket : ℕ) × (p : Pair) × (kind : Fault) × (after ≡ ((before ++ take_of ticket p ∷ []) ++ noted (event.Fault p.path p.trans kind) ∷ []) ++ ending (Faulted kind) ∷ [])
+AddsMore before after (stepped.Ended e) = AddsEnd before after e
+
+-- what a step adds: where the run has ended, it tells that end, and adds nothing
+abbrev pub Adds : Option End → List Entry → List Entry → Stepped → Type 0
+Adds None before after did = AddsMore before after did
+Adds (Some e) before after did = (did ≡ stepped.Ended e) × (after ≡ before)
+
+-- the clock was waited for where nothing else was left to do, until the first moment that is due, and no event came after it
+pub record HasWaited (s : Subject) (budget : ℕ) (events : List Event) (before after : Time) : Type 0 where
+  pub waiting : IsWaiting s budget events before.waited
+  pub until : wait_until (situation s budget events) before.known ≤ after.known
+  pub last : after.waited ≡ length events
+
+-- a step waits for the clock where it tells so, and only there
+abbrev pub Waits : Subject → ℕ → List Entry → Time → Time → Stepped → Type 0
+Waits s budget entries before after stepped.Waited = HasWaited s budget (project entries) before after
+Waits s budget entries before after _ = after.waited ≡ before.waited
+
+-- no more has happened than the start: its event is the only entry, or its fault, which is the end
+abbrev pub HasOnlyStarted : Firing → List Entry → Option End → Type 0
+HasOnlyStarted (Ran g outs drops left) entries ended = (entries ≡ noted (event.Start outs drops) ∷ []) × (ended ≡ None)
+HasOnlyStarted (Failed kind left) entries ended = (entries ≡ noted (event.Fault [] 0 kind) ∷ ending (Faulted kind) ∷ []) × (ended ≡ Some (Faulted kind))
+HasOnlyStarted Undefined entries ended = ⊥
 
 module _ {H : Type 0} where
   abbrev pub entries_of : Course H → List Entry
@@ -75,9 +105,21 @@ module _ {H : Type 0} where
     pub fired : fires c.history.entries ≡ c.tickets
     pub empty : AreEmpty c.notes
 
+  -- what is kept of one that has ended so
+  pub record IsEndedCourse (c : Course H) (e : End) : Type 0 where
+    pub leads : LeadsToStates c.program.now
+    pub room : c.limits.budget * (c.limits.turns + 1) < 2 ^ 63
+    pub delays : c.delays ≡ has_delays c.program.now
+    pub closed : IsClosed c.program.now c.limits.budget c.limits.turns c.history.entries c.time.waited e
+    -- a fault leaves all as it was, so that the firing that faulted is pending
+    pub holds : Holds c.program.now c.limits.budget c.history.entries c.shared c.timers c.pending.items
+    pub taken : length (tickets c.history.entries) ≡ c.tickets
+    pub fired : AreAllTaken e (fires c.history.entries) c.tickets
+    pub empty : AreEmpty c.notes
+
   abbrev pub IsKept : Course H → Option End → Type 0
   IsKept c None = IsOpenCourse c
-  IsKept c (Some e) = IsClosed c.program.now c.limits.budget c.limits.turns c.history.entries c.time.waited e
+  IsKept c (Some e) = IsEndedCourse c e
 
   abbrev pub IsCourse : Course H → Type 0
   IsCourse c = IsKept c c.end
@@ -113,7 +155,8 @@ module _ {H : Type 0} where
     pub keeps : IsCourse after
     pub goes_on : HasGoneOn draw moment moment' before after
     pub leaves : Leaves before after did
-    pub adds : Adds before.history.entries after.history.entries did
+    pub adds : Adds before.end before.history.entries after.history.entries did
+    pub waits : Waits before.program.now before.limits.budget before.history.entries before.time after.time did
     -- it has ended by the clock only if it says so
     pub ends : after.end ≡ Some Clock → did ≡ stepped.Ended Clock
 
@@ -124,3 +167,4 @@ module _ {H : Type 0} where
     pub limits : after.limits ≡ before.limits
     pub entries : entries_of after ≡ entries_of before
     pub time : after.time ≡ before.time
+    pub systems : after.systems.items ≡ before.systems.items

@@ -1,6 +1,6 @@
 //! What a world keeps, and how it goes on by one step.
 
-ghost use Rattle.std.specs.Prelude.{◌≡◌, ◌≢◌, ◌≤◌, ◌<◌, ◌+◌, ◌^◌, ℕ, true, false, [], ◌∷◌, ◌++◌, Option, Some, length, vec_capacity, max, slice_get, map as each, IfOk, IfSome, OnOk, OnErr};
+ghost use Rattle.std.specs.Prelude.{◌≡◌, ◌≢◌, ◌≤◌, ◌<◌, ◌+◌, ◌^◌, ℕ, true, false, [], ◌∷◌, ◌++◌, Option, Some, length, vec_capacity, max, slice_get, map as each, IfOk, IfSome, OnOk, OnErr, Contains};
 ghost use Rattle.std.specs.FinMap as map;
 ghost use Rattle.outside.specs.Counts.{Rose, HasCause};
 ghost use Rattle.estelle_model.specs.declared.event.End.TheVariants.{Clock as ByClock, Faulted};
@@ -23,10 +23,10 @@ use outside::{Chooser, Clock, Failed};
 use pascal_values::Fault;
 use run_history::{Entry, History, What};
 use situation_images::job_of;
-use situation_offers::{Offering, ask};
+use situation_offers::{Chosen, SelectFault, View, select};
 use situation_steps::{System, Time};
 use std::alloc::{AllocError, Global};
-use transition_select::{Offer, choose, offers_of, pick};
+use transition_select::pick;
 
 /// A run so far, and the situation that it has come to.
 #[derive(Drop)]
@@ -74,11 +74,13 @@ impl<H: Chooser + Drop> Course<'_, H> {
     ghost use Rattle.effect_log.specs.Rooms.{HasRoomFor, SeesTheSame, NotesTheSame};
     ghost use Rattle.effect_log.specs.Putting.{IsRan};
     ghost use Rattle.estelle_tree.specs.Timers.{pair};
+    ghost use Rattle.delay_timers.specs.Moments.{AreDifferent};
+    ghost use Rattle.estelle_model.specs.Runs.{without};
     ghost use Rattle.run_history.specs.Histories.{project, fires};
     ghost use Rattle.situation_steps.specs.declared.systems.System.{System as Kept};
     ghost use Rattle.situation_steps.specs.Systems.{NoneIsDue, after_selection, after_firing, after_wait};
     ghost use Rattle.situation.specs.Worlds.{IsOpenCourse, IsCourse, HasStepped, IsUnchanged, AreEmpty, now};
-    ghost use Rattle.situation.specs.Steps.{GoesOn, IsDueAt, IsReady, IsIdle, MayBeNow, IsOfferedAt, IsFaultAt, MayWaitFor, IsCause, MayPut, HasPut, IsComputed, IsComputedAt, MaySettle, HasSettled, HasCommitted};
+    ghost use Rattle.situation.specs.Steps.{GoesOn, IsDueAt, IsReady, IsIdle, MayBeNow, HasSelected, IsFaultAt, MayWaitFor, IsCause, MayPut, HasPut, IsComputed, IsComputedAt, MaySettle, HasSettled, HasCommitted};
 
     /// Notes the end of the run.
     pub(crate) fn stop(&mut self, end: End)
@@ -214,23 +216,22 @@ impl<H: Chooser + Drop> Course<'_, H> {
         pending::append(&mut self.pending, takes);
     }
 
-    /// A system selects what the chooser chooses of what is offered.
-    fn choose(
+    /// Puts and notes what a system has selected, and renews its timers.
+    fn put_selected(
         &mut self,
         alloc: Global,
         at: usize,
         now: u64,
-        offers: &[Offer],
+        takes: Vec<Pair>,
         wanted: &[Wanted],
     ) -> Result<Stepped, AllocError>
         requires open { GoesOn 2 self.old }
         requires due { IsDueAt at self.old }
-        requires offers { IsOfferedAt at now self.old offers.now wanted.now }
-        ensures stepped { IfOk result (λ done. (moment : Option ℕ) → MayBeNow moment now self.old → HasStepped H.draw moment moment self.old self.new done) }
+        requires different { AreDifferent wanted.now }
+        ensures stepped { IfOk result (HasSelected H.draw at now takes.items wanted.now self.old self.new) }
         ensures refused { OnErr result (IsUnchanged self.old self.new) }
         ensures selected { IfOk result (λ done. done ≡ did.Selected) }
     {
-        let takes = choose(alloc, offers, &mut self.chooser)?;
         let copies = pending::copies(alloc, &takes)?;
         let system = self.systems[at].path.copy(alloc)?;
         self.pending.reserve(takes.len())?;
@@ -260,21 +261,18 @@ impl<H: Chooser + Drop> Course<'_, H> {
         ensures refused { OnErr result (IsUnchanged self.old self.new) }
         ensures unclocked { IfOk result (λ done. done ≢ did.Ended ByClock) }
     {
-        let offering = ask(
-            alloc,
-            self.program,
-            &self.shared,
-            &self.timers,
-            &self.systems[at].path,
-            now,
-            self.limits.budget,
-        )?;
-        match offering {
-            Offering::Counts { counts, wanted } => {
-                let offers = offers_of(alloc, &counts)?;
-                self.choose(alloc, at, now, &offers, &wanted)
+        let view = View {
+            program: &*self.program,
+            shared: &self.shared,
+            timers: &self.timers,
+            budget: self.limits.budget,
+        };
+        match select(alloc, &view, &self.systems[at].path, now, &mut self.chooser) {
+            Ok(Chosen { takes, wanted }) => self.put_selected(alloc, at, now, takes, &wanted),
+            Err(SelectFault::Guard { path, trans, fault }) => {
+                Ok(self.fault(at, path, trans, fault))
             }
-            Offering::Faults { path, trans, kind } => Ok(self.fault(at, path, trans, kind)),
+            Err(SelectFault::Memory) => Err(AllocError),
         }
     }
 
@@ -337,26 +335,42 @@ impl<H: Chooser + Drop> Course<'_, H> {
         Ok(done)
     }
 
+    /// The pending firing of which this was computed is no longer pending.
+    fn take_pending(&mut self, done: &Done) -> Pair
+        requires { Contains self.old.pending.items (pair done.now.path done.now.trans) }
+        ensures its { result ≡ pair done.now.path done.now.trans }
+        ensures pending { self.new.pending.items ≡ without (pair done.now.path done.now.trans) self.old.pending.items }
+        ensures rest { self.new ≡ record self.old { pending = self.new.pending } }
+    {
+        match pending::take(&mut self.pending, &done.path, done.trans) {
+            Some(pair) => pair,
+            None => unreachable!(),
+        }
+    }
+
     /// Puts what was computed of a pending firing into the situation, and notes it, or its fault.
-    fn settle(&mut self, alloc: Global, path: Path, trans: u32, done: Done) -> Stepped
+    fn settle(&mut self, alloc: Global, done: Done) -> Stepped
         requires may { MaySettle (now self.old) self.old done }
-        ensures { HasSettled (now self.old) self.old self.new path trans done result }
+        requires pending { Contains self.old.pending.items (pair done.path done.trans) }
+        ensures { HasSettled (now self.old) self.old self.new done.path done.trans done result }
     {
         match fault_in(&done.outcome) {
             None => {
+                let Pair { path, trans } = self.take_pending(&done);
                 self.put_shared(done);
                 self.put_others(&path, trans);
                 self.note_firing(alloc, path, trans);
                 Stepped::Fired
             }
             Some(kind) => {
+                let Done { path, trans, .. } = done;
                 self.fail(path, trans, kind);
                 Stepped::Faulted
             }
         }
     }
 
-    /// Takes a pending firing that was computed, and settles it. It takes no memory.
+    /// Notes that a pending firing that was computed is taken, and settles it. It takes no memory.
     fn commit(&mut self, alloc: Global, path: Path, done: Done) -> Stepped
         requires open { GoesOn 3 self.old }
         requires below { fires self.old.history.entries < self.old.limits.turns }
@@ -365,13 +379,9 @@ impl<H: Chooser + Drop> Course<'_, H> {
         ensures committed { HasCommitted H.draw self.old self.new path done.trans result }
         ensures unclocked { result ≢ did.Ended ByClock }
     {
-        let Some(Pair { path: own, trans }) = pending::take(&mut self.pending, &path, done.trans)
-        else {
-            unreachable!()
-        };
         prove!(self.tickets < u64::from(self.limits.turns));
-        self.note_take(path, trans);
-        self.settle(alloc, own, trans, done)
+        self.note_take(path, done.trans);
+        self.settle(alloc, done)
     }
 
     /// One pending firing, which the chooser picks, is taken, computed and put.

@@ -5,7 +5,8 @@ ghost use Rattle.outside.specs.Counts.{Rose};
 ghost use Rattle.estelle_model.specs.declared.event.End.TheVariants.{Clock as ByClock};
 ghost use Rattle.estelle_model.specs.Delays.{has_delays};
 ghost use Rattle.estelle_model_legality.specs.Instances.{LeadsToStates};
-ghost use Rattle.situation.specs.Runs.{subject, IsStopped};
+ghost use Rattle.situation.specs.Runs.{IsStopped};
+ghost use Rattle.estelle_model.specs.Subject.{subject};
 
 use crate::begin::begin;
 use crate::course::Course;

@@ -5,9 +5,9 @@
 //! a firing does to the shared state, on `situation_images` for what is read of that state, on `delay_timers` and `run_history`,
 //! and on the laws of `situation_steps`.
 //!
-//! A step looks at each system for the first that is due. A selection asks each guard of its system anew, and copies the private
-//! part of each instance for that: it takes the time of the instances times their depth, and of all links for each instance. A
-//! firing copies the private part of its instance.
+//! A step looks at each system for the first that is due. A selection asks each guard of its system anew, and copies nothing for
+//! that: where something has to be evaluated, the instances at and below the guard's own are looked up, and all links looked
+//! through, once for each instance. A firing copies the private part of its instance.
 #![tactic(auto)]
 
 mod begin;

@@ -44,7 +44,7 @@ impl<'a, C, H> Model for World<'a, C, H> {
 }
 
 impl<'a, C: Clock + Drop, H: Chooser + Drop> World<'a, C, H> {
-    ghost use Rattle.situation.specs.Known.{IsOfRun, IsWithinLimits, IsReachedBy, IsPlannedStep, IsAsBefore};
+    ghost use Rattle.situation.specs.Known.{IsOfRun, IsWithinLimits, IsReachedBy, IsAtStart, IsPlannedStep, IsAsBefore};
     ghost use Rattle.situation.specs.Steps.{IsCause};
 
     /// Runs the start. The refusal is want of memory.
@@ -60,6 +60,7 @@ impl<'a, C: Clock + Drop, H: Chooser + Drop> World<'a, C, H> {
         ensures keeps { IfOk result IsOfRun }
         ensures of { IfOk result (IsWithinLimits program.now limits) }
         ensures begun { IfOk result (IsReachedBy H.draw C.moment (C.moment clock) chooser) }
+        ensures starts { IfOk result IsAtStart }
         ensures unasked { IfOk result (λ world. world.clock ≡ clock) }
         ensures clock { IfErr result (λ refused. refused ≡ clock) }
     {
@@ -96,7 +97,7 @@ impl<'a, C: Clock + Drop, H: Chooser + Drop> World<'a, C, H> {
         requires { IsSome self.end }
         ensures run { IsRun self.entry.subject self.entry.limits.budget (project result.0.entries) }
         ensures fates { HaveOneFate self.entry.subject self.entry.limits.budget (project result.0.entries) }
-        ensures order { LeadsToStates self.entry.subject → AreFirstInFirstOut self.entry.subject self.entry.limits.budget (project result.0.entries) }
+        ensures order { AreFirstInFirstOut self.entry.subject self.entry.limits.budget (project result.0.entries) }
         ensures history { result.0 ≡ self.entry.history }
         ensures end { IfSome self.entry.end (λ end. result.1 ≡ end) }
         ensures clock { result.2 ≡ self.entry.clock }

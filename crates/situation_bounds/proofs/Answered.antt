@@ -5,14 +5,14 @@ use Rattle.std.specs.FinMap as map
 use Rattle.std.proofs.lemmas.List.Sorted.{IsPermutation-refl}
 use Rattle.estelle_tree.specs.Paths.{Path}
 use Rattle.estelle_tree.specs.Timers.{pair}
-use Rattle.estelle_model.specs.declared.effect.Effect.{Effect as LoggedEffect}
+use Rattle.estelle_model.specs.declared.effect.Effect.{Effect}
 use Rattle.estelle_model.specs.declared.effect.Out.{Out}
 use Rattle.estelle_model.specs.declared.image.Image.{Image}
 use Rattle.estelle_model.specs.declared.job.Job.{Job}
-use Rattle.estelle_model.specs.declared.job.Outcome.{Outcome as JobOutcome}
+use Rattle.estelle_model.specs.declared.job.Outcome.{Outcome}
 use Rattle.estelle_model.specs.declared.job.Outcome.TheVariants as outcome
 use Rattle.estelle_model.specs.States.{Logged}
-use Rattle.estelle_model.specs.Steps.{Outcome}
+use Rattle.estelle_model.specs.Steps.{StepResult}
 use Rattle.estelle_model.specs.Subject.{Subject}
 use Rattle.estelle_model.specs.Situation.{Situation}
 use Rattle.estelle_model.specs.Firing.{Firing, fire, start, bare, transition_at}
@@ -28,18 +28,18 @@ use Rattle.estelle_model_apart.proofs.Answers.{some_answer}
 -- something is put, and the firing is what it comes to
 pub record WasPut (s : Subject) (m : Path) (n : ℕ) (g : Situation) (f : Firing) : Type 0 where
   pub image : Image
-  pub effects : List LoggedEffect
+  pub effects : List Effect
   pub left : ℕ
   pub is_put : IsPut s m n g image effects left f
 
 -- the answer of what has run is no fault
-by_answer : (s : Subject) (m : Path) (n : ℕ) (g : Situation) (f : Firing) (outs : List Out) (drops : List ℕ) → HasRun outs drops f → (out : JobOutcome) (left : ℕ) → IsAnswer s m n g out left f → WasPut s m n g f
+by_answer : (s : Subject) (m : Path) (n : ℕ) (g : Situation) (f : Firing) (outs : List Out) (drops : List ℕ) → HasRun outs drops f → (out : Outcome) (left : ℕ) → IsAnswer s m n g out left f → WasPut s m n g f
 by_answer s m n g f outs drops ran (outcome.Ran image effects) left answer = record { image = image; effects = effects; left = left; is_put = answer }
 by_answer s m n g f outs drops ran (outcome.Faulted kind) left answer = absurd (subst (HasRun outs drops) answer ran)
 
 -- ---- the start
 
-some_start : (s : Subject) (run : Outcome Logged (Unit {0})) → (out : JobOutcome) × (left : ℕ) × IsMadeBy s run out left
+some_start : (s : Subject) (run : StepResult Logged (Unit {0})) → (out : Outcome) × (left : ℕ) × IsMadeBy s run out left
 some_start s (Ok r) = (outcome.Ran (image_of r.1.state.image) (all_logged s r.1.state.log), r.1.left, (record { parts = refl; links = IsPermutation-refl r.1.state.image.links }, refl, refl))
 some_start s (Err e) = (outcome.Faulted e.0, e.1, (refl, refl))
 

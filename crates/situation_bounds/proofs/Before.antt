@@ -5,7 +5,7 @@ use Rattle.estelle_model.specs.declared.event.Event.TheVariants.{Start, Select, 
 use Rattle.estelle_model.specs.Subject.{Subject}
 use Rattle.estelle_model.specs.Situation.{Situation}
 use Rattle.estelle_model.specs.Firing.{Firing, Ran, Failed, Undefined, start}
-use Rattle.estelle_model.specs.Runs.{next, Applies, IsLastIfFault, Goes, after_all, Begins, IsRun, started, situation}
+use Rattle.estelle_model.specs.Runs.{next, Applies, IsLastIfFault, Goes, after_events, Begins, IsRun, started, situation}
 use Rattle.estelle_model.specs.Ends.{last_event, IsNoFault}
 
 none_left : {A : Type 0} (xs : List A) (x : A) → xs ++ x ∷ [] ≡ [] → ⊥
@@ -33,14 +33,14 @@ module _ (s : Subject) (budget : ℕ) where
     pub applies : Applies s budget (situation s budget es) e
 
   goes_before : (x : Event) → IsNoFault (Some x) → (g : Situation) (es : List Event) (e : Event) → Goes s budget g (es ++ e ∷ [])
-      → Goes s budget g es × IsNoFault (last_event (x ∷ es)) × Applies s budget (after_all s budget g es) e
+      → Goes s budget g es × IsNoFault (last_event (x ∷ es)) × Applies s budget (after_events s budget g es) e
   goes_before x fine g [] e h = (tt, fine, h.0)
   goes_before x fine g (y ∷ es) e h =
       let of_y = no_fault y es e h.1 in
       let rest = goes_before y of_y (next s budget g y) es e h.2 in
       ((h.0, still_last y es of_y, rest.0), rest.1, rest.2)
 
-  begins_before : (f : Firing) (x : Event) (es : List Event) (e : Event) → Begins s budget f x (es ++ e ∷ []) → Begins s budget f x es × IsNoFault (last_event (x ∷ es)) × Applies s budget (after_all s budget (started s f) es) e
+  begins_before : (f : Firing) (x : Event) (es : List Event) (e : Event) → Begins s budget f x (es ++ e ∷ []) → Begins s budget f x es × IsNoFault (last_event (x ∷ es)) × Applies s budget (after_events s budget (started s f) es) e
   begins_before (Ran g outs drops left) (Start outs' drops') es e h = let rest = goes_before (Start outs' drops') tt g es e h.2 in ((h.0, h.1, rest.0), rest.1, rest.2)
   begins_before (Ran g outs drops left) (Select system now takes) es e h = absurd h
   begins_before (Ran g outs drops left) (Fire m n outs' drops') es e h = absurd h

@@ -16,9 +16,8 @@ use Rattle.estelle_model.specs.declared.image.Part.{Part}
 use Rattle.estelle_model.specs.declared.image.Interaction.{Interaction}
 use Rattle.estelle_model.specs.declared.meaning.InteractionPoint.{InteractionPoint}
 use Rattle.estelle_model.specs.Actions.{at, count_from}
-use Rattle.estelle_tree.specs.declared.tree.specification.Parts.{Parts}
-use Rattle.estelle_tree.specs.declared.tree.specification.Decl.TheFolds.{fold_out-Parts}
-use Rattle.estelle_model.specs.Bodies.{Contribution, BodyAlone, decl_layer, body_layer, parts_layer, standings, default_of}
+use Rattle.estelle_model.specs.Bodies.{BodyAlone, default_of}
+use Rattle.estelle_model.proofs.RootBodies.{first_there}
 use Rattle.estelle_model.specs.Core.{Instance}
 use Rattle.estelle_model.specs.Subject.{Subject, body, ips_of, new_instance}
 use Rattle.estelle_model.specs.Firing.{alone, root, bare}
@@ -41,11 +40,6 @@ use Rattle.effect_log.proofs.Declaring.{from_on, from-own, filed-all, holds-all,
 use Rattle.effect_log.proofs.After.{queues-of}
 use Rattle.situation_images.specs.Instances.{IsTreeOf}
 use Rattle.situation_images.specs.Starts.{root_points}
-
--- a specification has its own body
-first_there : (d : Bool) (x : Parts) → is_some (slice_get (standings d x) 0) ≡ true
-unfolding standings
-first_there d x = ap (λ bs. is_some (slice_get bs 0)) (fold_out-Parts (Contribution × List BodyAlone) (List BodyAlone) (List BodyAlone) (decl_layer d) (body_layer d) (parts_layer d) x)
 
 -- ---- its queues
 

@@ -46,7 +46,7 @@ impl<R: RunSoFar> RunSoFar for Queueing<'_, R> {
     ghost leads_to = { λ queueing s. R.leads_to queueing.so_far.now s };
 }
 
-fn put_at<Q: Disciplines + RunSoFar>(
+fn put_by<Q: Disciplines + RunSoFar>(
     queueing: &Q,
     shared: &mut Shared,
     done: Done,
@@ -73,7 +73,7 @@ pub fn put_firing<R: RunSoFar>(
         program: &*program,
         so_far: &*so_far,
     };
-    put_at(&queueing, shared, done, notes)
+    put_by(&queueing, shared, done, notes)
 }
 
 /// Puts what the initialization did.

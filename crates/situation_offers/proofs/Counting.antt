@@ -6,7 +6,6 @@ use Rattle.std.specs.List.{AllByRecursion, range_with_len}
 use Rattle.std.specs.FinMap as map
 use Rattle.std.proofs.lemmas.Bool.{cases_lt}
 use Rattle.std.proofs.lemmas.List.{map-append}
-use Rattle.std.proofs.lemmas.Option.{slice_get_within}
 use Rattle.pascal_values.specs.declared.fault.Fault.{Fault}
 use Rattle.estelle_tree.specs.declared.transition.Wanted.{Wanted}
 use Rattle.estelle_tree.specs.declared.transition.Pair.{Pair}
@@ -15,10 +14,9 @@ use Rattle.estelle_tree.specs.Timers.{Timer, Timers, pair, ends_by, high_is_over
 use Rattle.estelle_model.specs.declared.job.Guard.{Guard}
 use Rattle.estelle_model.specs.declared.job.Guard.TheVariants.{Off, On, Faulted}
 use Rattle.estelle_model.specs.Core.{Instance}
-use Rattle.estelle_model.specs.Transitions.{Transition}
-use Rattle.estelle_model.specs.Subject.{Subject, transitions, transition}
+use Rattle.estelle_model.specs.Subject.{Subject, transitions}
 use Rattle.estelle_model.specs.Situation.{Situation}
-use Rattle.estelle_model.specs.Firing.{guard, guard_at, guard_of}
+use Rattle.estelle_model.specs.Firing.{guard}
 use Rattle.estelle_model.specs.Delays.{is_on, has_delay, may, must, renew}
 use Rattle.estelle_model.specs.Selection.{priority}
 use Rattle.estelle_model.specs.Schedule.{numbers_of}
@@ -27,6 +25,7 @@ use Rattle.transition_select.specs.Countings.{IsCountable, AreCountablesOf}
 use Rattle.transition_select.proofs.Offering.{all_more}
 use Rattle.situation_steps.proofs.Renewing.{may_at, may_renewed, timer_at, renewed_timer, guard_renewed}
 use Rattle.situation_offers.specs.Guards.{NoneFaults, IsFirst, may_by, must_by, has_ended, counted_if, wanted_if, wanted_at, wanted_of, AreCountedTo}
+use Rattle.situation_offers.proofs.Present.{zero_off, instance_there, within}
 use Rattle.situation_offers.proofs.Wanted.{flat_to}
 
 -- ---- lists
@@ -51,26 +50,16 @@ this_one test n e = range_to test n ∙ ap (λ b. filter test (range_with_len 1 
 
 -- ---- guards of transitions that are not there
 
-module _ (s : Subject) (budget : ℕ) (g : Situation) (m : Path) where
-  zero_off : (o : Option Instance) → guard_at s budget g m 0 o ≡ Off
-  zero_off None = refl
-  zero_off (Some i) = refl
+faults : (x : Guard) (kind : Fault) → x ≡ Faulted kind → x ≡ Off → ⊥
+faults x kind e off = let wrong : Off ≡ Faulted kind = sym off ∙ e in absurd (cc)
 
+module _ (s : Subject) (budget : ℕ) (g : Situation) (m : Path) where
   -- a guard that faults is that of a transition which is there
   faulted_within : (n : ℕ) (kind : Fault) (i : Instance) → map.get g.core.instances m ≡ Some i → guard s budget g m n ≡ Faulted kind → n ≤ length (transitions s i.body)
-  faulted_within n kind i there e = by n (transition s i.body n) refl (sym (ap (guard_at s budget g m n) there) ∙ e)
-    where
-      by : (n : ℕ) (o : Option Transition) → transition s i.body n ≡ o → guard_of s budget g m (map.contains_key g.timers (record { path = m; trans = n })) i o ≡ Faulted kind → n ≤ length (transitions s i.body)
-      by n None is e = absurd (cc)
-      by zero (Some t) is e = omega arith
-      by (suc k) (Some t) is e = let less = slice_get_within (transitions s i.body) k t is in omega (arith, less)
+  faulted_within n kind i there e = within s budget g m n i there (faults (guard s budget g m n) kind e)
 
   pub faulted_there : (n : ℕ) (kind : Fault) → guard s budget g m n ≡ Faulted kind → (i : Instance) × (map.get g.core.instances m ≡ Some i)
-  faulted_there n kind e = by (map.get g.core.instances m) refl
-    where
-      by : (o : Option Instance) → map.get g.core.instances m ≡ o → (i : Instance) × (o ≡ Some i)
-      by None is = let wrong : Off ≡ Faulted kind = sym (ap (guard_at s budget g m n) is) ∙ e in absurd (cc)
-      by (Some i) is = (i, refl)
+  faulted_there n kind e = instance_there s budget g m n (faults (guard s budget g m n) kind e)
 
   sound_more : (n : ℕ) (now : Guard) → guard s budget g m (n + 1) ≡ now → ((kind : Fault) → now ≡ Faulted kind → ⊥)
       → ((k : ℕ) (kind : Fault) → k ≤ n → guard s budget g m k ≡ Faulted kind → ⊥) → (k : ℕ) (kind : Fault) → k ≤ n + 1 → guard s budget g m k ≡ Faulted kind → ⊥
@@ -129,7 +118,7 @@ module _ (s : Subject) (budget : ℕ) (g : Situation) (system : Path) (now : ℕ
     wanted = sym (append-nil before);
     sound = λ k kind low e.
         let is : k ≡ 0 = omega arith in
-        let wrong : Off ≡ Faulted kind = sym (zero_off s budget g m (map.get g.core.instances m)) ∙ ap (guard s budget g m) (sym is) ∙ e in
+        let wrong : Off ≡ Faulted kind = sym (zero_off s budget g m) ∙ ap (guard s budget g m) (sym is) ∙ e in
         absurd (cc);
   }
 

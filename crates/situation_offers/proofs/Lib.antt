@@ -5,3 +5,5 @@ pub mod Asking
 pub mod Counts
 pub mod Walking
 pub mod Standing
+pub mod Present
+pub mod Enabled

@@ -32,11 +32,15 @@ use Rattle.situation_offers.specs.Guards.{NoneFaults, IsFirst, wanted_of}
 
 -- ---- of whom is asked
 
--- the shared state and the timers stand for a legal situation, and this is a system in it
-pub record MayBeAsked (s : Subject) (shared : Shared) (timers : Timers) (g : Situation) (system : Path) : Type 0 where
+-- the shared state and the timers stand for this legal situation
+pub record IsShown (s : Subject) (shared : Shared) (timers : Timers) (g : Situation) : Type 0 where
   pub stands : Stands s shared g
   pub legal : IsLegal s g
   pub running : timers ≡ g.timers
+
+-- and this is a system in it
+pub record MayBeAsked (s : Subject) (shared : Shared) (timers : Timers) (g : Situation) (system : Path) : Type 0 where
+  pub shown : IsShown s shared timers g
   pub is_system : IsSystem s g system
 
 -- the part is that of an instance of the system

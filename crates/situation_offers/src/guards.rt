@@ -17,7 +17,7 @@ ghost use Rattle.situation_images.specs.Instances.{IsOfBody, IsPartOf};
 ghost use Rattle.effect_log.specs.Standing.{Stands};
 ghost use Rattle.transition_select.specs.Countings.{AreCountablesOf};
 ghost use Rattle.situation_offers.specs.Guards as spec;
-ghost use Rattle.situation_offers.specs.Asked.{MayBeAsked, IsAt, IsImageOf, IsAnswer, AreAll, IsCount, IsCountingOf, IsOffering};
+ghost use Rattle.situation_offers.specs.Asked.{IsShown, MayBeAsked, IsAt, IsImageOf, IsAnswer, AreAll, IsCount, IsCountingOf, IsOffering};
 
 use body_walker::{guard_plain, settled};
 use body_walker_program::Program;
@@ -101,7 +101,7 @@ fn evaluated<'s>(
 }
 
 /// The guard of a transition of an instance. Its private part is read where something has to be evaluated, once for all transitions.
-fn guard_of<'s>(
+pub(crate) fn guard_of<'s>(
     alloc: Global,
     program: &Program,
     shared: &'s Shared,
@@ -111,7 +111,7 @@ fn guard_of<'s>(
     budget: u32,
     held: &mut Option<Private<'s>>,
 ) -> Result<Guard, AllocError>
-    ensures { (g : Situation) (system : Seen) → MayBeAsked program.now shared.now timers.now g system → IsPartOf g part.now → IfSome held.old (IsImageOf program.now g part.now.path) → IfOk result (λ answer. (answer ≡ guard program.now budget g part.now.path trans) × IfSome held.new (IsImageOf program.now g part.now.path)) }
+    ensures { (g : Situation) → IsShown program.now shared.now timers.now g → IsPartOf g part.now → IfSome held.old (IsImageOf program.now g part.now.path) → IfOk result (λ answer. (answer ≡ guard program.now budget g part.now.path trans) × IfSome held.new (IsImageOf program.now g part.now.path)) }
 {
     let head = found_head(alloc, program, shared, &part.path, part.body, trans)?;
     let timed = timers.has(&part.path, trans);

@@ -9,5 +9,7 @@
 #![tactic(auto)]
 
 mod guards;
+mod selection;
 
 pub use guards::{Offering, ask};
+pub use selection::{Chosen, SelectFault, View, any_enabled, select};

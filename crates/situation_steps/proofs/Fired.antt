@@ -9,7 +9,7 @@ use Rattle.std.proofs.lemmas.List.Sums.{length-filter}
 use Rattle.estelle_tree.specs.declared.transition.Pair.{Pair}
 use Rattle.estelle_tree.specs.Paths.{Path, is_inside}
 use Rattle.estelle_tree.specs.Timers.{Timers, pair, pair_cmp}
-use Rattle.estelle_model.specs.declared.effect.Effect.{Effect as LoggedEffect}
+use Rattle.estelle_model.specs.declared.effect.Effect.{Effect}
 use Rattle.estelle_model.specs.declared.event.Event.{Event}
 use Rattle.estelle_model.specs.declared.event.Event.TheVariants.{Fire}
 use Rattle.estelle_model.specs.declared.image.Image.{Image}
@@ -134,7 +134,7 @@ other_timers ts p q differ = ap is_some (map.get-remove pairs_total ts p q ∙ a
 module _ (s : Subject) (leads : LeadsToStates s) (budget : ℕ) (es : List Event) (time : Time) (systems : List System) (w : IsUnderWay s budget es time systems)
     (m : Path) (n : ℕ) (pending : Contains (situation s budget es).pending (pair m n))
     (g : Situation) (begins : g ≡ taken_by s (situation s budget es) m (transition_at s n (map.get (situation s budget es).core.instances m)))
-    (image : Image) (effects : List LoggedEffect) (left : ℕ) (p : IsPut s m n g image effects left (fire s budget (situation s budget es) m n)) where
+    (image : Image) (effects : List Effect) (left : ℕ) (p : IsPut s m n g image effects left (fire s budget (situation s budget es) m n)) where
   abbrev h : Situation
   h = situation s budget es
 

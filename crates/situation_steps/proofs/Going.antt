@@ -8,7 +8,7 @@ use Rattle.estelle_tree.specs.Paths.{Path}
 use Rattle.estelle_model.specs.Subject.{Subject}
 use Rattle.estelle_model.specs.Situation.{Situation}
 use Rattle.estelle_model.specs.Firing.{Firing, Ran, Failed, Undefined, start}
-use Rattle.estelle_model.specs.Runs.{next, Applies, IsLastIfFault, Goes, after_all, Begins, IsRun, started, situation}
+use Rattle.estelle_model.specs.Runs.{next, Applies, IsLastIfFault, Goes, after_events, Begins, IsRun, started, situation}
 use Rattle.estelle_model.specs.Ends.{last_event, IsNoFault, is_fire, fires}
 use Rattle.estelle_model.specs.Schedule.{awaits_after, awaits_from, awaits}
 
@@ -47,16 +47,16 @@ pub fires-push : (es : List Event) (e : Event) → fires (es ++ e ∷ []) ≡ fi
 fires-push es e = fold-append (λ (n : ℕ) (x : Event). n + cond (is_fire x) 1 0) 0 es (e ∷ [])
 
 module _ (s : Subject) (budget : ℕ) where
-  Goes-push : (g : Situation) (es : List Event) (e : Event) → Goes s budget g es → MayGo (last_event es) → Applies s budget (after_all s budget g es) e → Goes s budget g (es ++ e ∷ [])
+  Goes-push : (g : Situation) (es : List Event) (e : Event) → Goes s budget g es → MayGo (last_event es) → Applies s budget (after_events s budget g es) e → Goes s budget g (es ++ e ∷ [])
   Goes-push g [] e h go applies = (applies, last_one e, tt)
   Goes-push g (x ∷ []) e h go applies = (h.0, still_last x [] (e ∷ []) h.1 go, (applies, last_one e, tt))
   Goes-push g (x ∷ y ∷ es) e h go applies = (h.0, still_last x (y ∷ es) ((y ∷ es) ++ e ∷ []) h.1 go, Goes-push (next s budget g x) (y ∷ es) e h.2 go applies)
 
-  after_all-push : (g : Situation) (es : List Event) (e : Event) → after_all s budget g (es ++ e ∷ []) ≡ next s budget (after_all s budget g es) e
-  after_all-push g [] e = refl
-  after_all-push g (x ∷ es) e = after_all-push (next s budget g x) es e
+  after_events-push : (g : Situation) (es : List Event) (e : Event) → after_events s budget g (es ++ e ∷ []) ≡ next s budget (after_events s budget g es) e
+  after_events-push g [] e = refl
+  after_events-push g (x ∷ es) e = after_events-push (next s budget g x) es e
 
-  Begins-push : (f : Firing) (x : Event) (es : List Event) (e : Event) → Begins s budget f x es → IsNoFault (last_event (x ∷ es)) → Applies s budget (after_all s budget (started s f) es) e → Begins s budget f x (es ++ e ∷ [])
+  Begins-push : (f : Firing) (x : Event) (es : List Event) (e : Event) → Begins s budget f x es → IsNoFault (last_event (x ∷ es)) → Applies s budget (after_events s budget (started s f) es) e → Begins s budget f x (es ++ e ∷ [])
   Begins-push (Ran g outs drops left) (Start outs' drops') es e h go applies = (h.0, h.1, Goes-push g es e h.2 (go_tail (Start outs' drops') es go) applies)
   Begins-push (Ran g outs drops left) (Select system n takes) es e h go applies = absurd h
   Begins-push (Ran g outs drops left) (Fire m n outs' drops') es e h go applies = absurd h
@@ -73,10 +73,10 @@ module _ (s : Subject) (budget : ℕ) where
 
   pub situation-push : (es : List Event) (e : Event) → IsRun s budget es → situation s budget (es ++ e ∷ []) ≡ next s budget (situation s budget es) e
   situation-push [] e h = absurd h
-  situation-push (x ∷ es) e h = after_all-push (started s (start s budget)) es e
+  situation-push (x ∷ es) e h = after_events-push (started s (start s budget)) es e
 
   awaits_from-push : (system : Path) (g : Situation) (waits : Bool) (es : List Event) (e : Event)
-      → awaits_from s budget system g waits (es ++ e ∷ []) ≡ awaits_after system (after_all s budget g es) (next s budget (after_all s budget g es) e) e (awaits_from s budget system g waits es)
+      → awaits_from s budget system g waits (es ++ e ∷ []) ≡ awaits_after system (after_events s budget g es) (next s budget (after_events s budget g es) e) e (awaits_from s budget system g waits es)
   awaits_from-push system g waits [] e = refl
   awaits_from-push system g waits (x ∷ es) e = awaits_from-push system (next s budget g x) (awaits_after system g (next s budget g x) x waits) es e
 

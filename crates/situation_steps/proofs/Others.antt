@@ -7,7 +7,7 @@ use Rattle.std.specs.Ordering.{eq_by_cmp}
 use Rattle.estelle_tree.specs.declared.link.IpAddr.{IpAddr}
 use Rattle.estelle_tree.specs.Paths.{Path, is_inside}
 use Rattle.estelle_tree.specs.Timers.{Timers, pair, pair_cmp}
-use Rattle.estelle_model.specs.declared.effect.Effect.{Effect as LoggedEffect}
+use Rattle.estelle_model.specs.declared.effect.Effect.{Effect}
 use Rattle.estelle_model.specs.declared.event.Event.{Event}
 use Rattle.estelle_model.specs.declared.event.Event.TheVariants.{Fire}
 use Rattle.estelle_model.specs.declared.image.Image.{Image}
@@ -79,7 +79,7 @@ module _ (s : Subject) (g : Situation) (m : Path) (there : Path → Bool) (away 
 
 module _ (s : Subject) (leads : LeadsToStates s) (budget : ℕ) (g : Situation) (legal : IsLegal s g) (m : Path) (n : ℕ) (pending : Contains g.pending (pair m n))
     (h : Situation) (begins : h ≡ taken_by s g m (transition_at s n (map.get g.core.instances m)))
-    (image : Image) (effects : List LoggedEffect) (left : ℕ) (p : IsPut s m n h image effects left (fire s budget g m n)) where
+    (image : Image) (effects : List Effect) (left : ℕ) (p : IsPut s m n h image effects left (fire s budget g m n)) where
   abbrev acting : Acting
   acting = put m p.log image.parts (begun h)
 

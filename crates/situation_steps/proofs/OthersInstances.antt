@@ -6,10 +6,10 @@ use Rattle.std.specs.FinMap.{find, is_sorted}
 use Rattle.std.specs.FinMap.Entries as entries
 use Rattle.std.specs.Ordering.{eq_by_cmp, is_lt}
 use Rattle.estelle_tree.specs.Paths.{Path, path_cmp, is_inside}
-use Rattle.estelle_model.specs.declared.effect.Effect.{Effect as LoggedEffect}
+use Rattle.estelle_model.specs.declared.effect.Effect.{Effect}
 use Rattle.estelle_model.specs.declared.image.Image.{Image}
 use Rattle.estelle_model.specs.Core.{Instance, Instances}
-use Rattle.estelle_model.specs.Effects.{Effect}
+use Rattle.estelle_model.specs.Effects.{StatementEffect}
 use Rattle.estelle_model.specs.Subject.{Subject}
 use Rattle.estelle_model.specs.Attributes.{attribute, is_system, attribute_at, IsSystem}
 use Rattle.estelle_model.specs.Situation.{Situation, Acting, acting_after}
@@ -52,7 +52,7 @@ module _ {A : Type 0} (f : Instance → A) where
 -- ---- effects and records
 
 -- the instance keeps its body
-effects_body : (s : Subject) (m : Path) (es : List Effect) (a : Acting) → CanAllBeMade s m es a → body_of (map.get (after_all es a).situation.core.instances m) ≡ body_of (map.get a.situation.core.instances m)
+effects_body : (s : Subject) (m : Path) (es : List StatementEffect) (a : Acting) → CanAllBeMade s m es a → body_of (map.get (after_all es a).situation.core.instances m) ≡ body_of (map.get a.situation.core.instances m)
 effects_body s m [] a can = refl
 effects_body s m (e ∷ es) a can =
     effects_body s m es (acting_after e a) can.1
@@ -66,7 +66,7 @@ first_of : (o : Option Instance) → body_of o ≡ option_map (λ (p : ℕ × �
 first_of None = refl
 first_of (Some i) = refl
 
-module _ (s : Subject) (m : Path) (n : ℕ) (g : Situation) (image : Image) (effects : List LoggedEffect) (left : ℕ) (f : Firing) (p : IsPut s m n g image effects left f) where
+module _ (s : Subject) (m : Path) (n : ℕ) (g : Situation) (image : Image) (effects : List Effect) (left : ℕ) (f : Firing) (p : IsPut s m n g image effects left f) where
   abbrev made : Instances
   made = (after_all p.log (begun g)).situation.core.instances
 

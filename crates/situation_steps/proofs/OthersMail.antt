@@ -14,7 +14,7 @@ use Rattle.estelle_tree.specs.Queues.{waits_at, brought_to, waiting, not_waiting
 use Rattle.estelle_tree.specs.Queues as queues
 use Rattle.estelle_model.specs.declared.image.Interaction.{Interaction}
 use Rattle.estelle_model.specs.Core.{Core}
-use Rattle.estelle_model.specs.Effects.{Effect, Output, Connect, Disconnect, Attach, Detach, Create, Remove, links_after}
+use Rattle.estelle_model.specs.Effects.{StatementEffect, Output, Connect, Disconnect, Attach, Detach, Create, Remove, links_after}
 use Rattle.estelle_model.specs.Situation.{Waiting, Acting, acting_after, arrived, mail_after, made_after}
 use Rattle.estelle_model.specs.Subject.{Subject}
 use Rattle.estelle_model.specs.Jobs.{CanBeMade, CanAllBeMade, after_all}
@@ -62,7 +62,7 @@ some_left : (keep : Link → Bool) (links : List Link) → AllDown links → All
 some_left keep links down l h = down l (among_filter keep links l h).0
 
 module _ (s : Subject) (m : Path) where
-  down_after : (e : Effect) (c : Core) → CanBeMade s m e c → AllDown c.links → AllDown (links_after e c.links)
+  down_after : (e : StatementEffect) (c : Core) → CanBeMade s m e c → AllDown c.links → AllDown (links_after e c.links)
   unfolding links_after
   down_after (Output from ip name values) c can down = down
   down_after (Connect a b) c can down = one_more c.links (connection a b) down (λ e. absurd (cc))
@@ -75,12 +75,12 @@ module _ (s : Subject) (m : Path) where
 -- ---- what comes
 
 -- what an effect brings to where it waits
-unfoldable pub come_by : Effect → List Link → ℕ → List Waiting
+unfoldable pub come_by : StatementEffect → List Link → ℕ → List Waiting
 come_by (Output from ip name values) links made = arrived (record { number = suc made; name = name; values = values }) (route links from) []
 come_by _ links made = []
 
 -- what effects bring, in order
-abbrev pub come : List Effect → Acting → List Waiting
+abbrev pub come : List StatementEffect → Acting → List Waiting
 come [] a = []
 come (e ∷ es) a = come_by e a.situation.core.links a.situation.made ++ come es (acting_after e a)
 
@@ -92,7 +92,7 @@ arrived_path : (i : Interaction) (o : Option IpAddr) → each (λ (w : Waiting).
 arrived_path i None = refl
 arrived_path i (Some a) = refl
 
-come_path : (e : Effect) (links : List Link) (made : ℕ) → each (λ (w : Waiting). w.at.path) (come_by e links made) ≡ arrived_at e links
+come_path : (e : StatementEffect) (links : List Link) (made : ℕ) → each (λ (w : Waiting). w.at.path) (come_by e links made) ≡ arrived_at e links
 unfolding come_by
 come_path (Output from ip name values) links made = arrived_path (record { number = suc made; name = name; values = values }) (route links from)
 come_path (Connect a b) links made = refl
@@ -102,7 +102,7 @@ come_path (Detach upper) links made = refl
 come_path (Create p k i) links made = refl
 come_path (Remove p k) links made = refl
 
-pub come_paths : (es : List Effect) (a : Acting) → each (λ (w : Waiting). w.at.path) (come es a) ≡ arrivals es a
+pub come_paths : (es : List StatementEffect) (a : Acting) → each (λ (w : Waiting). w.at.path) (come es a) ≡ arrivals es a
 come_paths [] a = refl
 come_paths (e ∷ es) a =
     map-append (λ (w : Waiting). w.at.path) (come_by e a.situation.core.links a.situation.made) (come es (acting_after e a))
@@ -114,7 +114,7 @@ arrived_number i None w h = absurd h
 arrived_number i (Some a) w (inl e) = sym (ap (λ (x : Waiting). x.item) e)
 arrived_number i (Some a) w (inr h) = absurd h
 
-come_number : (e : Effect) (links : List Link) (made : ℕ) (w : Waiting) → Among w (come_by e links made) → w.item.number ≡ suc made
+come_number : (e : StatementEffect) (links : List Link) (made : ℕ) (w : Waiting) → Among w (come_by e links made) → w.item.number ≡ suc made
 unfolding come_by
 come_number (Output from ip name values) links made w h = ap (λ (x : Interaction). x.number) (arrived_number (record { number = suc made; name = name; values = values }) (route links from) w h)
 come_number (Connect a b) links made w h = absurd h
@@ -124,7 +124,7 @@ come_number (Detach upper) links made w h = absurd h
 come_number (Create p k i) links made w h = absurd h
 come_number (Remove p k) links made w h = absurd h
 
-no_fewer : (e : Effect) (made : ℕ) → made ≤ made_after e made
+no_fewer : (e : StatementEffect) (made : ℕ) → made ≤ made_after e made
 unfolding made_after
 no_fewer (Output from ip name values) made = omega arith
 no_fewer (Connect a b) made = omega arith
@@ -134,7 +134,7 @@ no_fewer (Detach upper) made = omega arith
 no_fewer (Create p k i) made = omega arith
 no_fewer (Remove p k) made = omega arith
 
-come_new : (es : List Effect) (a : Acting) (base : ℕ) → base ≤ a.situation.made → (w : Waiting) → Among w (come es a) → base < w.item.number
+come_new : (es : List StatementEffect) (a : Acting) (base : ℕ) → base ≤ a.situation.made → (w : Waiting) → Among w (come es a) → base < w.item.number
 come_new [] a base less w h = absurd h
 come_new (e ∷ es) a base less w h =
     by (among_append (come_by e a.situation.core.links a.situation.made) (come es (acting_after e a)) w h)
@@ -180,7 +180,7 @@ module _ (m : Path) (there : Path → Bool) (apart : (q : Path) → there q ≡ 
       by false e rest = ap (λ (ys : List Waiting). cond (there w.at.path) (w ∷ ys) ys) rest
 
   module _ (s : Subject) where
-    mail_by : (e : Effect) (c : Core) (made : ℕ) (mail : List Waiting) → CanBeMade s m e c → AllDown c.links → filter waits_there (mail_after e c.links made mail) ≡ filter waits_there mail ++ filter waits_there (come_by e c.links made)
+    mail_by : (e : StatementEffect) (c : Core) (made : ℕ) (mail : List Waiting) → CanBeMade s m e c → AllDown c.links → filter waits_there (mail_after e c.links made mail) ≡ filter waits_there mail ++ filter waits_there (come_by e c.links made)
     unfolding mail_after come_by
     mail_by (Output from ip name values) c made mail can down =
         let i : Interaction = record { number = suc made; name = name; values = values } in
@@ -200,7 +200,7 @@ module _ (m : Path) (there : Path → Bool) (apart : (q : Path) → there q ≡ 
     mail_by (Remove p k) c made mail can down = gone_away (child p k) mail (inside_child m p k can.0) ∙ sym (append-nil (filter waits_there mail))
 
     -- after the effects what waited there waits there, and then what came there
-    pub mail_there : (es : List Effect) (a : Acting) → CanAllBeMade s m es a → AllDown a.situation.core.links → filter waits_there (after_all es a).situation.mail ≡ filter waits_there a.situation.mail ++ filter waits_there (come es a)
+    pub mail_there : (es : List StatementEffect) (a : Acting) → CanAllBeMade s m es a → AllDown a.situation.core.links → filter waits_there (after_all es a).situation.mail ≡ filter waits_there a.situation.mail ++ filter waits_there (come es a)
     mail_there [] a can down = sym (append-nil (filter waits_there a.situation.mail))
     mail_there (e ∷ es) a can down =
         let c = a.situation.core in
@@ -230,7 +230,7 @@ module _ (m : Path) (there : Path → Bool) (apart : (q : Path) → there q ≡ 
     new_one base w h = ap (λ (b : Bool). b && there w.at.path) (let e : nat_lt base w.item.number ≡ true = grind (arith, nat_tests) in e)
 
     -- something new waits there just where something arrived there
-    pub new_there : (es : List Effect) (a : Acting) → CanAllBeMade s m es a → AllDown a.situation.core.links → (before : List Waiting) → filter waits_there a.situation.mail ≡ filter waits_there before
+    pub new_there : (es : List StatementEffect) (a : Acting) → CanAllBeMade s m es a → AllDown a.situation.core.links → (before : List Waiting) → filter waits_there a.situation.mail ≡ filter waits_there before
         → ((w : Waiting) → Among w before → w.item.number ≤ a.situation.made)
         → list_any (λ (w : Waiting). nat_lt a.situation.made w.item.number && there w.at.path) (after_all es a).situation.mail ≡ list_any there (arrivals es a)
     new_there es a can down before same old =
@@ -248,7 +248,7 @@ module _ (m : Path) (there : Path → Bool) (apart : (q : Path) → there q ≡ 
         ∙ ap (list_any there) (come_paths es a)
 
     -- and where nothing arrived there all that waits there is the same
-    pub same_there : (es : List Effect) (a : Acting) → CanAllBeMade s m es a → AllDown a.situation.core.links → list_any there (arrivals es a) ≡ false → filter waits_there (after_all es a).situation.mail ≡ filter waits_there a.situation.mail
+    pub same_there : (es : List StatementEffect) (a : Acting) → CanAllBeMade s m es a → AllDown a.situation.core.links → list_any there (arrivals es a) ≡ false → filter waits_there (after_all es a).situation.mail ≡ filter waits_there a.situation.mail
     same_there es a can down none =
         mail_there es a can down
         ∙ ap (λ (ws : List Waiting). filter waits_there a.situation.mail ++ ws)

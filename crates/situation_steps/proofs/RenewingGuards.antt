@@ -12,7 +12,7 @@ use Rattle.estelle_tree.specs.Timers.{Timers, pair}
 use Rattle.estelle_model.specs.declared.job.Guard.{Guard}
 use Rattle.estelle_model.specs.declared.job.Guard.TheVariants.{Off, On, Faulted}
 use Rattle.estelle_model.specs.Core.{Instance}
-use Rattle.estelle_model.specs.Steps.{Running, Outcome, Step, and_then, checked_at}
+use Rattle.estelle_model.specs.Steps.{Running, StepResult, Step, and_then, checked_at}
 use Rattle.estelle_model.specs.Blocks.{fresh}
 use Rattle.estelle_model.specs.Transitions.{Transition, Delay}
 use Rattle.estelle_model.specs.Subject.{Subject, transition}
@@ -52,11 +52,11 @@ agree_on low high Off h = h
 agree_on low high (On low' high') h = tt
 agree_on low high (Faulted kind) h = tt
 
-then_not_off : (A : Type 0) (o : Outcome Acting A) (f : A → Step Acting Guard) → ((a : A) (u : Running Acting) → NotOff (answered (f a u))) → NotOff (answered (and_then o f))
+then_not_off : (A : Type 0) (o : StepResult Acting A) (f : A → Step Acting Guard) → ((a : A) (u : Running Acting) → NotOff (answered (f a u))) → NotOff (answered (and_then o f))
 then_not_off A (Ok r) f h = h r.0 r.1
 then_not_off A (Err e) f h = tt
 
-then_agree : (A : Type 0) (o : Outcome Acting A) (f f' : A → Step Acting Guard) → ((a : A) (u : Running Acting) → Agree (answered (f a u)) (answered (f' a u))) → Agree (answered (and_then o f)) (answered (and_then o f'))
+then_agree : (A : Type 0) (o : StepResult Acting A) (f f' : A → Step Acting Guard) → ((a : A) (u : Running Acting) → Agree (answered (f a u)) (answered (f' a u))) → Agree (answered (and_then o f)) (answered (and_then o f'))
 then_agree A (Ok r) f f' h = h r.0 r.1
 then_agree A (Err e) f f' h = tt
 

@@ -1,22 +1,22 @@
 -- The specification's own instance is there from the start on, and keeps its body: no effect removes it.
 use Rattle.std.proofs.Common.{◌≡◌, ℕ, Bool, true, false, List, [], ◌∷◌, Option, Some, None, refl, sym, ap, cond, ◌∙◌}
-use Rattle.std.specs.Prelude.{not, fold, is_some, option_map, slice_get}
+use Rattle.std.specs.Prelude.{not, fold, is_some, option_map}
 use Rattle.std.specs.FinMap as map
 use Rattle.std.specs.FinMap.{find}
 use Rattle.std.specs.Ordering.{eq_by_cmp}
-use Rattle.estelle_tree.specs.declared.tree.specification.Parts.{Parts}
-use Rattle.estelle_tree.specs.declared.tree.specification.Decl.TheFolds.{fold_out-Parts}
 use Rattle.estelle_tree.specs.Paths.{Path, path_cmp, child, is_inside}
-use Rattle.estelle_model.specs.declared.effect.Effect.{Effect as LoggedEffect}
+use Rattle.estelle_model.specs.declared.effect.Effect.{Effect}
 use Rattle.estelle_model.specs.declared.image.Image.{Image}
 use Rattle.estelle_model.specs.Core.{Instance, Instances}
-use Rattle.estelle_model.specs.Effects.{Effect, Output, Connect, Disconnect, Attach, Detach, Create, Remove, born, changed_in, instances_after}
-use Rattle.estelle_model.specs.Bodies.{Contribution, BodyAlone, decl_layer, body_layer, parts_layer, standings, default_of}
+use Rattle.estelle_model.specs.Effects.{StatementEffect, Output, Connect, Disconnect, Attach, Detach, Create, Remove, born, changed_in, instances_after}
+use Rattle.estelle_model.specs.Bodies.{BodyAlone, default_of}
+use Rattle.estelle_model.proofs.RootBodies.{first_there}
 use Rattle.estelle_model.specs.Subject.{Subject, body, new_instance}
 use Rattle.estelle_model.specs.Situation.{Situation, Acting, acting_after}
 use Rattle.estelle_model.specs.Firing.{Firing, begun, bare, alone}
 use Rattle.estelle_model.specs.Jobs.{insert_part, outline_of_parts, put, after_all, IsPut}
-use Rattle.estelle_model.proofs.Maps.{total, apart, or_else, get_inserted, told}
+use Rattle.estelle_model.proofs.Maps.{total, apart, get_inserted, told}
+use Rattle.std.specs.Option.{option_or}
 use Rattle.estelle_model.proofs.PrivateParts.{get_changed, get_inside, told_parts}
 use Rattle.situation_steps.specs.UnderWay.{HasRoot}
 
@@ -39,11 +39,6 @@ pub root_body : (g : Situation) → HasRoot g → body_at [] g.core.instances �
 root_body g r = ap (option_map (λ i. i.body)) r.1 ∙ ap (λ (k : ℕ). Some k) r.2
 
 -- ---- at the start
-
--- a specification has its own body
-pub first_there : (d : Bool) (x : Parts) → is_some (slice_get (standings d x) 0) ≡ true
-unfolding standings
-first_there d x = ap (λ bs. is_some (slice_get bs 0)) (fold_out-Parts (Contribution × List BodyAlone) (List BodyAlone) (List BodyAlone) (decl_layer d) (body_layer d) (parts_layer d) x)
 
 pub bare_root : (s : Subject) → body_at [] (bare s).core.instances ≡ Some 0
 bare_root s =
@@ -72,7 +67,7 @@ born_root p x = ap (option_map (λ i. i.body)) (get_changed p born x []) ∙ by 
     by [] = born_same (map.get x [])
     by (k ∷ p) = refl
 
-effect_root : (e : Effect) (x : Instances) → body_at [] (instances_after e x) ≡ body_at [] x
+effect_root : (e : StatementEffect) (x : Instances) → body_at [] (instances_after e x) ≡ body_at [] x
 unfolding instances_after
 effect_root (Output from ip name values) x = refl
 effect_root (Connect a b) x = refl
@@ -86,7 +81,7 @@ effect_root (Remove p k) x =
     ap (option_map (λ j. j.body)) (map.get-retain_keys x (λ q. not (is_inside (child p k) q)) [] (λ q tie. ap (λ r. not (is_inside (child p k) r)) (sym (apart [] q tie)))
     ∙ ap (λ b. cond (not b) (map.get x []) None) (above_all p k))
 
-all_root : (es : List Effect) (a : Acting) → body_at [] (after_all es a).situation.core.instances ≡ body_at [] a.situation.core.instances
+all_root : (es : List StatementEffect) (a : Acting) → body_at [] (after_all es a).situation.core.instances ≡ body_at [] a.situation.core.instances
 all_root [] a = refl
 all_root (e ∷ es) a = all_root es (acting_after e a) ∙ effect_root e a.situation.core.instances
 
@@ -110,7 +105,7 @@ first_of : (o : Option Instance) → option_map (λ i. i.body) o ≡ option_map 
 first_of None = refl
 first_of (Some i) = refl
 
-module _ (s : Subject) (n : ℕ) (g : Situation) (image : Image) (effects : List LoggedEffect) (left : ℕ) (f : Firing) where
+module _ (s : Subject) (n : ℕ) (g : Situation) (image : Image) (effects : List Effect) (left : ℕ) (f : Firing) where
   -- the root's own record is that of the image
   of_root : (p : IsPut s [] n g image effects left f) → body_at [] (put [] p.log image.parts (begun g)).situation.core.instances ≡ body_at [] (after_all p.log (begun g)).situation.core.instances
   of_root p =
@@ -134,7 +129,7 @@ module _ (s : Subject) (n : ℕ) (g : Situation) (image : Image) (effects : List
       let inner : Instances = map.retain_keys y (is_inside (k ∷ m)) in
       ap (λ ps. body_at [] (fold insert_part others ps)) p.private.parts
       ∙ ap (option_map (λ i. i.body)) (get_inserted others (map.entries inner) (map.entries_sorted inner) []
-      ∙ ap (λ o. or_else o (map.get others [])) (sym (map.get-entries inner []) ∙ get_inside y (k ∷ m) [])
+      ∙ ap (λ o. option_or o (map.get others [])) (sym (map.get-entries inner []) ∙ get_inside y (k ∷ m) [])
       ∙ map.get-retain_keys x (λ q. not (is_inside (k ∷ m) q)) [] (λ q tie. ap (λ r. not (is_inside (k ∷ m) r)) (sym (apart [] q tie))))
 
   pub root_stays : (m : Path) (p : IsPut s m n g image effects left f) → body_at [] (put m p.log image.parts (begun g)).situation.core.instances ≡ body_at [] g.core.instances

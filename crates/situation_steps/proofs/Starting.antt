@@ -6,7 +6,7 @@ use Rattle.std.specs.FinMap as map
 use Rattle.std.specs.FinMap.{get-empty}
 use Rattle.estelle_tree.specs.Paths.{Path}
 use Rattle.estelle_tree.specs.Timers.{Timers, pair, pair_cmp}
-use Rattle.estelle_model.specs.declared.effect.Effect.{Effect as LoggedEffect}
+use Rattle.estelle_model.specs.declared.effect.Effect.{Effect}
 use Rattle.estelle_model.specs.declared.event.Event.{Event}
 use Rattle.estelle_model.specs.declared.event.Event.TheVariants.{Start}
 use Rattle.estelle_model.specs.declared.image.Image.{Image}
@@ -46,7 +46,7 @@ same_paths : (ps : List Path) → each (λ (x : System). x.path) (each first_kep
 same_paths [] = refl
 same_paths (p ∷ ps) = ap (λ (qs : List Path). p ∷ qs) (same_paths ps)
 
-module _ (s : Subject) (leads : LeadsToStates s) (budget : ℕ) (image : Image) (effects : List LoggedEffect) (left : ℕ) (p : IsPut s [] 0 (bare s) image effects left (start s budget)) where
+module _ (s : Subject) (leads : LeadsToStates s) (budget : ℕ) (image : Image) (effects : List Effect) (left : ℕ) (p : IsPut s [] 0 (bare s) image effects left (start s budget)) where
   abbrev a : Acting
   a = put [] p.log image.parts (begun (bare s))
 

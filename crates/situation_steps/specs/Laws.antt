@@ -6,7 +6,7 @@ use Rattle.estelle_tree.specs.Paths.{Path}
 use Rattle.estelle_tree.specs.Timers.{pair, next_due}
 use Rattle.estelle_model.specs.declared.event.Event.{Event}
 use Rattle.estelle_model.specs.declared.event.Event.TheVariants.{Start, Select, Fire}
-use Rattle.estelle_model.specs.declared.effect.Effect.{Effect as LoggedEffect}
+use Rattle.estelle_model.specs.declared.effect.Effect.{Effect}
 use Rattle.estelle_model.specs.declared.image.Image.{Image}
 use Rattle.estelle_model.specs.Subject.{Subject}
 use Rattle.estelle_model.specs.Situation.{Situation, Acting}
@@ -35,7 +35,7 @@ pub record HasBegun (s : Subject) (budget : ℕ) (a : Acting) (systems : List Sy
   pub situation_is : situation s budget (Start a.outs a.drops ∷ []) ≡ a.situation
 
 abbrev pub StartsGoOn : Type 0
-StartsGoOn = (s : Subject) → LeadsToStates s → (budget : ℕ) (image : Image) (effects : List LoggedEffect) (left : ℕ) (p : IsPut s [] 0 (bare s) image effects left (start s budget))
+StartsGoOn = (s : Subject) → LeadsToStates s → (budget : ℕ) (image : Image) (effects : List Effect) (left : ℕ) (p : IsPut s [] 0 (bare s) image effects left (start s budget))
     → (systems : List System) → systems ≡ each first_kept (systems_of s (put [] p.log image.parts (begun (bare s))).situation)
     → HasBegun s budget (put [] p.log image.parts (begun (bare s))) systems
 
@@ -74,7 +74,7 @@ abbrev pub FiringsGoOn : Type 0
 FiringsGoOn = (s : Subject) → LeadsToStates s → (budget : ℕ) (events : List Event) (time : Time) (systems : List System) → IsUnderWay s budget events time systems
     → (m : Path) (n : ℕ) → Contains (situation s budget events).pending (pair m n)
     → (g : Situation) → g ≡ taken_by s (situation s budget events) m (transition_at s n (map.get (situation s budget events).core.instances m))
-    → (image : Image) (effects : List LoggedEffect) (left : ℕ) (p : IsPut s m n g image effects left (fire s budget (situation s budget events) m n))
+    → (image : Image) (effects : List Effect) (left : ℕ) (p : IsPut s m n g image effects left (fire s budget (situation s budget events) m n))
     → HasFired s budget events time systems m n (put m p.log image.parts (begun g)) (arrivals p.log (begun g))
 
 -- ---- waits

@@ -4,7 +4,7 @@ use Rattle.std.specs.List.{list_any}
 use Rattle.std.specs.FinMap as map
 use Rattle.estelle_tree.specs.Paths.{Path, is_inside}
 use Rattle.estelle_tree.specs.Timers.{pair}
-use Rattle.estelle_model.specs.declared.effect.Effect.{Effect as LoggedEffect}
+use Rattle.estelle_model.specs.declared.effect.Effect.{Effect}
 use Rattle.estelle_model.specs.declared.event.Event.TheVariants.{Fire}
 use Rattle.estelle_model.specs.declared.image.Image.{Image}
 use Rattle.estelle_model.specs.Subject.{Subject}
@@ -33,5 +33,5 @@ pub record LeavesOthers (s : Subject) (budget : ℕ) (before after : Situation) 
 abbrev pub FiringsLeaveOthers : Type 0
 FiringsLeaveOthers = (s : Subject) → LeadsToStates s → (budget : ℕ) (g : Situation) → IsLegal s g → (m : Path) (n : ℕ) → Contains g.pending (pair m n)
     → (h : Situation) → h ≡ taken_by s g m (transition_at s n (map.get g.core.instances m))
-    → (image : Image) (effects : List LoggedEffect) (left : ℕ) (p : IsPut s m n h image effects left (fire s budget g m n))
+    → (image : Image) (effects : List Effect) (left : ℕ) (p : IsPut s m n h image effects left (fire s budget g m n))
     → LeavesOthers s budget g (next s budget g (Fire m n (put m p.log image.parts (begun h)).outs (put m p.log image.parts (begun h)).drops)) m (arrivals p.log (begun h))

@@ -7,9 +7,9 @@ use Rattle.pascal_values.specs.declared.value.Value.{Value}
 use Rattle.estelle_tree.specs.Paths.{Path, path_cmp, child, is_inside}
 use Rattle.estelle_model.specs.declared.effect.Out.{Out}
 use Rattle.estelle_model.specs.Core.{Instance, Instances}
-use Rattle.estelle_model.specs.Effects.{Effect, Output, Connect, Disconnect, Attach, Detach, Create, Remove, Change, Store, Hold, Enter, born, changed, changed_in, instances_after}
+use Rattle.estelle_model.specs.Effects.{StatementEffect, Output, Connect, Disconnect, Attach, Detach, Create, Remove, Change, Store, Hold, Enter, born, changed, changed_in, instances_after}
 use Rattle.estelle_model.specs.Effects as effects
-use Rattle.estelle_model.specs.Steps.{Outcome, ◌>>◌}
+use Rattle.estelle_model.specs.Steps.{StepResult, ◌>>◌}
 use Rattle.estelle_model.specs.Transitions.{Transition, When}
 use Rattle.estelle_model.specs.Subject.{Subject, meant, meant_with, of_block, begins, transition}
 use Rattle.estelle_model.specs.Situation.{Situation, Acting, situation_after, made_after}
@@ -21,7 +21,8 @@ use Rattle.estelle_model.specs.Firing.{Firing, Ran, Failed, Undefined, begun, do
 use Rattle.estelle_model.proofs.Maps.{total, apart}
 use Rattle.estelle_model.proofs.PrivateParts.{get_changed, same_path}
 use Rattle.situation_units.specs.Counting.{births_of, births_at, IsWithinUnits, FiringsAreWithin, StartsAreWithin}
-use Rattle.situation_units.proofs.Weights.{IsFree, Weighs, More, block_less}
+use Rattle.estelle_model.proofs.KeptActions.{IsFree}
+use Rattle.situation_units.proofs.Weights.{Weighs, More, block_less}
 
 -- ---- outputs
 
@@ -29,7 +30,7 @@ made_weighs : Weighs (λ g. g.made)
 unfolding made_after
 made_weighs = record { free = free; output = λ from ip name values g. omega arith; create = λ p k i new g. omega arith; keeps = λ p change g. omega arith }
   where
-    free : (e : Effect) → IsFree e → (g : Situation) → (situation_after e g).made ≤ g.made
+    free : (e : StatementEffect) → IsFree e → (g : Situation) → (situation_after e g).made ≤ g.made
     free (Output from ip name values) h g = absurd h
     free (Create p k i) h g = absurd h
     free (Connect a b) h g = omega arith
@@ -90,7 +91,7 @@ module _ (q : Path) where
   unfolding instances_after
   births_weigh = record { free = free; output = λ from ip name values g. omega arith; create = λ p k i new g. created p k i new g.core.instances; keeps = λ p change g. kept p change g.core.instances }
     where
-      free : (e : Effect) → IsFree e → (g : Situation) → births_at q (situation_after e g) ≤ births_at q g
+      free : (e : StatementEffect) → IsFree e → (g : Situation) → births_at q (situation_after e g) ≤ births_at q g
       free (Output from ip name values) h g = absurd h
       free (Create p k i) h g = absurd h
       free (Connect a b) h g = omega arith
@@ -108,7 +109,7 @@ Within W budget g (Failed kind left) = Unit {0}
 Within W budget g Undefined = Unit {0}
 
 module _ (W : Situation → ℕ) (weighs : Weighs W) (s : Subject) (budget : ℕ) where
-  done_within : (g : Situation) (o : Outcome Acting (Unit {0})) → More W 0 (Unit {0}) (fresh (begun g) budget) o → Within W budget g (done o)
+  done_within : (g : Situation) (o : StepResult Acting (Unit {0})) → More W 0 (Unit {0}) (fresh (begun g) budget) o → Within W budget g (done o)
   done_within g (Ok r) h = omega (arith, h)
   done_within g (Err e) h = tt
 

@@ -6,7 +6,7 @@ use Rattle.estelle_tree.specs.declared.tree.specification.Spec.{Spec}
 use Rattle.estelle_tree.specs.Lexed.{IsLexed, IsBlankFrom}
 use Rattle.estelle_tree.specs.Spells.{Spells}
 use Rattle.estelle_lexer.proofs.Answers as lexing
-use Rattle.estelle_printer.specs.Canonical.{bare, canonical}
+use Rattle.estelle_printer.specs.Canonical.{without_places, canonical}
 use Rattle.estelle_printer.specs.Forms.{Tokens}
 use Rattle.estelle_printer.specs.Laws.{IsReadAs}
 use Rattle.estelle_printer.proofs.LexingLaws.{is_lexed}
@@ -18,7 +18,7 @@ use Rattle.spec_maker.proofs.Tokens.{ring_tokens}
 use Rattle.spec_maker.proofs.Sentence.{ring_spells}
 use Rattle.spec_maker.proofs.Text.{ring_text}
 
-bare_unplaced : (ts : Tokens) → bare (unplaced ts) ≡ ts
+bare_unplaced : (ts : Tokens) → without_places (unplaced ts) ≡ ts
 bare_unplaced [] = refl
 bare_unplaced (t ∷ ts) = ap (λ (us : List Token). t ∷ us) (bare_unplaced ts)
 
@@ -26,7 +26,7 @@ module _ (n : ℕ) (some : 1 ≤ n) (few : n ≤ 200) where
   abbrev plain : List Placed
   plain = unplaced (ring_tokens n)
 
-  same_text : canonical (bare plain) ≡ ring n
+  same_text : canonical (without_places plain) ≡ ring n
   same_text = ap canonical (bare_unplaced (ring_tokens n)) ∙ ring_text n
 
   read : IsReadAs (ring n) plain
@@ -39,8 +39,8 @@ module _ (n : ℕ) (some : 1 ≤ n) (few : n ≤ 200) where
     one : (tokens ≡ read.lexed) × (rest ≡ read.rest)
     one = lexing.one_list (ring n) tokens read.lexed rest read.rest cut read.cut
 
-    same : bare tokens ≡ bare plain
-    same = ap bare one.0 ∙ read.same
+    same : without_places tokens ≡ without_places plain
+    same = ap without_places one.0 ∙ read.same
 
     pub ring_tree : (spec : Spec) × Spells spec tokens
     ring_tree =

@@ -5,7 +5,7 @@ use Rattle.estelle_tree.specs.Input.{Input, kind, left}
 use Rattle.estelle_tree.specs.Spelling.{Spelling, Chain}
 use Rattle.estelle_tree.specs.Beginning.{Beginning, Nothing, ◌or◌, Then, After, AfterOne, OneToken, Opens, Many}
 use Rattle.token_reader.specs.declared.error.ReadError.TheVariants.{Refused, Memory}
-use Rattle.token_reader.specs.Reader.{Parser, Outcome, and_then}
+use Rattle.token_reader.specs.Reader.{Parser, ReadResult, and_then}
 use Rattle.syntax_places.specs.Places.{Reach}
 use Rattle.syntax_places.specs.Onward.{Below}
 use Rattle.syntax_places.specs.Placed.{stop, Begun}
@@ -13,32 +13,32 @@ use Rattle.syntax_places.proofs.Steps.{reach_on, below_more, below_from}
 
 -- ---- where a parser stops
 
-pub below_stop : {A : Type 0} (i : Input) (n : ℕ) (o : Outcome A) → Below i n o → stop o < n
+pub below_stop : {A : Type 0} (i : Input) (n : ℕ) (o : ReadResult A) → Below i n o → stop o < n
 below_stop i n (Ok p) b = b.fits.1
 below_stop i n (Err (Refused l)) b = b.fits
 below_stop i n (Err Memory) b = absurd b.fits
 
 -- what comes after a step only goes on
-pub on_more : {A C : Type 0} (i : Input) (n : ℕ) (o : Outcome A) (f : A → Parser C) → Below i n o → ((x : A) (a : Input) → o ≡ Ok (x, a) → Below a (suc (left a)) (f x a)) → Below i n (and_then o f)
+pub on_more : {A C : Type 0} (i : Input) (n : ℕ) (o : ReadResult A) (f : A → Parser C) → Below i n o → ((x : A) (a : Input) → o ≡ Ok (x, a) → Below a (suc (left a)) (f x a)) → Below i n (and_then o f)
 on_more i n (Ok p) f b more =
     let less = b.fits.1 in
     below_from i p.1 n (f p.0 p.1) b.fits.0 (below_more p.1 (suc (left p.1)) n (f p.0 p.1) (omega arith) (more p.0 p.1 refl))
 on_more i n (Err (Refused l)) f b more = record { fits = b.fits }
 on_more i n (Err Memory) f b more = absurd b.fits
 
-pub stop_more : {A C : Type 0} (o : Outcome A) (f : A → Parser C) → ((x : A) (a : Input) → o ≡ Ok (x, a) → Below a (suc (left a)) (f x a)) → stop (and_then o f) ≤ stop o
+pub stop_more : {A C : Type 0} (o : ReadResult A) (f : A → Parser C) → ((x : A) (a : Input) → o ≡ Ok (x, a) → Below a (suc (left a)) (f x a)) → stop (and_then o f) ≤ stop o
 stop_more (Ok p) f more = let less = below_stop p.1 (suc (left p.1)) (f p.0 p.1) (more p.0 p.1 refl) in omega arith
 stop_more (Err (Refused l)) f more = omega arith
 stop_more (Err Memory) f more = omega arith
 
 -- a refusal of two steps is one of the first or of the second
-pub refused_by : {A C X : Type 0} (o : Outcome A) (f : A → Parser C) (l : ℕ) → and_then o f ≡ Err (Refused l) → (o ≡ Err (Refused l) → X) → ((x : A) (a : Input) → o ≡ Ok (x, a) → f x a ≡ Err (Refused l) → X) → X
+pub refused_by : {A C X : Type 0} (o : ReadResult A) (f : A → Parser C) (l : ℕ) → and_then o f ≡ Err (Refused l) → (o ≡ Err (Refused l) → X) → ((x : A) (a : Input) → o ≡ Ok (x, a) → f x a ≡ Err (Refused l) → X) → X
 refused_by (Ok p) f l h first second = second p.0 p.1 refl h
 refused_by (Err (Refused n)) f l h first second = first (let same : n ≡ l = cc in ap (λ n. Err (Refused n)) same)
 refused_by (Err Memory) f l h first second = absurd (cc)
 
 -- steps in a row
-pub in_a_row : {A C D : Type 0} (o : Outcome A) (f : A → Parser C) (g : C → Parser D) → and_then o (λ x a. and_then (f x a) g) ≡ and_then (and_then o f) g
+pub in_a_row : {A C D : Type 0} (o : ReadResult A) (f : A → Parser C) (g : C → Parser D) → and_then o (λ x a. and_then (f x a) g) ≡ and_then (and_then o f) g
 in_a_row (Ok p) f g = refl
 in_a_row (Err e) f g = refl
 
@@ -53,7 +53,7 @@ pub begun_here : (B : Beginning) (i : Input) (l : ℕ) → B i i → left i ≡ 
 begun_here B i l b e = record { at = i; reach = (zero, refl); begins = b; count = e }
 
 -- the empty piece is no longer
-pub stays_short : {A : Type 0} (i m : Input) (o : Outcome A) → Below i (suc (left i)) o → i ≡ m → stop o ≤ left m
+pub stays_short : {A : Type 0} (i m : Input) (o : ReadResult A) → Below i (suc (left i)) o → i ≡ m → stop o ≤ left m
 stays_short i m o b e = let less = below_stop i (suc (left i)) o b in let same : left i ≡ left m = ap left e in omega arith
 
 -- a piece that is not empty begins so

@@ -8,7 +8,7 @@ use Rattle.estelle_tree.specs.Spelling.{Spelling, Takes}
 use Rattle.estelle_tree.specs.Types.{IsName}
 use Rattle.estelle_tree.specs.Beginning.{Beginning, Then, After, May}
 use Rattle.estelle_tree.specs.BeginsTypes.{BeginsName}
-use Rattle.token_reader.specs.Reader.{Parser, Outcome, and_then}
+use Rattle.token_reader.specs.Reader.{Parser, ReadResult, and_then}
 use Rattle.token_reader.specs.Lists.{optional, optional_if}
 use Rattle.token_reader.proofs.Complete as reader
 use Rattle.token_reader.proofs.Complete.{Complete}
@@ -30,8 +30,8 @@ named_whole n rest i m j h r = inr (m, name_word n i m h, r)
 -- ---- steps
 
 -- steps in a row are a first step and the rest
-pub regrouped : {A C D : Type 0} (B : Beginning) (i : Input) (o : Outcome A) (f : A → Parser C) (g : C → Parser D) → Placed B i (and_then o (λ x a. and_then (f x a) g)) → Placed B i (and_then (and_then o f) g)
-regrouped {D = D} B i o f g h = subst (λ (o : Outcome D). Placed B i o) (in_a_row o f g) h
+pub regrouped : {A C D : Type 0} (B : Beginning) (i : Input) (o : ReadResult A) (f : A → Parser C) (g : C → Parser D) → Placed B i (and_then o (λ x a. and_then (f x a) g)) → Placed B i (and_then (and_then o f) g)
+regrouped {D = D} B i o f g h = subst (λ (o : ReadResult D). Placed B i o) (in_a_row o f g) h
 
 -- `[x]` and what comes next, where the next kind tells whether x is there
 pub may_placed : {A C : Type 0} (item : Parser A) (P : Spelling A) (B rest : Beginning) (end : reader.After) → Piece item P B end → (begins : Kind → Bool) (i : Input) (f : Option A → Parser C)

@@ -8,7 +8,7 @@ use Rattle.estelle_tree.specs.Spelling as spelling
 use Rattle.estelle_tree.specs.Spelling.{Spelling, Takes, Chain, Separated}
 use Rattle.estelle_tree.specs.Beginning.{Beginning, Nothing, ◌or◌, Then, After, OneToken, Many, Some as Several, Separating}
 use Rattle.token_reader.specs.declared.error.ReadError.TheVariants.{Refused}
-use Rattle.token_reader.specs.Reader.{Parser, Outcome, and_then, sees, take, ◌>>◌}
+use Rattle.token_reader.specs.Reader.{Parser, ReadResult, and_then, sees, take, ◌>>◌}
 use Rattle.token_reader.specs.Lists.{optional, optional_if, behind, behind_if, ended, turn, repeated_from, repeated, first_and, separated, separated_if, several}
 use Rattle.token_reader.proofs.Sound.{Sound, seen_is, optional_sound, behind_sound, behind_if_sound, ended_sound}
 use Rattle.token_reader.proofs.Complete as reader
@@ -51,7 +51,7 @@ module _ {A C : Type 0} (step' : Parser (Option A)) (P : Spelling A) (B rest : B
   turn_first : (n : ℕ) (found : List A) (i : Input) → stop (all (suc n) found i) ≤ stop (step' i)
   unfolding all repeated_from
   turn_first n found i =
-      subst (λ (o : Outcome C). stop o ≤ stop (step' i)) (in_a_row (step' i) (turn found (repeated_from step' n)) f)
+      subst (λ (o : ReadResult C). stop o ≤ stop (step' i)) (in_a_row (step' i) (turn found (repeated_from step' n)) f)
       (stop_more (step' i) (λ x a. and_then (turn found (repeated_from step' n) x a) f) (λ x a e. on_more a (suc (left a)) (turn found (repeated_from step' n) x a) f (turns step' known.on found (repeated_from step' n) (from_onward step' known.on n) x a) (λ xs b e. (more xs b).on)))
 
   -- one turn, as it comes out
@@ -65,7 +65,7 @@ module _ {A C : Type 0} (step' : Parser (Option A)) (P : Spelling A) (B rest : B
 
   -- nothing is read, and the rest comes
   at_rest : (n : ℕ) (found : List A) (i j : Input) → step' i ≡ Ok (None, i) → rest i j → stop (all (suc n) found i) ≤ left j
-  at_rest n found i j e r = subst (λ (o : Outcome C). stop o ≤ left j) (sym (turn_none n found i e)) ((more found i).longest j r)
+  at_rest n found i j e r = subst (λ (o : ReadResult C). stop o ≤ left j) (sym (turn_none n found i e)) ((more found i).longest j r)
 
   -- a piece that begins an item
   an_item : (n : ℕ) (found : List A) (i j : Input) → B i j → stop (all (suc n) found i) ≤ left j
@@ -114,7 +114,7 @@ module _ {A C : Type 0} (step' : Parser (Option A)) (P : Spelling A) (B rest : B
       exact : (left chain.0 ≤ n → stop (all n (found ++ x ∷ []) chain.0) ≤ left j) → step' i ≡ Ok (Some x, chain.0) → stop (all (suc n) found i) ≤ left j
       exact again e =
           let less = known.advances i chain.0 x chain.1 in
-          subst (λ (o : Outcome C). stop o ≤ left j) (sym (turn_some n found i chain.0 x e)) (again (omega arith))
+          subst (λ (o : ReadResult C). stop o ≤ left j) (sym (turn_some n found i chain.0 x e)) (again (omega arith))
 
       by : (left chain.0 ≤ n → stop (all n (found ++ x ∷ []) chain.0) ≤ left j) → (chain.0 ≡ j) ⊎ end chain.0 → stop (all (suc n) found i) ≤ left j
       by again (inr s) = exact again (known.one i chain.0 x chain.1 s)
@@ -151,7 +151,7 @@ module _ {A C : Type 0} (step' : Parser (Option A)) (P : Spelling A) (B rest : B
   pub first_and_placed : (item : Parser A) (Q : Spelling A) (B' : Beginning) → Piece item Q B' end → (i : Input) → Placed (Then B' Q (Many B P rest)) i (and_then (first_and item step' i) f)
   unfolding first_and
   first_and_placed item Q B' piece i =
-      subst (λ (o : Outcome C). Placed (Then B' Q (Many B P rest)) i o) (in_a_row (item i) (λ x. repeated step' (x ∷ [])) f)
+      subst (λ (o : ReadResult C). Placed (Then B' Q (Many B P rest)) i o) (in_a_row (item i) (λ x. repeated step' (x ∷ [])) f)
       (followed item Q B' (Many B P rest) end i (λ x a. and_then (repeated step' (x ∷ []) a) f) piece starts (λ x a is. repeated_placed (x ∷ []) a))
     where
       starts : First (Many B P rest) end

@@ -7,7 +7,7 @@ use Rattle.estelle_tree.specs.Input.{Input, kind, next, left}
 use Rattle.estelle_tree.specs.Spelling as spelling
 use Rattle.estelle_tree.specs.Spelling.{Spelling, Chain, Separated}
 use Rattle.token_reader.specs.declared.error.ReadError.TheVariants.{Refused, Memory}
-use Rattle.token_reader.specs.Reader.{Parser, Outcome, pure, sees, take, ◌>>=◌, ◌>>◌}
+use Rattle.token_reader.specs.Reader.{Parser, ReadResult, pure, sees, take, ◌>>=◌, ◌>>◌}
 use Rattle.token_reader.specs.Lists.{optional_if, optional, behind, behind_if, taking, mark, marked_by, marked, ended, turn, repeated_from, repeated, first_and, separated, separated_if, several}
 use Rattle.token_reader.proofs.Sound.{seen_is}
 use Rattle.token_reader.proofs.Complete.{After, Advances, Shrinks, Complete, sees_takes, behind_advances}
@@ -101,7 +101,7 @@ module _ {A : Type 0} (stepper : Parser (Option A)) (on : IsOnward stepper) wher
   unfolding repeated repeated_from
   repeated_first found i b = go (left i) b
     where
-      none : (o : Outcome (Option A)) → Below i zero o → ⊥
+      none : (o : ReadResult (Option A)) → Below i zero o → ⊥
       none (Ok p) b = let less = b.fits.1 in omega arith
       none (Err (Refused l)) b = let less : l < 0 = b.fits in omega arith
       none (Err Memory) b = b.fits

@@ -13,7 +13,7 @@ use Rattle.estelle_tree.specs.Spelling.{Behind}
 use Rattle.estelle_tree.specs.Types.{IsName, IsNames, IsConst, IsOrdinal, of_sign}
 use Rattle.estelle_tree.specs.Beginning.{Beginning, Nothing, ◌or◌, Then, After, AfterOne, OneToken, MayBeOne, Many}
 use Rattle.estelle_tree.specs.BeginsTypes.{BeginsName, BeginsNames, BeginsConst, BeginsOrdinal}
-use Rattle.token_reader.specs.Reader.{Outcome, and_then, name, number, char}
+use Rattle.token_reader.specs.Reader.{ReadResult, and_then, name, number, char}
 use Rattle.token_reader.specs.Lists.{taking}
 use Rattle.token_reader.proofs.Complete.{Anything}
 use Rattle.expression_parser.proofs.Places.{token_kind}
@@ -85,7 +85,7 @@ pub constant_placed : (i : Input) → Placed BeginsConst i (constant i)
 unfolding constant
 constant_placed i = go (sign_of (kind i)) refl
   where
-    rest : Option Sign → Input → Outcome Const
+    rest : Option Sign → Input → ReadResult Const
     rest s a = constant_by (start i) s (kind a) a
 
     unplain : (o : Sign) → kind i ≡ of_sign o → (m : Input) → Plain i m → i ≡ m

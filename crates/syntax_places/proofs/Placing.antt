@@ -6,7 +6,7 @@ use Rattle.estelle_tree.specs.Input.{Input, kind, next, left}
 use Rattle.estelle_tree.specs.Spelling.{Spelling, Takes}
 use Rattle.estelle_tree.specs.Beginning.{Beginning, Nothing, ◌or◌, Then, After, AfterOne, OneToken, Opens, MayBe, MayBeOne}
 use Rattle.token_reader.specs.declared.error.ReadError.TheVariants.{Refused}
-use Rattle.token_reader.specs.Reader.{Parser, Outcome, and_then, pure, refusal, refuse, sees, after, take, eat, expect, ◌>>◌}
+use Rattle.token_reader.specs.Reader.{Parser, ReadResult, and_then, pure, refusal, refuse, sees, after, take, eat, expect, ◌>>◌}
 use Rattle.token_reader.specs.Lists.{optional, optional_if, behind, taking, mark, marked_by, marked}
 use Rattle.token_reader.proofs.Sound.{Sound, seen_is}
 use Rattle.token_reader.proofs.Complete as reader
@@ -27,7 +27,7 @@ pub record Piece {A : Type 0} (p : Parser A) (P : Spelling A) (B : Beginning) (e
   pub whole : (i j : Input) (x : A) → P x i j → B i j
 
 -- the same pieces begin it
-pub same : {A : Type 0} (B C : Beginning) (i : Input) (o : Outcome A) → ((m : Input) → B i m → C i m) → ((m : Input) → C i m → B i m) → Placed B i o → Placed C i o
+pub same : {A : Type 0} (B C : Beginning) (i : Input) (o : ReadResult A) → ((m : Input) → B i m → C i m) → ((m : Input) → C i m → B i m) → Placed B i o → Placed C i o
 same B C i o to back h = record {
   on = h.on;
   longest = λ m c. h.longest m (back m c);
@@ -35,14 +35,14 @@ same B C i o to back h = record {
 }
 
 -- of two forms the first stands there: nothing begins the other
-pub left_of : {A : Type 0} (B C : Beginning) (i : Input) (o : Outcome A) → Placed B i o → ((m : Input) → C i m → i ≡ m) → Placed (B or C) i o
+pub left_of : {A : Type 0} (B C : Beginning) (i : Input) (o : ReadResult A) → Placed B i o → ((m : Input) → C i m → i ≡ m) → Placed (B or C) i o
 left_of {A} B C i o h empty = record { on = h.on; longest = longest; begun = λ l e. carry (B or C) B i i l (zero, refl) (λ m b. inl b) (h.begun l e) }
   where
     longest : (m : Input) → (B or C) i m → stop o ≤ left m
     longest m (inl b) = h.longest m b
     longest m (inr c) = stays_short i m o h.on (empty m c)
 
-pub right_of : {A : Type 0} (B C : Beginning) (i : Input) (o : Outcome A) → Placed C i o → ((m : Input) → B i m → i ≡ m) → Placed (B or C) i o
+pub right_of : {A : Type 0} (B C : Beginning) (i : Input) (o : ReadResult A) → Placed C i o → ((m : Input) → B i m → i ≡ m) → Placed (B or C) i o
 right_of {A} B C i o h empty = record { on = h.on; longest = longest; begun = λ l e. carry (B or C) C i i l (zero, refl) (λ m c. inr c) (h.begun l e) }
   where
     longest : (m : Input) → (B or C) i m → stop o ≤ left m
@@ -50,14 +50,14 @@ right_of {A} B C i o h empty = record { on = h.on; longest = longest; begun = λ
     longest m (inr c) = h.longest m c
 
 -- each piece that begins the one also begins the other
-pub covered_left : {A : Type 0} (B C : Beginning) (i : Input) (o : Outcome A) → ((m : Input) → B i m → C i m) → Placed C i o → Placed (B or C) i o
+pub covered_left : {A : Type 0} (B C : Beginning) (i : Input) (o : ReadResult A) → ((m : Input) → B i m → C i m) → Placed C i o → Placed (B or C) i o
 covered_left {A} B C i o into h = same C (B or C) i o (λ m c. inr c) back h
   where
     back : (m : Input) → (B or C) i m → C i m
     back m (inl b) = into m b
     back m (inr c) = c
 
-pub covered_right : {A : Type 0} (B C : Beginning) (i : Input) (o : Outcome A) → ((m : Input) → C i m → B i m) → Placed B i o → Placed (B or C) i o
+pub covered_right : {A : Type 0} (B C : Beginning) (i : Input) (o : ReadResult A) → ((m : Input) → C i m → B i m) → Placed B i o → Placed (B or C) i o
 covered_right {A} B C i o into h = same B (B or C) i o (λ m b. inl b) back h
   where
     back : (m : Input) → (B or C) i m → B i m
@@ -65,7 +65,7 @@ covered_right {A} B C i o into h = same B (B or C) i o (λ m b. inl b) back h
     back m (inr c) = into m c
 
 -- a form among others: what it begins with tells that it stands there
-pub pick : {A : Type 0} (B : Beginning) (starts : Input → Type 0) (i : Input) (o : Outcome A) → Below i (suc (left i)) o → First B starts → (starts i → Placed B i o) → (m : Input) → B i m → stop o ≤ left m
+pub pick : {A : Type 0} (B : Beginning) (starts : Input → Type 0) (i : Input) (o : ReadResult A) → Below i (suc (left i)) o → First B starts → (starts i → Placed B i o) → (m : Input) → B i m → stop o ≤ left m
 pick B starts i o on first at m b = by (first i m b)
   where
     by : (i ≡ m) ⊎ starts i → stop o ≤ left m
@@ -98,11 +98,11 @@ refused {A} B i empty only = record {
 }
 
 -- behind it no token is taken and nothing refused
-pub kept : {A C : Type 0} (B : Beginning) (i : Input) (o : Outcome A) (f : A → Parser C) → Placed B i o → ((x : A) (a : Input) → (y : C) × (f x a ≡ Ok (y, a))) → Placed B i (and_then o f)
+pub kept : {A C : Type 0} (B : Beginning) (i : Input) (o : ReadResult A) (f : A → Parser C) → Placed B i o → ((x : A) (a : Input) → (y : C) × (f x a ≡ Ok (y, a))) → Placed B i (and_then o f)
 kept {A} {C} B i o f h stays' = record { on = on_more i (suc (left i)) o f h.on there; longest = longest; begun = begun }
   where
     there : (x : A) (a : Input) → o ≡ Ok (x, a) → Below a (suc (left a)) (f x a)
-    there x a e = let same = stays' x a in subst (λ (o : Outcome C). Below a (suc (left a)) o) (sym same.1) (stays same.0 a)
+    there x a e = let same = stays' x a in subst (λ (o : ReadResult C). Below a (suc (left a)) o) (sym same.1) (stays same.0 a)
 
     longest : (m : Input) → B i m → stop (and_then o f) ≤ left m
     longest m b = let less = stop_more o f there in let short = h.longest m b in omega arith
@@ -122,7 +122,7 @@ followed_where {A} {C} p P B rest end i f placed complete whole first more spell
     there x a e = (more x a e).on
 
     exact : (x : A) (a m : Input) → p i ≡ Ok (x, a) → rest a m → stop (and_then (p i) f) ≤ left m
-    exact x a m e r = subst (λ (o : Outcome A). stop (and_then o f) ≤ left m) (sym e) ((more x a e).longest m r)
+    exact x a m e r = subst (λ (o : ReadResult A). stop (and_then o f) ≤ left m) (sym e) ((more x a e).longest m r)
 
     longest : (m : Input) → Then B P rest i m → stop (and_then (p i) f) ≤ left m
     longest m (inl b) = let less = stop_more (p i) f there in let short = (placed i).longest m b in omega arith
@@ -151,7 +151,7 @@ followed p P B rest end i f piece first more =
 -- ---- one token and what comes next
 
 -- the token that comes
-pub taken : {A : Type 0} (kind' : Kind) (rest : Beginning) (i : Input) (o : Outcome A) → kind i ≡ kind' → Placed rest (next i) o → Placed (After kind' rest) i o
+pub taken : {A : Type 0} (kind' : Kind) (rest : Beginning) (i : Input) (o : ReadResult A) → kind i ≡ kind' → Placed rest (next i) o → Placed (After kind' rest) i o
 taken {A} kind' rest i o is h = record { on = on; longest = longest; begun = begun }
   where
     on : Below i (suc (left i)) o
@@ -185,7 +185,7 @@ other_token kind' i differs m (inl e) = e
 other_token kind' i differs m (inr t) = absurd (differs t.kind)
 
 -- the last token
-pub one_token : {A : Type 0} (kind' : Kind) (i : Input) (o : Outcome A) → Placed (After kind' Nothing) i o → Placed (OneToken kind') i o
+pub one_token : {A : Type 0} (kind' : Kind) (i : Input) (o : ReadResult A) → Placed (After kind' Nothing) i o → Placed (OneToken kind') i o
 one_token {A} kind' i o h = same (After kind' Nothing) (OneToken kind') i o to back h
   where
     to : (m : Input) → After kind' Nothing i m → OneToken kind' i m
@@ -202,7 +202,7 @@ last_token kind' i f stays' =
     one_token kind' i _ (expected kind' Nothing i f (λ b t. let same = stays' b in subst (λ o. Placed Nothing b o) (sym same.1) (done same.0 b)))
 
 -- one token, and behind it the one or the other
-pub after_either : {A : Type 0} (kind' : Kind) (B C : Beginning) (i : Input) (o : Outcome A) → Placed (After kind' (B or C)) i o → Placed (After kind' B or After kind' C) i o
+pub after_either : {A : Type 0} (kind' : Kind) (B C : Beginning) (i : Input) (o : ReadResult A) → Placed (After kind' (B or C)) i o → Placed (After kind' B or After kind' C) i o
 after_either {A} kind' B C i o h = same (After kind' (B or C)) (After kind' B or After kind' C) i o to back h
   where
     to : (m : Input) → After kind' (B or C) i m → (After kind' B or After kind' C) i m
@@ -221,7 +221,7 @@ after_either {A} kind' B C i o h = same (After kind' (B or C)) (After kind' B or
 
 -- ---- a token that opens a level
 
-pub opened : {A : Type 0} (room : ℕ) (kind' : Kind) (rest : Beginning) (i : Input) (o : Outcome A) → 0 < room → Placed (After kind' rest) i o → Placed (Opens room kind' rest) i o
+pub opened : {A : Type 0} (room : ℕ) (kind' : Kind) (rest : Beginning) (i : Input) (o : ReadResult A) → 0 < room → Placed (After kind' rest) i o → Placed (Opens room kind' rest) i o
 opened {A} room kind' rest i o fits h = same (After kind' rest) (Opens room kind' rest) i o to back h
   where
     to : (m : Input) → After kind' rest i m → Opens room kind' rest i m
@@ -302,7 +302,7 @@ module _ {O : Type 0} (of : Kind → Option O) (kinds : O → Kind) (forth : (o 
   unmarked rest i none m (inr t) = absurd (let no : Some t.0 ≡ None = sym (forth t.0) ∙ (ap of (sym t.2.kind) ∙ none) in cc)
 
   -- one comes
-  pub taken_one : {A : Type 0} (rest : Beginning) (i : Input) (out : Outcome A) (o : O) → kind i ≡ kinds o → Placed rest (next i) out → Placed (AfterOne kinds rest) i out
+  pub taken_one : {A : Type 0} (rest : Beginning) (i : Input) (out : ReadResult A) (o : O) → kind i ≡ kinds o → Placed rest (next i) out → Placed (AfterOne kinds rest) i out
   taken_one {A} rest i out o is h = same (After (kinds o) rest) (AfterOne kinds rest) i out to from (taken (kinds o) rest i out is h)
     where
       to : (m : Input) → After (kinds o) rest i m → AfterOne kinds rest i m

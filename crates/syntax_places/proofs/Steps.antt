@@ -13,7 +13,7 @@ use Rattle.estelle_tree.specs.Kind.{kind_of, kind_of_symbol}
 use Rattle.estelle_tree.specs.Input.{Input, first_kind, first_token, kind, next, left, skip, token_at}
 use Rattle.estelle_tree.specs.Spelling.{Spelling}
 use Rattle.token_reader.specs.declared.error.ReadError.TheVariants.{Refused, Memory}
-use Rattle.token_reader.specs.Reader.{Parser, Outcome, and_then, pure, refusal, refuse, sees, after, eat, expect, name, name_in, number, number_in, char, char_in}
+use Rattle.token_reader.specs.Reader.{Parser, ReadResult, and_then, pure, refusal, refuse, sees, after, eat, expect, name, name_in, number, number_in, char, char_in}
 use Rattle.token_reader.proofs.Complete.{next_left, next_left_more, sees_takes, expect_complete}
 use Rattle.syntax_places.specs.Places.{Reach}
 use Rattle.syntax_places.specs.Onward.{Below, IsOnward}
@@ -29,17 +29,17 @@ reach_on i a j one more = reach_from one.0 i a j one.1 more
 
 -- ---- what comes after a step
 
-pub below_more : {A : Type 0} (i : Input) (m n : ℕ) (o : Outcome A) → m ≤ n → Below i m o → Below i n o
+pub below_more : {A : Type 0} (i : Input) (m n : ℕ) (o : ReadResult A) → m ≤ n → Below i m o → Below i n o
 below_more i m n (Ok p) le b = let less = b.fits.1 in record { fits = (b.fits.0, omega arith) }
 below_more i m n (Err (Refused l)) le b = let less : l < m = b.fits in record { fits = omega arith }
 below_more i m n (Err Memory) le b = absurd b.fits
 
-pub below_from : {A : Type 0} (i a : Input) (n : ℕ) (o : Outcome A) → Reach i a → Below a n o → Below i n o
+pub below_from : {A : Type 0} (i a : Input) (n : ℕ) (o : ReadResult A) → Reach i a → Below a n o → Below i n o
 below_from i a n (Ok p) r b = record { fits = (reach_on i a p.1 r b.fits.0, b.fits.1) }
 below_from i a n (Err (Refused l)) r b = record { fits = b.fits }
 below_from i a n (Err Memory) r b = absurd b.fits
 
-pub step : {A B : Type 0} (i : Input) (n : ℕ) (o : Outcome A) (f : A → Parser B) → Below i n o → ((x : A) → IsOnward (f x)) → Below i n (and_then o f)
+pub step : {A B : Type 0} (i : Input) (n : ℕ) (o : ReadResult A) (f : A → Parser B) → Below i n o → ((x : A) → IsOnward (f x)) → Below i n (and_then o f)
 step i n (Ok p) f b on =
     let less = b.fits.1 in
     below_from i p.1 n (f p.0 p.1) b.fits.0 (below_more p.1 (suc (left p.1)) n (f p.0 p.1) (omega arith) (on p.0 p.1))
@@ -142,7 +142,7 @@ chars_one i = go (token_at i)
 -- ---- what is read of a piece
 
 -- from the place on it reads this thing and comes to this place, or it goes on behind that
-abbrev pub Reached : {A : Type 0} → Input → A → Input → Outcome A → Type 0
+abbrev pub Reached : {A : Type 0} → Input → A → Input → ReadResult A → Type 0
 Reached i x m o = (o ≡ Ok (x, m)) ⊎ Below i (left m) o
 
 abbrev pub Reaches : {A : Type 0} → Parser A → Spelling A → Type 0
@@ -152,7 +152,7 @@ Reaches {A} p P = (i m : Input) (x : A) → P x i m → Reached i x m (p i)
 pub reads_on : {A : Type 0} (p : Parser A) (i m : Input) (x : A) → IsOnward p → p i ≡ Ok (x, m) → Reach i m
 reads_on p i m x on e = let b : Below i (suc (left i)) (Ok (x, m)) = subst (λ o. Below i (suc (left i)) o) e (on i) in b.fits.0
 
-pub reached_from : {A : Type 0} (i a m : Input) (x : A) (o : Outcome A) → Reach i a → Reached a x m o → Reached i x m o
+pub reached_from : {A : Type 0} (i a m : Input) (x : A) (o : ReadResult A) → Reach i a → Reached a x m o → Reached i x m o
 reached_from i a m x o r (inl e) = inl e
 reached_from i a m x o r (inr b) = inr (below_from i a (left m) o r b)
 

@@ -4,12 +4,12 @@ use Rattle.std.specs.Prelude.{◌≡◌, ℕ, suc, ◌≤◌, Ok, Err}
 use Rattle.estelle_tree.specs.Input.{Input, left}
 use Rattle.estelle_tree.specs.Beginning.{Beginning}
 use Rattle.token_reader.specs.declared.error.ReadError.TheVariants.{Refused, Memory}
-use Rattle.token_reader.specs.Reader.{Outcome}
+use Rattle.token_reader.specs.Reader.{ReadResult}
 use Rattle.syntax_places.specs.Places.{Reach}
 use Rattle.syntax_places.specs.Onward.{Below}
 
 -- how many tokens are left where it stops
-abbrev pub stop : {A : Type 0} → Outcome A → ℕ
+abbrev pub stop : {A : Type 0} → ReadResult A → ℕ
 stop (Ok p) = left p.1
 stop (Err (Refused l)) = l
 stop (Err Memory) = 0
@@ -22,7 +22,7 @@ pub record Begun (B : Beginning) (i : Input) (l : ℕ) : Type 0 where
   pub count : left at ≡ l
 
 -- of what a parser answers at a place
-pub record Placed {A : Type 0} (B : Beginning) (i : Input) (o : Outcome A) : Type 0 where
+pub record Placed {A : Type 0} (B : Beginning) (i : Input) (o : ReadResult A) : Type 0 where
   -- it stops there or further on
   pub on : Below i (suc (left i)) o
   pub longest : (m : Input) → B i m → stop o ≤ left m

@@ -11,7 +11,7 @@ use Rattle.estelle_tree.specs.Input.{Input, kind, next, token_at, between}
 use Rattle.estelle_tree.specs.Spelling as spelling
 use Rattle.estelle_tree.specs.Spelling.{Spelling, Takes, Flag, Mark, Chain, Several, Separated}
 use Rattle.estelle_tree.specs.Types.{IsName, IsNumber, IsChar}
-use Rattle.token_reader.specs.Reader.{Parser, Outcome, and_then, pure, refusal, refuse, sees, after, ◌>>◌, take, eat, expect, name, name_in, number, number_in, char, char_in}
+use Rattle.token_reader.specs.Reader.{Parser, ReadResult, and_then, pure, refusal, refuse, sees, after, ◌>>◌, take, eat, expect, name, name_in, number, number_in, char, char_in}
 use Rattle.token_reader.specs.Lists.{optional, optional_if, behind, behind_if, taking, mark, marked_by, marked, ended, turn, repeated_from, repeated, first_and, separated, separated_if, several}
 
 abbrev pub Sound : {A : Type 0} → Parser A → Spelling A → Type 0
@@ -23,7 +23,7 @@ unfolding sees
 seen_is kind' i e = same_true the_type (search rules) _ _ e
 
 -- an answer of two steps comes from an answer of each
-pub through : {A B C : Type 0} (o : Outcome A) (f : A → Parser B) (y : B × Input) → and_then o f ≡ Ok y → ((x : A) (m : Input) → o ≡ Ok (x, m) → f x m ≡ Ok y → C) → C
+pub through : {A B C : Type 0} (o : ReadResult A) (f : A → Parser B) (y : B × Input) → and_then o f ≡ Ok y → ((x : A) (m : Input) → o ≡ Ok (x, m) → f x m ≡ Ok y → C) → C
 through (Ok p) f y h go = go p.0 p.1 refl h
 through (Err e) f y h go = absurd (cc)
 

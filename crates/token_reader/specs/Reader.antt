@@ -13,18 +13,18 @@ use Rattle.estelle_tree.specs.Spans.{nowhere}
 use Rattle.token_reader.specs.declared.error.ReadError.{ReadError}
 use Rattle.token_reader.specs.declared.error.ReadError.TheVariants.{Refused, Memory}
 
-abbrev pub Outcome : Type 0 → Type 0
-Outcome A = Result (A × Input) ReadError
+abbrev pub ReadResult : Type 0 → Type 0
+ReadResult A = Result (A × Input) ReadError
 
 abbrev pub Parser : Type 0 → Type 0
-Parser A = Input → Outcome A
+Parser A = Input → ReadResult A
 
 -- what a function that parses ensures: it answers what the parser does, or memory fails
-abbrev pub Reads : {A : Type 0} → Outcome A → Result A ReadError → Input → Type 0
+abbrev pub Reads : {A : Type 0} → ReadResult A → Result A ReadError → Input → Type 0
 Reads outcome (Ok a) new = outcome ≡ Ok (a, new)
 Reads outcome (Err e) new = e ≢ Memory → outcome ≡ Err e
 
-abbrev pub and_then : {A B : Type 0} → Outcome A → (A → Parser B) → Outcome B
+abbrev pub and_then : {A B : Type 0} → ReadResult A → (A → Parser B) → ReadResult B
 and_then (Ok p) f = f p.0 p.1
 and_then (Err e) f = Err e
 

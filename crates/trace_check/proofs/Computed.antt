@@ -6,13 +6,13 @@ use Rattle.std.proofs.lemmas.List.Sums.{sum_by-cons}
 use Rattle.pascal_values.specs.declared.fault.Fault.{Fault}
 use Rattle.estelle_tree.specs.Paths.{Path}
 use Rattle.estelle_tree.specs.Timers.{pair}
-use Rattle.estelle_model.specs.declared.effect.Effect.{Effect as LoggedEffect}
+use Rattle.estelle_model.specs.declared.effect.Effect.{Effect}
 use Rattle.estelle_model.specs.declared.effect.Out.{Out}
 use Rattle.estelle_model.specs.declared.image.Image.{Image}
 use Rattle.estelle_model.specs.declared.job.Done.{Done}
 use Rattle.estelle_model.specs.declared.job.Outcome.{Outcome}
 use Rattle.estelle_model.specs.declared.job.Outcome.TheVariants as outcome
-use Rattle.estelle_model.specs.Effects.{Effect, Output, Connect, Disconnect, Attach, Detach, Create, Remove}
+use Rattle.estelle_model.specs.Effects.{StatementEffect, Output, Connect, Disconnect, Attach, Detach, Create, Remove}
 use Rattle.estelle_model.specs.Transitions.{Transition, When}
 use Rattle.estelle_model.specs.Subject.{Subject}
 use Rattle.estelle_model.specs.Situation.{Situation, Acting, acting_after, made_after}
@@ -92,12 +92,12 @@ module _ (s : Subject) (budget : ℕ) (g : Situation) (legal : IsLegal s g) wher
 -- ---- the count of outputs
 
 -- outputs are counted
-made_all : (s : Subject) (es : List Effect) (a : Acting) → (after_all es a).situation.made ≡ a.situation.made + outputs_in (all_logged s es)
+made_all : (s : Subject) (es : List StatementEffect) (a : Acting) → (after_all es a).situation.made ≡ a.situation.made + outputs_in (all_logged s es)
 unfolding made_after
 made_all s [] a = omega arith
 made_all s (e ∷ es) a = one e (made_all s es (acting_after e a)) (sum_by-cons outputs_of (logged_as s e) (all_logged s es))
   where
-    one : (e : Effect) → (after_all es (acting_after e a)).situation.made ≡ (acting_after e a).situation.made + outputs_in (all_logged s es) → outputs_in (all_logged s (e ∷ es)) ≡ outputs_of (logged_as s e) + outputs_in (all_logged s es)
+    one : (e : StatementEffect) → (after_all es (acting_after e a)).situation.made ≡ (acting_after e a).situation.made + outputs_in (all_logged s es) → outputs_in (all_logged s (e ∷ es)) ≡ outputs_of (logged_as s e) + outputs_in (all_logged s es)
         → (after_all es (acting_after e a)).situation.made ≡ a.situation.made + outputs_in (all_logged s (e ∷ es))
     one (Output from ip name values) h sum = omega (arith, h, sum)
     one (Connect x y) h sum = omega (arith, h, sum)
@@ -118,7 +118,7 @@ taken_made s g m (Some t) = by t.when
 -- what was put, by what its log has
 pub record IsPutSo (s : Subject) (g : Situation) (done : Done) (firing : Firing) : Type 0 where
   pub image : Image
-  pub effects : List LoggedEffect
+  pub effects : List Effect
   pub is : done.outcome ≡ outcome.Ran image effects
   pub its : IsPut s done.path done.trans (begun_by s g done).situation image effects done.left firing
 
@@ -133,7 +133,7 @@ module _ (s : Subject) (g : Situation) (done : Done) (f : Firing) (p : IsPutSo s
   pub after_is : after_put s g done ≡ put done.path p.its.log p.image.parts (begun_by s g done)
   after_is =
       (λ i. put done.path (effects_of (log_of (p.is i))) (parts_of (p.is i)) (begun_by s g done))
-      ∙ ap (λ (es : List Effect). put done.path es p.image.parts (begun_by s g done)) (log-is s done.path done.trans (begun_by s g done).situation p.image p.effects done.left f p.its)
+      ∙ ap (λ (es : List StatementEffect). put done.path es p.image.parts (begun_by s g done)) (log-is s done.path done.trans (begun_by s g done).situation p.image p.effects done.left f p.its)
 
   -- so many outputs are made as its log has
   pub made_is : (after_put s g done).situation.made ≡ g.made + outputs_in (log_of done.outcome)

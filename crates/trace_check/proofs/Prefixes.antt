@@ -8,7 +8,7 @@ use Rattle.estelle_model.specs.declared.event.Event.TheVariants.{Start, Select, 
 use Rattle.estelle_model.specs.Subject.{Subject}
 use Rattle.estelle_model.specs.Situation.{Situation}
 use Rattle.estelle_model.specs.Firing.{Firing, Ran, Failed, Undefined, start}
-use Rattle.estelle_model.specs.Runs.{next, Applies, IsLastIfFault, Goes, after_all, Begins, IsRun, started, situation}
+use Rattle.estelle_model.specs.Runs.{next, Applies, IsLastIfFault, Goes, after_events, Begins, IsRun, started, situation}
 use Rattle.estelle_model.specs.Ends.{last_event, IsNoFault}
 
 -- no event, or the last one is no fault
@@ -42,7 +42,7 @@ module _ (s : Subject) (budget : ℕ) where
   pub record EndsBy (g : Situation) (es : List Event) (e : Event) : Type 0 where
     pub goes : Goes s budget g es
     pub no_fault : IsOpenList es
-    pub applies : Applies s budget (after_all s budget g es) e
+    pub applies : Applies s budget (after_events s budget g es) e
 
   Goes-last : (g : Situation) (es : List Event) (e : Event) → Goes s budget g (es ++ e ∷ []) → EndsBy g es e
   Goes-last g [] e h = record { goes = tt; no_fault = tt; applies = h.0 }
@@ -58,7 +58,7 @@ module _ (s : Subject) (budget : ℕ) where
     pub applies : Applies s budget (situation s budget es) e
 
   abbrev Begun : Firing → Event → List Event → Event → Type 0
-  Begun f x es e = Begins s budget f x es × IsNoFault (last_event (x ∷ es)) × Applies s budget (after_all s budget (started s f) es) e
+  Begun f x es e = Begins s budget f x es × IsNoFault (last_event (x ∷ es)) × Applies s budget (after_events s budget (started s f) es) e
 
   Begins-last : (f : Firing) (x : Event) (es : List Event) (e : Event) → Begins s budget f x (es ++ e ∷ []) → Begun f x es e
   Begins-last (Ran g outs drops left) (Start outs' drops') es e h =

@@ -12,7 +12,7 @@ use Rattle.estelle_tree.specs.Spells.{Spells}
 use Rattle.estelle_model.specs.declared.meaning.InteractionKind.{InteractionKind}
 use Rattle.estelle_model.specs.declared.meaning.Meaning.{Meaning}
 use Rattle.estelle_model.specs.declared.meaning.Meaning.TheVariants.{Interaction}
-use Rattle.estelle_model.specs.Actions.{types_of}
+use Rattle.estelle_model.specs.Definitions.{types_received}
 use Rattle.estelle_model.specs.Denoted.{Declarations}
 use Rattle.estelle_model.specs.Names.{meant_by, declared}
 use Rattle.estelle_model.specs.Bodies.{BodyAlone, bodies, bodies_declare, Way, ways_of}
@@ -28,23 +28,26 @@ use Rattle.type_rules.specs.SpecificationSites.{parts, env, sites}
 use Rattle.type_rules.specs.PascalRules.{PascalRuleBroken}
 use Rattle.tree_visits.specs.Visit.{Visit, Begins}
 use Rattle.tree_visits.specs.Visits.{visit_of, visits}
-use Rattle.visit_rules.specs.Breaches.{breach}
+use Rattle.scope_rules.specs.Least.{breach}
 use Rattle.transition_expand.specs.Domains.{known}
 use Rattle.transition_expand.specs.TransitionRules.{breaches, TransitionRuleBroken}
 use Rattle.spec_accept.specs.Rules.{names}
 use Rattle.accepted_states.specs.Laws.{KeepsRules}
 use Rattle.accepted_states.proofs.FitBodies.{declared_apart}
-use Rattle.trace_forms.specs.Types.{IsReadableType, HasFilledArrays}
-use Rattle.trace_forms.specs.Laws.{HasReadableParameters, HasFilledParameters, ParametersAreReadable, RunsHaveForm}
-use Rattle.trace_forms.proofs.TypePlaces.{types_fixed}
+use Rattle.trace_forms.specs.Types.{IsReadableType}
+use Rattle.trace_forms.proofs.FilledTypes.{HasFilledArrays}
+use Rattle.trace_forms.specs.Laws.{HasReadableParameters, ParametersAreReadable, RunsHaveForm}
+use Rattle.trace_forms.proofs.TypePlaces.{types_settled}
 use Rattle.trace_forms.proofs.Firm.{types_readable}
 use Rattle.trace_forms.proofs.Named.{named_stmts, stmts_made}
 use Rattle.trace_forms.proofs.Acts.{Told}
 use Rattle.trace_forms.proofs.Firings.{IsTellable}
-use Rattle.trace_forms.proofs.Declared.{BlockTold, BodyTold, Tells, declared_told}
+use Rattle.trace_forms.proofs.Declared.{BlockTold, BodyTold, Tells, bodies_say, declared_told}
 use Rattle.trace_forms.proofs.Partners.{HasPartner}
 use Rattle.trace_forms.proofs.PartnersSpelled.{specification_follows}
-use Rattle.trace_forms.proofs.Kept.{SiteKept, PlacedKept}
+use Rattle.trace_forms.proofs.Kept.{SiteKept, PlacedKept, PlacedPartKept}
+use Rattle.trace_forms.proofs.Held.{ParametersFilled, all_filled}
+use Rattle.trace_forms.proofs.HeldBodies.{spec_held}
 use Rattle.trace_forms.proofs.Spelled.{IsVisited, SpecTold, spelled_told}
 use Rattle.trace_forms.proofs.Runs.{run_form}
 use Rattle.trace_forms.proofs.Lists.{all_append, all_at, one_front, one_flat, all_ones, one_of_all}
@@ -152,23 +155,33 @@ module _ (spec : Spec) (kept : KeepsRules spec) where
     abbrev declarations : Declarations
     declarations = bodies_declare 0 (bodies spec)
 
+    parts_kept : PlacedPartKept ruled_env spec.span.start (parts spec.parts)
+    parts_kept = (sites_kept, types_settled spec tokens rest spells follow (λ b h. kept b (inl h)))
+
     told : SpecTold ruled_env spec
-    told = spelled_told ruled_env spec tokens spells few (sites_kept, types_fixed spec tokens rest spells follow (λ b h. kept b (inl h)))
+    told = spelled_told ruled_env spec tokens spells few parts_kept
+
+    partnered : (d : meanings.Declaration) → IsOne d ruled → HasPartner (λ x. IsOne x declarations) d
+    partnered d o = one_of_all (HasPartner (λ x. IsOne x declarations)) ruled d (specification_follows (λ x. IsOne x declarations) spec tokens spells spec.span.start (λ x h. h)) o
 
     -- what is told of what each name means
     names_told : (x : Name) → Tells (meanings.known ruled_env x) (meant_by (names_of spec) (declared (names_of spec) declarations) x)
-    names_told = declared_told (names_of spec) ruled (bodies spec) (declared_apart spec tokens rest spells follow)
-        (λ d o. one_of_all (HasPartner (λ x. IsOne x declarations)) ruled d (specification_follows (λ x. IsOne x declarations) spec tokens spells spec.span.start (λ x h. h)) o) told.told
+    names_told = declared_told (names_of spec) ruled (bodies spec) (declared_apart spec tokens rest spells follow) partnered told.told
 
-    own_readable : HasFilledParameters (own spec kept told.seen) → HasReadableParameters (own spec kept told.seen)
-    own_readable filled x kind is = interaction_readable (meanings.known ruled_env x) kind (subst (Tells (meanings.known ruled_env x)) is (names_told x)) (filled x kind is)
+    -- in the types of the parameters of interactions no array is empty
+    names_filled : (x : Name) → ParametersFilled (meant_by (names_of spec) (declared (names_of spec) declarations) x)
+    names_filled =
+        let h = spec_held spec tokens rest spells follow few (λ b h. kept b (inl h)) ruled_env parts_kept in
+        all_filled (names_of spec) ruled declarations (declared_apart spec tokens rest spells follow) partnered h.0 (bodies_say ruled_env 0 (bodies spec) told.told) h.1
+
+    own_readable : HasReadableParameters (own spec kept told.seen)
+    own_readable x kind is = interaction_readable (meanings.known ruled_env x) kind (subst (Tells (meanings.known ruled_env x)) is (names_told x)) (subst ParametersFilled is (names_filled x))
 
 pub parameters_are_readable : ParametersAreReadable
 parameters_are_readable spec uses tokens rest spells follow top is kept =
-    subst (λ us. HasFilledParameters (record { specification = spec; names = us }) → HasReadableParameters (record { specification = spec; names = us })) (sym is)
-    (own_readable spec kept tokens rest spells follow (few_in tokens rest follow top))
+    subst (λ us. HasReadableParameters (record { specification = spec; names = us })) (sym is) (own_readable spec kept tokens rest spells follow (few_in tokens rest follow top))
 
-parameters_readable : (m : Meaning) → ((kind : _) → m ≡ Interaction kind → AllByRecursion IsReadableType kind.parameters) → AllByRecursion IsReadableType (types_of m)
+parameters_readable : (m : Meaning) → ((kind : _) → m ≡ Interaction kind → AllByRecursion IsReadableType kind.parameters) → AllByRecursion IsReadableType (types_received m)
 parameters_readable (Interaction kind) h = h kind refl
 parameters_readable _ h = tt
 
@@ -185,7 +198,7 @@ own_tellable spec tokens rest spells follow few kept readable =
     }
 
 pub runs_have_form : RunsHaveForm
-runs_have_form spec uses tokens rest spells follow top is kept filled budget events e run closes most =
-    let readable = parameters_are_readable spec uses tokens rest spells follow top is kept filled in
+runs_have_form spec uses tokens rest spells follow top is kept budget events e run closes most =
+    let readable = parameters_are_readable spec uses tokens rest spells follow top is kept in
     let tellable = own_tellable spec tokens rest spells follow (few_in tokens rest follow top) kept (subst (λ us. HasReadableParameters (record { specification = spec; names = us })) is readable) in
     run_form (record { specification = spec; names = uses }) (subst (λ us. IsTellable (record { specification = spec; names = us })) (sym is) tellable) budget events run e closes most

@@ -22,7 +22,7 @@ use Rattle.estelle_model.specs.declared.effect.Out.{Out}
 use Rattle.estelle_model.specs.Core.{Instance, Instances, Core}
 use Rattle.estelle_model.specs.InteractionPoints.{point, point_of, connectable_at, external_at, may_connect, may_attach}
 use Rattle.estelle_model.specs.Effects as effect
-use Rattle.estelle_model.specs.Effects.{Effect, Change, Store, Hold, Enter, changed, changed_in, born, instances_after}
+use Rattle.estelle_model.specs.Effects.{StatementEffect, Change, Store, Hold, Enter, changed, changed_in, born, instances_after}
 use Rattle.estelle_model.specs.declared.meaning.Passing.TheVariants.{ByValue}
 use Rattle.estelle_model.specs.declared.meaning.Routine.{Routine}
 use Rattle.estelle_model.specs.declared.meaning.Meaning.{Meaning}
@@ -36,7 +36,8 @@ use Rattle.estelle_model.specs.declared.place.Environment.{Environment}
 use Rattle.estelle_model.specs.declared.place.ActualParameters.{ActualParameters}
 use Rattle.estelle_model.specs.Expressions.{Operand, give_all, no_arguments}
 use Rattle.estelle_model.specs.Statements.{Init, Release, Connect, Disconnect, Attach, Detach, Output, stmts}
-use Rattle.estelle_model.specs.Actions.{is_bound, is_connected, is_upper, at, count_from, instance_at, found, types_of, empty_in, make, keep, read, fails_if, child_in, ip_of, part_of_child, ip_named, needs, no_such, is_sent_at, may_hold, connect_points, connect, disconnect_one, disconnect_if, detach_above, detach_if, for_each, external, disconnect_child, disconnect_point, disconnect_of, attach_points, attach, detach_point, detach, output_at, output, enter_state, create, init, init_of, release_child, release, act}
+use Rattle.estelle_model.specs.Actions.{is_bound, is_connected, is_upper, at, count_from, instance_at, or_no_module, empty_in, make, keep, read, fails_if, child_in, ip_of, part_of_child, ip_named, needs, no_such, is_sent_at, may_hold, connect_points, connect, disconnect_one, disconnect_if, detach_above, detach_if, for_each, external, disconnect_child, disconnect_point, disconnect_of, attach_points, attach, detach_point, detach, output_at, output, enter_state, create, init, init_of, release_child, release, act}
+use Rattle.estelle_model.specs.Definitions.{types_received}
 use Rattle.estelle_model.specs.Steps.{Running, Step, Do, and_then, ◌>>=◌, ◌>>◌, pure, fail, checked, checked_at, spend}
 use Rattle.estelle_model.specs.Calls.{Enters, call_by, blank, frame_of, last_or, enter, leave, within, nested, max_depth}
 use Rattle.estelle_model.specs.Blocks.{from_block, given_values, block_step}
@@ -54,7 +55,7 @@ use Rattle.trace_forms.proofs.SoundStatements.{ActSound, stmts_sound}
 use Rattle.trace_forms.proofs.Lists.{all_append, all_filter, all_at}
 
 -- effects that make no output and no child
-abbrev pub IsFree : Effect → Type 0
+abbrev pub IsFree : StatementEffect → Type 0
 IsFree (effect.Output from ip name values) = ⊥
 IsFree (effect.Create p k i) = ⊥
 IsFree _ = Unit {0}
@@ -168,7 +169,7 @@ module _ (n : ℕ) where
 
   -- ---- effects
 
-  free_within : (e : Effect) → IsFree e → (x : Instances) (b : ℕ) → AreWithin Rises n b x → AreWithin Rises n b (instances_after e x)
+  free_within : (e : StatementEffect) → IsFree e → (x : Instances) (b : ℕ) → AreWithin Rises n b x → AreWithin Rises n b (instances_after e x)
   unfolding instances_after
   free_within (effect.Output from ip name values) f x b h = absurd f
   free_within (effect.Create p k i) f x b h = absurd f
@@ -178,7 +179,7 @@ module _ (n : ℕ) where
   free_within (effect.Detach upper) f x b h = h
   free_within (effect.Remove p k) f x b h = within_removed Rises n b x p k h
 
-  free_outs : (e : Effect) → IsFree e → (links : List Link) (os : List Out) → outs_after e links os ≡ os
+  free_outs : (e : StatementEffect) → IsFree e → (links : List Link) (os : List Out) → outs_after e links os ≡ os
   unfolding outs_after
   free_outs (effect.Output from ip name values) f links os = absurd f
   free_outs (effect.Create p k i) f links os = absurd f
@@ -188,7 +189,7 @@ module _ (n : ℕ) where
   free_outs (effect.Detach upper) f links os = refl
   free_outs (effect.Remove p k) f links os = refl
 
-  free_mail : (e : Effect) → IsFree e → (links : List Link) (made : ℕ) (mail : List Waiting) → AllByRecursion ItemRises mail → AllByRecursion ItemRises (mail_after e links made mail)
+  free_mail : (e : StatementEffect) → IsFree e → (links : List Link) (made : ℕ) (mail : List Waiting) → AllByRecursion ItemRises mail → AllByRecursion ItemRises (mail_after e links made mail)
   unfolding mail_after
   free_mail (effect.Output from ip name values) f links made mail h = absurd f
   free_mail (effect.Create p k i) f links made mail h = absurd f
@@ -230,7 +231,7 @@ module _ (n : ℕ) where
     read_sound : (A : Type 0) (f : Core → Result A Fault) → N (read Acting on_situation subject meant f)
     read_sound A f s = checked_n A (f s.state.situation.core) s
 
-    make_sound : (e : Effect) → IsFree e → N (make Acting on_situation subject meant e)
+    make_sound : (e : StatementEffect) → IsFree e → N (make Acting on_situation subject meant e)
     make_sound e free t h = (tt, record { instances = free_within e free t.state.situation.core.instances (t.left + 0) h.instances; outs = subst (AllByRecursion (OutWithin n)) (sym (free_outs e free t.state.situation.core.links t.state.outs)) h.outs; frames = h.frames; mail = free_mail e free t.state.situation.core.links t.state.situation.made t.state.situation.mail h.mail })
 
     -- a change of a record that stores no value
@@ -267,7 +268,7 @@ module _ (n : ℕ) where
     with_links : (f : List Link → Do Acting) → ((links : List Link) → N (f links)) → N (read Acting on_situation subject meant (λ c. Ok c.links) >>= f)
     with_links f h = then_n (List Link) (Unit {0}) (read Acting on_situation subject meant (λ c. Ok c.links)) f (read_sound (List Link) (λ c. Ok c.links)) h
 
-    or_fails : (b : Bool) (f : Fault) (e : Effect) → IsFree e → N (fails_if Acting on_situation subject meant b f >>= λ _. make Acting on_situation subject meant e)
+    or_fails : (b : Bool) (f : Fault) (e : StatementEffect) → IsFree e → N (fails_if Acting on_situation subject meant b f >>= λ _. make Acting on_situation subject meant e)
     or_fails b f e free = then_n (Unit {0}) (Unit {0}) (fails_if Acting on_situation subject meant b f) (λ _. make Acting on_situation subject meant e) (fails_sound b f) (λ _. make_sound e free)
 
     needs_sound : (test : Core → Bool) (f : Do Acting) → N f → N (needs Acting on_situation subject meant test >>= λ _. f)
@@ -346,7 +347,7 @@ module _ (n : ℕ) where
     -- ---- outputs, and children that are made
 
     -- the meanings of names: constants in which sets rise, and routines that are told; and what belongs to the types of an interaction can be told
-    module _ (told : (x : Name) → MeaningTold Told (meant x)) (readable : (x : Name) (values : List Value) → are_values_of (types_of (meant x)) values ≡ true → AllRise values → AllByRecursion IsReadable values)
+    module _ (told : (x : Name) → MeaningTold Told (meant x)) (readable : (x : Name) (values : List Value) → are_values_of (types_received (meant x)) values ≡ true → AllRise values → AllByRecursion IsReadable values)
         (bare : (k : ℕ) → IsBare (child_of subject k)) where
       one_needs : (A : Type 0) (P : A → Type 0) (test : Core → Bool) (f : Step Acting A) (t : Running Acting) → (test t.state.situation.core ≡ true → Comes Acting I P (f t)) → Comes Acting I P ((needs Acting on_situation subject meant test >>= λ _. f) t)
       one_needs A P test f t h = by (test t.state.situation.core) refl
@@ -362,7 +363,7 @@ module _ (n : ℕ) where
 
       output_at_sound : (p x : Name) → (is_name p.word && is_name x.word) ≡ true → (values : List Value) → AllRise values → (a : IpAddr) → N (output_at Acting on_situation subject meant p x values a)
       unfolding outs_after instances_after mail_after
-      output_at_sound p x names values rise a t h = one_needs (Unit {0}) Any (λ c. is_sent_at (point subject c.instances a) (meant x) && are_values_of (types_of (meant x)) values) (make Acting on_situation subject meant (effect.Output a p.word x.word values)) t made
+      output_at_sound p x names values rise a t h = one_needs (Unit {0}) Any (λ c. is_sent_at (point subject c.instances a) (meant x) && are_values_of (types_received (meant x)) values) (make Acting on_situation subject meant (effect.Output a p.word x.word values)) t made
         where
           out : Out
           out = record { path = a.path; ip = p.word; name = x.word; values = values; lost = is_none (route t.state.situation.core.links a) }
@@ -373,7 +374,7 @@ module _ (n : ℕ) where
           same : instances_after (effect.Output a p.word x.word values) t.state.situation.core.instances ≡ t.state.situation.core.instances
           same = refl
 
-          made : (is_sent_at (point subject t.state.situation.core.instances a) (meant x) && are_values_of (types_of (meant x)) values) ≡ true → Comes Acting I {A = Unit {0}} Any (make Acting on_situation subject meant (effect.Output a p.word x.word values) t)
+          made : (is_sent_at (point subject t.state.situation.core.instances a) (meant x) && are_values_of (types_received (meant x)) values) ≡ true → Comes Acting I {A = Unit {0}} Any (make Acting on_situation subject meant (effect.Output a p.word x.word values) t)
           made e =
               let b = and_both (is_sent_at (point subject t.state.situation.core.instances a) (meant x)) _ e in
               let i = there_at (fin.get t.state.situation.core.instances a.path) a.ip (meant x) b.0 in
@@ -388,8 +389,8 @@ module _ (n : ℕ) where
               )
 
       output_sound : (here : Environment) (p x : Name) → (is_name p.word && is_name x.word) ≡ true → (es : List (Operand Acting)) → Each (OperandSound Acting I) es → N (output Acting on_situation subject meant here p x es)
-      output_sound here p x names es h = then_sound Acting I ActualParameters (Unit {0}) GivenRise Any (give_all (map ByValue (types_of (meant x))) es no_arguments) (λ g. spend >>= λ spent. ip_of Acting on_situation subject meant here.path (meant p) >>= λ a. output_at Acting on_situation subject meant p x g.values a)
-          (give_all_sound Acting I (map ByValue (types_of (meant x))) es no_arguments tt h)
+      output_sound here p x names es h = then_sound Acting I ActualParameters (Unit {0}) GivenRise Any (give_all (map ByValue (types_received (meant x))) es no_arguments) (λ g. spend >>= λ spent. ip_of Acting on_situation subject meant here.path (meant p) >>= λ a. output_at Acting on_situation subject meant p x g.values a)
+          (give_all_sound Acting I (map ByValue (types_received (meant x))) es no_arguments tt h)
           (λ g y. then_n (Unit {0}) (Unit {0}) spend (λ _. ip_of Acting on_situation subject meant here.path (meant p) >>= λ a. output_at Acting on_situation subject meant p x g.values a) (spend_sound Acting I on_situation closed)
           (λ _. then_n IpAddr (Unit {0}) (ip_of Acting on_situation subject meant here.path (meant p)) (λ a. output_at Acting on_situation subject meant p x g.values a) (ip_of_sound here.path (meant p)) (λ a. output_at_sound p x names g.values y a)))
 
@@ -440,7 +441,7 @@ module _ (n : ℕ) where
           (λ g y t w. from g y t w (fin.get t.state.situation.core.instances here.path) refl)
         where
           from : (g : ActualParameters) → GivenRise g → (t : Running Acting) → I t → (o : Option Instance) → fin.get t.state.situation.core.instances here.path ≡ o
-              → Comes Acting I {A = Unit {0}} Any (and_then (checked_at (found o) t) (λ i. needs Acting on_situation subject meant (λ c. may_hold subject i.body m k && are_values_of (child_of subject k).parameters g.values) >>= λ _. create Acting on_situation subject meant enters here m (child_of subject k) g.values i))
+              → Comes Acting I {A = Unit {0}} Any (and_then (checked_at (or_no_module o) t) (λ i. needs Acting on_situation subject meant (λ c. may_hold subject i.body m k && are_values_of (child_of subject k).parameters g.values) >>= λ _. create Acting on_situation subject meant enters here m (child_of subject k) g.values i))
           from g y t w None e = tt
           from g y t w (Some i) e = one_needs (Unit {0}) Any (λ c. may_hold subject i.body m k && are_values_of (child_of subject k).parameters g.values) (create Acting on_situation subject meant enters here m (child_of subject k) g.values i) t
               (λ _. create_sound enters into here m k g.values y i t w e)

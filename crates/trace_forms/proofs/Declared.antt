@@ -1,6 +1,6 @@
 -- What is declared: constants in which sets rise, and routines whose outputs are named by identifiers.
 use Rattle.std.proofs.Common.{◌≡◌, ℕ, zero, suc, ◌+◌, ◌<◌, ◌≤◌, Bool, true, false, List, [], ◌∷◌, ◌++◌, length, map, Result, Ok, Err, Option, Some, None, refl, sym, subst, ◌∙◌, append_assoc, arith, cond, replicate}
-use Rattle.std.specs.Prelude.{if◌then◌else◌, option_to_list, option_map, nat_eq, fold, flat_map, ◌^◌}
+use Rattle.std.specs.Prelude.{if◌then◌else◌, option_to_list, option_map, nat_eq, int_lt, fold, flat_map, ◌^◌}
 use Rattle.std.specs.List.{AllByRecursion}
 use Rattle.std.specs.Str.{bytes_eq}
 use Rattle.std.specs.Map.{lookup}
@@ -173,13 +173,14 @@ module _ (env : Env) where
 
   -- ---- ordinal types
 
-  -- for the rules both bounds have values, of one type
+  -- for the rules both bounds have values, of one type, and the second is not the lesser one
   pub record AreOfOneType (low high : Const) : Type 0 where
     pub first : RuleValue
     pub second : RuleValue
     pub low_is : const_value env low ≡ Some first
     pub high_is : const_value env high ≡ Some second
     pub same : same_host first.host second.host ≡ true
+    pub rises : int_lt second.ordinal first.ordinal ≡ false
 
   -- its constants are firm and of one type, and it lists few values
   abbrev pub OrdinalFirm : Ordinal → Type 0
@@ -236,7 +237,7 @@ module _ (env : Env) where
   array_firm known k item h [] = h
   array_firm known k item h (i ∷ is) = firm_array _ _ (array_over (map (ordinal_type known) is) item) (array_firm known k item h is)
 
-  all_alike : (P : Denoter → Type 0) (t : Denoter) (n : ℕ) → P t → AllByRecursion P (replicate n t)
+  pub all_alike : (P : Denoter → Type 0) (t : Denoter) (n : ℕ) → P t → AllByRecursion P (replicate n t)
   all_alike P t zero h = tt
   all_alike P t (suc n) h = (h, all_alike P t n h)
 
@@ -458,7 +459,7 @@ placed_told env p (e ∷ es) h = by (nat_eq p e.0) refl (placed_told env p es h.
     by true is rest = subst (λ q. Tells (entity_at env q).meaning e.1) (sym ((Decides-eqb p e.0).0 is)) h.0
     by false is rest = rest
 
-meant_told : (names : List Use) (ruled : rules.Declarations) (known : Declared) → AllByRecursion (TellsAt (env_of names ruled)) known → (x : Name) → Tells (rules.known (env_of names ruled) x) (meant_by names known x)
+pub meant_told : (names : List Use) (ruled : rules.Declarations) (known : Declared) → AllByRecursion (TellsAt (env_of names ruled)) known → (x : Name) → Tells (rules.known (env_of names ruled) x) (meant_by names known x)
 unfolding rules.known
 meant_told names ruled known h x = subst (λ o. Tells (rules.meaning_by (env_of names ruled) x o) (meant_by names known x)) (sym (named_alike names ruled x)) (by (declaration_of names x))
   where
@@ -470,7 +471,7 @@ meant_told names ruled known h x = subst (λ o. Tells (rules.meaning_by (env_of 
     by None = (tt, tt)
     by (Some decl) = placed decl (nat_eq decl.end 0)
 
-reversed : (env : Env) (es : List (ℕ × Meaning)) (known : Declared) → AllByRecursion (TellsAt env) es → AllByRecursion (TellsAt env) known → AllByRecursion (TellsAt env) (fold (λ k e. e ∷ k) known es)
+pub reversed : (env : Env) (es : List (ℕ × Meaning)) (known : Declared) → AllByRecursion (TellsAt env) es → AllByRecursion (TellsAt env) known → AllByRecursion (TellsAt env) (fold (λ k e. e ∷ k) known es)
 reversed env [] known h k = k
 reversed env (e ∷ es) known h k = reversed env es (e ∷ known) h.1 (h.0, k)
 

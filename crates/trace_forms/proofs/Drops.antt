@@ -10,8 +10,8 @@ use Rattle.pascal_values.specs.Sets.{IsRising}
 use Rattle.estelle_tree.specs.Paths.{Path, child}
 use Rattle.estelle_tree.specs.Queues.{waits_inside}
 use Rattle.estelle_model.specs.declared.event.Event.{Event}
-use Rattle.estelle_model.specs.Effects.{Effect, Output, Connect, Disconnect, Attach, Detach, Create, Remove}
-use Rattle.estelle_model.specs.Steps.{Outcome}
+use Rattle.estelle_model.specs.Effects.{StatementEffect, Output, Connect, Disconnect, Attach, Detach, Create, Remove}
+use Rattle.estelle_model.specs.Steps.{StepResult}
 use Rattle.estelle_model.specs.Blocks.{fresh}
 use Rattle.estelle_model.specs.Clauses.{fire_step, start_step}
 use Rattle.estelle_model.specs.Transitions.{Transition}
@@ -47,7 +47,7 @@ put_all (n ∷ ns) ds h = put_all ns (put_number ds n) (put_sorted 0 n ds (omega
 abbrev DropsSorted : Acting → Type 0
 DropsSorted a = SortedFrom 0 a.drops
 
-sorted_after : (e : Effect) (a : Acting) → DropsSorted a → DropsSorted (acting_after e a)
+sorted_after : (e : StatementEffect) (a : Acting) → DropsSorted a → DropsSorted (acting_after e a)
 unfolding drops_after
 sorted_after (Output from ip name values) a h = h
 sorted_after (Connect p q) a h = h
@@ -65,7 +65,7 @@ HasSorted (Ran after outs drops left) = SortedFrom 0 drops
 HasSorted (Failed kind left) = Unit {0}
 HasSorted Undefined = Unit {0}
 
-done_sorted : (o : Outcome Acting (Unit {0})) → Ends Acting on_situation DropsSorted drops_sorted o → HasSorted (done o)
+done_sorted : (o : StepResult Acting (Unit {0})) → Ends Acting on_situation DropsSorted drops_sorted o → HasSorted (done o)
 done_sorted (Ok r) h = h
 done_sorted (Err e) h = tt
 

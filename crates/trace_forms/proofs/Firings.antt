@@ -25,8 +25,8 @@ use Rattle.estelle_model.specs.Names.{Declared, at_place, declaration_of, meanin
 use Rattle.estelle_model.specs.Transitions.{When, Choice, with_choices, or_unset, choice, choices, ordinals, Transition, flat_one, choices_on, flat_way, flat}
 use Rattle.estelle_model.specs.Types.{host_of, value_in}
 use Rattle.estelle_model.specs.Meant.{Meanings}
-use Rattle.estelle_model.specs.Actions.{types_of}
-use Rattle.estelle_model.specs.Steps.{Outcome}
+use Rattle.estelle_model.specs.Definitions.{types_received}
+use Rattle.estelle_model.specs.Steps.{StepResult}
 use Rattle.estelle_model.specs.Blocks.{fresh}
 use Rattle.estelle_model.specs.Clauses.{fire_step, start_step}
 use Rattle.estelle_model.specs.Subject.{Subject, declared_in, meant, meant_with, body, of_block, begins, transitions_of, transitions, numbered_one, transition, new_instance, blanks, child_of, no_body}
@@ -52,7 +52,7 @@ pub record IsTellable (s : Subject) : Type 0 where
   pub begins : (k : ℕ) → Told (begins s k).block
   pub blocks : (k n : ℕ) (t : Transition) → transition s k n ≡ Some t → named_stmts t.block.body ≡ true
   pub few : (k : ℕ) → length (transitions s k) ≤ 4096
-  pub types : (x : Name) → AllByRecursion IsReadableType (types_of (meant s x))
+  pub types : (x : Name) → AllByRecursion IsReadableType (types_received (meant s x))
 
 -- ---- what names mean where the names of `any` have values
 
@@ -169,7 +169,7 @@ module _ (s : Subject) (tellable : IsTellable s) where
     block = tellable.begins k;
   }
 
-  done_within : (m : ℕ) (o : Outcome Acting (Unit {0})) → Comes Acting (Within m 0) Any o → FiredWithin m (done o)
+  done_within : (m : ℕ) (o : StepResult Acting (Unit {0})) → Comes Acting (Within m 0) Any o → FiredWithin m (done o)
   done_within m (Ok r) h = (record { instances = within_fewer Rises m (r.1.left + 0) 0 r.1.state.situation.core.instances (omega arith) h.1.instances; mail = h.1.mail }, h.1.outs)
   done_within m (Err e) h = tt
 
@@ -182,7 +182,7 @@ module _ (s : Subject) (tellable : IsTellable s) where
       with_within t good rise values y = done_within m (fire_step Acting on_situation s p t values (fresh (begun (taken s g p t.when)) budget))
           (block_sound m s (meant_with s t.chosen)
           (with_all_choices (MeaningTold Told) (λ v h r. r) s.names t.chosen (declared_in s) rise tellable.told)
-          (λ x vs e r. values_readable (types_of (meant_with s t.chosen x)) vs (with_all_choices (λ k. AllByRecursion IsReadableType (types_of k)) (λ v h r. tt) s.names t.chosen (declared_in s) rise tellable.types x) e r)
+          (λ x vs e r. values_readable (types_received (meant_with s t.chosen x)) vs (with_all_choices (λ k. AllByRecursion IsReadableType (types_received k)) (λ v h r. tt) s.names t.chosen (declared_in s) rise tellable.types x) e r)
           bare_child p (of_block (meant_with s t.chosen) t.received t.block) good values y (meant s) t.to (fresh (begun (taken s g p t.when)) budget)
           (begun_within (taken s g p t.when) (taken_within n s g p t.when within)))
 
@@ -229,5 +229,5 @@ module _ (s : Subject) (tellable : IsTellable s) where
 
   pub start_within : (budget : ℕ) → FiredWithin budget (start s budget)
   start_within budget = done_within budget (start_step Acting on_situation s (fresh (begun (bare s)) budget))
-      (block_sound budget s (meant s) tellable.told (λ x vs e r. values_readable (types_of (meant s x)) vs (tellable.types x) e r) bare_child [] (begins s 0).block (tellable.begins 0) [] tt (meant s) (begins s 0).to (fresh (begun (bare s)) budget)
+      (block_sound budget s (meant s) tellable.told (λ x vs e r. values_readable (types_received (meant s x)) vs (tellable.types x) e r) bare_child [] (begins s 0).block (tellable.begins 0) [] tt (meant s) (begins s 0).to (fresh (begun (bare s)) budget)
       (begun_within budget 0 budget (omega arith) (bare s) bare_within))

@@ -23,7 +23,8 @@ use Rattle.estelle_model.specs.Operators.{◌>>>◌, int_at, an_int, signed}
 use Rattle.estelle_model.specs.Constants.{by_sign}
 use Rattle.estelle_model.specs.Denoted.{bound_at}
 use Rattle.type_rules.specs.declared.meanings.Meaning.{Meaning as RuleMeaning}
-use Rattle.trace_forms.specs.Types.{IsOrdinalReadable, IsTypeFormed, NestsWithin, IsReadableType, AreArraysFilled, FilledTo, HasFilledArrays}
+use Rattle.trace_forms.specs.Types.{IsOrdinalReadable, IsTypeFormed, NestsWithin, IsReadableType}
+use Rattle.trace_forms.proofs.FilledTypes.{AreArraysFilled, FilledTo, HasFilledArrays}
 use Rattle.trace_forms.proofs.Flat.{depth_of}
 use Rattle.trace_forms.proofs.Nests.{IsNestLayer, NestsTo, Within}
 

@@ -45,6 +45,7 @@ use Rattle.type_rules.specs.declared.types.Value.{Value}
 use Rattle.type_rules.specs.declared.meanings.Meaning.{Meaning}
 use Rattle.type_rules.specs.declared.meanings.Meaning.TheVariants as said
 use Rattle.type_rules.specs.declared.meanings.Entity.{Entity}
+use Rattle.type_rules.specs.Types.{at_fault}
 use Rattle.type_rules.specs.Meanings.{Env, Declaration, Declarations, type_denoted, constant, const_value, named_type}
 use Rattle.type_rules.specs.TypeSites as types
 use Rattle.type_rules.specs.SpecificationSites as sites
@@ -62,9 +63,9 @@ use Rattle.trace_forms.proofs.Lists.{all_append, all_front, all_back, all_flat}
 abbrev pub depth_of : Meaning → ℕ
 depth_of m = (type_denoted m).depth
 
--- a declaration says no type that nests
+-- a declaration says no type
 abbrev pub IsFlat : Declaration → Type 0
-IsFlat d = (env : Env) → depth_of (d.says env).meaning ≡ 0
+IsFlat d = (env : Env) → type_denoted (d.says env).meaning ≡ at_fault
 
 -- where declarations stand
 abbrev pub places : Declarations → List ℕ
@@ -114,11 +115,11 @@ flat_less l h = record { few = few_less l h.few; flat = h.flat }
 pub flat_end : {i m j : Input} {rs : Declarations} → Flat i m rs → Less m j → Flat i j rs
 flat_end h l = record { few = few_end h.few l; flat = h.flat }
 
-pub flat_name : {x : Name} {i j : Input} (says : Env → Entity) → ((env : Env) → depth_of (says env).meaning ≡ 0) → IsName x i j → Flat i j (sites.declare x says ∷ [])
+pub flat_name : {x : Name} {i j : Input} (says : Env → Entity) → ((env : Env) → type_denoted (says env).meaning ≡ at_fault) → IsName x i j → Flat i j (sites.declare x says ∷ [])
 flat_name says f h = record { few = few_name says h; flat = (f, tt) }
 
 -- names that are declared alike
-module _ (says : Env → Meaning) (none : (env : Env) → depth_of (says env) ≡ 0) where
+module _ (says : Env → Meaning) (none : (env : Env) → type_denoted (says env) ≡ at_fault) where
   as_places : (t : ℕ → Bool) (xs : List Name) → count t (places (map (sites.declare_as says) xs)) ≡ names_weight t xs
   as_places t [] = refl
   as_places t (x ∷ xs) = ap (λ n. one_if (t x.span.start) + n) (as_places t xs)
@@ -160,9 +161,14 @@ token_counts : {w : Token} (i j : Input) → token_at i ≡ Some w → next i �
 unfolding next start token_at
 token_counts i j h e t = first_counts t i.end i.tokens j (λ f. let g = ap first_token (sym f) ∙ h in cc) e
 
-kind_counts : {w : Kind} {i j : Input} → Takes w i j → (k.Nothing ≡ w → ⊥) → (t : ℕ → Bool) → one_if (t (start i)) + among (starts t) j ≤ among (starts t) i
+pub kind_counts : {w : Kind} {i j : Input} → Takes w i j → (k.Nothing ≡ w → ⊥) → (t : ℕ → Bool) → one_if (t (start i)) + among (starts t) j ≤ among (starts t) i
 unfolding next start kind
 kind_counts {w} {i} {j} h other t = first_counts t i.end i.tokens j (λ f. other (ap first_kind (sym f) ∙ h.kind)) h.next
+
+-- what may be packed begins with a token of its own
+pub packed_counts : {w : Kind} (packed : Bool) (i at after : Input) → Flag k.Packed packed i at → Takes w at after → (k.Nothing ≡ w → ⊥) → (t : ℕ → Bool) → one_if (t (start i)) + among (starts t) after ≤ among (starts t) i
+packed_counts true i at after f h other t = let a = kind_counts f (λ e. cc) t in let b = (less_takes h).most (starts t) in omega (arith, a, b)
+packed_counts false i at after f h other t = let a = kind_counts h other t in let b = ap (λ m. one_if (t (start m))) f in let c = ap (among (starts t)) f in omega (arith, a, b, c)
 
 -- ---- constants and types
 
@@ -280,11 +286,6 @@ module _ (T : Spelling TypeExpr) (all : (x : TypeExpr) (i j : Input) → T x i j
       (subst (Flat i j) (sym (chain_map types.section_declares types.typed_names xs))
       (flat_end (fit.separated (Flats section_of) (flat_frame section_of) (AreTyped T) (λ x i j h. flat_one section_of x i j (typed_flat x i j h)) k.Semicolon xs i h.mid h.sections) (less_flag k.Semicolon (out-Fields fs).semicolon h.semicolon)))
 
-  -- an array begins with a token of its own
-  array_counts : (packed : Bool) (i at after : Input) → Flag k.Packed packed i at → Takes k.Array at after → (t : ℕ → Bool) → one_if (t (start i)) + among (starts t) after ≤ among (starts t) i
-  array_counts true i at after f h t = let a = kind_counts f (λ e. cc) t in let b = (less_takes h).most (starts t) in omega (arith, a, b)
-  array_counts false i at after f h t = let a = kind_counts h (λ e. cc) t in let b = ap (λ m. one_if (t (start m))) f in let c = ap (among (starts t)) f in omega (arith, a, b, c)
-
   layer_flat : (room : ℕ) (l : TypeExprLayer) (i j : Input) → IsTypeLayer room T l i j → Flat i j (types.type_layer (map-TypeExpr TypeExpr Fields TypedNames types.Typing (List types.Section) types.Section types.typing types.fields types.typed_names l)).declares
   unfolding between
   layer_flat room (TypeExpr-F.Ordinal o) i j h = flat_ordinal o i j h
@@ -301,7 +302,7 @@ module _ (T : Spelling TypeExpr) (all : (x : TypeExpr) (i j : Input) → T x i j
               let y = c.few.most t in
               let z = arrays_few t span indices (types.type_in u) in
               let s = ap (λ (s : Span). one_if (t s.start)) h.2 in
-              let f = array_counts packed i a.at a.after a.packed a.array t in
+              let f = packed_counts packed i a.at a.after a.packed a.array (λ e. cc) t in
               let l = (less_takes a.indices.opens).most (starts t) in
               let m = (less_takes a.indices.closes).most (starts t) in
               let n = (less_takes a.component.mark).most (starts t) in
@@ -327,7 +328,7 @@ type_flat room = below_flat (suc room)
 
 -- ---- constants and variables
 
-constant_flat : (o : Option Value) → depth_of (constant o) ≡ 0
+constant_flat : (o : Option Value) → type_denoted (constant o) ≡ at_fault
 constant_flat None = refl
 constant_flat (Some v) = refl
 
@@ -366,7 +367,7 @@ flat_formals (Some fs) i j h =
 group_flat : One (Flats sites.group_variables) AreParams
 group_flat g i j h = flat_one sites.group_variables g i j (named_flat h.first (less_takes h.mark) h.second)
 
-flat_params : (o : Option Params) (i j : Input) → MayBeParams o i j → Flat i j (sites.params_declare o)
+pub flat_params : (o : Option Params) (i j : Input) → MayBeParams o i j → Flat i j (sites.params_declare o)
 flat_params None i j h = flat_nil (less_same h)
 flat_params (Some ps) i j h = flat_less (less_takes h.opens) (flat_end (fit.separated (Flats sites.group_variables) (flat_frame sites.group_variables) AreParams group_flat k.Semicolon ps.groups h.at h.mid h.inside.groups) (less_takes h.closes))
 
@@ -416,7 +417,7 @@ flat_any = fit.separated Chosen chosen_frame IsAnyDom one_chosen k.Semicolon
 
 -- ---- channels and headers
 
-inter_flat : One (Flats sites.inter) IsInter
+pub inter_flat : One (Flats sites.inter) IsInter
 inter_flat x i j h = flat_one sites.inter x i j (flat_append {rs = sites.declare x.name (sites.interaction_says x) ∷ []} (flat_name (sites.interaction_says x) (λ env. refl) h.name) (flat_params x.params h.mid j h.params))
 
 inters_flat : One (Flats sites.inter_group) AreInters
@@ -432,7 +433,7 @@ queue_less None i j h = less_same h
 queue_less (Some (disc.Individual span)) i j h = less_more (less_takes h.item.0) (less_takes h.mark)
 queue_less (Some (disc.Common span)) i j h = less_more (less_takes h.item.0) (less_takes h.mark)
 
-ip_flat : One (Flats sites.ip_decl) IsIpDecl
+pub ip_flat : One (Flats sites.ip_decl) IsIpDecl
 ip_flat p i j h =
     let role = less_more (less_takes h.role.opens) (less_more (name_less h.role.inside) (less_more (less_takes h.role.closes) (queue_less p.disc h.after_role j h.disc))) in
     flat_one sites.ip_decl p i j (flat_end (flat_names (λ env. said.Ip) (λ env. refl) h.names.first) (less_more (less_takes h.names.mark) (less_more (name_less h.names.second) role)))
@@ -446,7 +447,7 @@ modvar_flat m i j h = flat_one sites.modvar_decl m i j (flat_end (flat_names (λ
 pub flat_modvars : (ms : List ModvarDecl) (i j : Input) → Lines AreModvars ms i j → Flats sites.modvar_decl i j ms
 flat_modvars = fit.lines (Flats sites.modvar_decl) (flat_frame sites.modvar_decl) AreModvars modvar_flat
 
-attr_less : (o : Option Attr) (i j : Input) → Optional IsAttr o i j → Less i j
+pub attr_less : (o : Option Attr) (i j : Input) → Optional IsAttr o i j → Less i j
 attr_less None i j h = less_same h
 attr_less (Some (attr.SysAttr (sys_attr.Systemprocess span))) i j h = less_takes h.0
 attr_less (Some (attr.SysAttr (sys_attr.Systemactivity span))) i j h = less_takes h.0

@@ -18,7 +18,7 @@ use Rattle.type_rules.specs.SpecificationSites.{Part, PlacedPart, all_of, placed
 use Rattle.type_rules.specs.PascalRules.{TypesDoNotFit, NoType}
 use Rattle.trace_forms.proofs.Lists.{all_front, all_back}
 use Rattle.trace_forms.proofs.Declared.{AreOfOneType}
-use Rattle.trace_forms.proofs.TypePlaces.{IsFixed}
+use Rattle.trace_forms.proofs.TypePlaces.{IsSettled}
 
 -- the rules 40 and 44 are kept where they speak of this
 abbrev pub SiteKept : Site → Type 0
@@ -65,25 +65,25 @@ parts_kept env P f (x ∷ xs) h k = (h.0 (kept_front ((f x).sites env) ((all_of 
 
 -- where rules speak of a part none is broken, and each type definition in it is known at its place
 abbrev pub PartKept : Env → Part → Type 0
-PartKept env p = Kept (p.sites env) × AllByRecursion (IsFixed env) p.declares
+PartKept env p = Kept (p.sites env) × AllByRecursion (IsSettled env) p.declares
 
 -- the same of what stands in a body that begins there
 abbrev pub PlacedPartKept : Env → ℕ → PlacedPart → Type 0
-PlacedPartKept env at p = PlacedKept (p.sites env at) × AllByRecursion (IsFixed env) (p.declares at)
+PlacedPartKept env at p = PlacedKept (p.sites env at) × AllByRecursion (IsSettled env) (p.declares at)
 
 -- of parts one after another each is kept
 pub each_part_kept : {A : Type 0} (env : Env) (P : A → Type 0) (f : A → Part) (xs : List A) → AllByRecursion (λ x. PartKept env (f x) → P x) xs → PartKept env (all_of (map f xs)) → AllByRecursion P xs
 each_part_kept env P f [] h k = tt
 each_part_kept env P f (x ∷ xs) h k =
     let more = all_of (map f xs) in (
-      h.0 (kept_front ((f x).sites env) (more.sites env) k.0, all_front (IsFixed env) (f x).declares more.declares k.1),
-      each_part_kept env P f xs h.1 (kept_back ((f x).sites env) (more.sites env) k.0, all_back (IsFixed env) (f x).declares more.declares k.1),
+      h.0 (kept_front ((f x).sites env) (more.sites env) k.0, all_front (IsSettled env) (f x).declares more.declares k.1),
+      each_part_kept env P f xs h.1 (kept_back ((f x).sites env) (more.sites env) k.0, all_back (IsSettled env) (f x).declares more.declares k.1),
     )
 
 -- ---- subranges
 
 -- a test that is not true is false
-not_true : (b : Bool) → (b ≡ true → ⊥) → b ≡ false
+pub not_true : (b : Bool) → (b ≡ true → ⊥) → b ≡ false
 not_true true h = absurd (h refl)
 not_true false h = refl
 
@@ -92,12 +92,22 @@ or_not : (s t : Bool) → (not s || t) ≡ false → s ≡ true
 or_not true t e = refl
 or_not false t e = absurd (cc)
 
+-- of a test that is false neither part is true
+neither : (s t : Bool) → (s || t) ≡ false → t ≡ false
+neither true t e = absurd (cc)
+neither false t e = e
+
 -- bounds that are not refused are of one type
 of_one_host : (a b : Value) → is_no_subrange (Some a) (Some b) ≡ false → same_host a.host b.host ≡ true
 unfolding is_no_subrange
 of_one_host a b e = or_not (same_host a.host b.host) (int_lt b.ordinal a.ordinal) e
 
--- the bounds of a subrange that the rules do not refuse have values, of one type
+-- and the second is not the lesser one
+not_less : (a b : Value) → is_no_subrange (Some a) (Some b) ≡ false → int_lt b.ordinal a.ordinal ≡ false
+unfolding is_no_subrange
+not_less a b e = neither (not (same_host a.host b.host)) (int_lt b.ordinal a.ordinal) e
+
+-- the bounds of a subrange that the rules do not refuse have values, of one type, which do not fall
 pub subrange_kept : (env : Env) (low high : Const) (span : Span) → Kept (ordinal_sites env (ordinal.Subrange low high span)) → AreOfOneType env low high
 subrange_kept env low high span h = by (const_value env low) refl (const_value env high) refl
   where
@@ -106,4 +116,5 @@ subrange_kept env low high span h = by (const_value env low) refl (const_value e
     by (Some a) e None f = absurd ((h.1.0 (of_const high)).0 (f, refl))
     by (Some a) e (Some b) f =
         let kept = not_true (is_no_subrange (const_value env low) (const_value env high)) (λ t. (h.1.1.0 span).1 (inl t, refl)) in
-        record { first = a; second = b; low_is = e; high_is = f; same = of_one_host a b (ap (λ o. is_no_subrange (Some a) o) (sym f) ∙ ap (λ o. is_no_subrange o (const_value env high)) (sym e) ∙ kept) }
+        let none = ap (λ o. is_no_subrange (Some a) o) (sym f) ∙ ap (λ o. is_no_subrange o (const_value env high)) (sym e) ∙ kept in
+        record { first = a; second = b; low_is = e; high_is = f; same = of_one_host a b none; rises = not_less a b none }

@@ -2,8 +2,10 @@ mod Lists
 -- ---- types that are declared
 mod AllOf
 mod TypesFound
+mod InSight
 mod Typeless
 mod Flat
+mod Keeps
 mod TypesStay
 mod Nests
 mod TypePlaces
@@ -13,6 +15,7 @@ mod Drops
 -- ---- values and instances
 mod Values
 mod Readable
+mod FilledTypes
 mod Firm
 mod Instances
 -- ---- what every block keeps
@@ -36,6 +39,14 @@ mod SpelledStatements
 mod Declared
 mod Kept
 mod SpelledTypes
+mod Filled
+mod Held
+mod Needed
+mod Idle
+mod Sight
+mod Adds
+mod Walks
 mod Spelled
+mod HeldBodies
 -- ---- together
 mod Accepted

@@ -5,11 +5,13 @@ use Rattle.std.specs.Str.{bytes_eq}
 use Rattle.std.specs.Char.{is_ascii_alphabetic, to_ascii_lowercase}
 use Rattle.std.specs.Cmp.Lexicographic.{bytes_decides}
 use Rattle.estelle_tree.specs.declared.tree.name.Name.{Name}
-use Rattle.estelle_tree.specs.declared.tree.statement.Stmt.{Stmt, out-Stmt, roll-Stmt, map-Stmt, fold_out-Stmt, fold-roll-Stmt}
-use Rattle.estelle_tree.specs.declared.tree.statement.Case.{Case, out-Case, roll-Case}
+use Rattle.estelle_tree.specs.declared.tree.statement.Stmt.{Stmt, out-Stmt, map-Stmt, fold_out-Stmt}
+use Rattle.estelle_tree.specs.declared.tree.statement.Case.{Case, out-Case}
 use Rattle.estelle_tree.specs.declared.tree.statement.Stmts.{Stmts, out-Stmts, roll-Stmts}
 use Rattle.estelle_tree.specs.declared.tree.statement.Stmt.TheOpen.{Stmt-F, Case-F, Stmts-F}
-use Rattle.estelle_tree.specs.declared.tree.statement.Stmt.TheFolds.{fold-Stmt, fold-Case, fold-Stmts, map-Case, map-Stmts, fold_out-Case, fold_out-Stmts, fold-roll-Case, fold-roll-Stmts}
+use Rattle.estelle_tree.specs.declared.tree.statement.Stmt.TheFolds.{fold-Stmt, fold-Case, fold-Stmts, map-Case, map-Stmts, fold_out-Case, fold_out-Stmts, fold-roll-Stmts}
+use Rattle.estelle_tree.proofs.StatementFolds as kind
+use Rattle.estelle_tree.proofs.StatementFolds.{Kind, Layer}
 use Rattle.estelle_tree.specs.Lexed.{first_is, is_word_byte}
 use Rattle.estelle_tree.specs.Kind.{is_identifier}
 use Rattle.estelle_model_legality.proofs.Lists.{and_both, both_and}
@@ -55,6 +57,11 @@ case_names c = c.body
 abbrev pub stmts_names : Stmts-F Bool Bool Bool → Bool
 stmts_names x = list_all (λ b. b) x.stmts
 
+abbrev pub layers : (k : Kind) → Layer k (λ k. Bool) → Bool
+layers kind.stmt = stmt_names
+layers kind.branch = case_names
+layers kind.stmts = stmts_names
+
 unfoldable pub named_stmt : Stmt → Bool
 named_stmt = fold-Stmt Bool Bool Bool stmt_names case_names stmts_names
 
@@ -74,14 +81,6 @@ case_test l = case_names (map-Case Stmt Case Stmts Bool Bool Bool named_stmt nam
 
 abbrev pub stmts_test : Stmts-F Stmt Case Stmts → Bool
 stmts_test l = stmts_names (map-Stmts Stmt Case Stmts Bool Bool Bool named_stmt named_case named_stmts l)
-
-pub stmt_made : (l : Stmt-F Stmt Case Stmts) → named_stmt (roll-Stmt l) ≡ stmt_test l
-unfolding named_stmt named_case named_stmts
-stmt_made l = fold-roll-Stmt Bool Bool Bool stmt_names case_names stmts_names l
-
-pub case_made : (l : Case-F Stmt Case Stmts) → named_case (roll-Case l) ≡ case_test l
-unfolding named_stmt named_case named_stmts
-case_made l = fold-roll-Case Bool Bool Bool stmt_names case_names stmts_names l
 
 pub stmts_made : (l : Stmts-F Stmt Case Stmts) → named_stmts (roll-Stmts l) ≡ stmts_test l
 unfolding named_stmt named_case named_stmts

@@ -1,5 +1,5 @@
 -- Each constant of the rules with a value is one that the model declares: so constants are alike, whatever was declared so far.
-use Rattle.std.proofs.Common.{◌≡◌, ◌∙◌, ℕ, ◌≤◌, Bool, true, false, nat_eq, List, [], ◌∷◌, ◌++◌, map, fold, Option, Some, None, refl, ap, sym, subst, arith, cond, inl, inr, ◌⊎◌, ℤ}
+use Rattle.std.proofs.Common.{◌≡◌, ◌∙◌, ℕ, ◌≤◌, Bool, true, false, nat_eq, List, [], ◌∷◌, ◌++◌, map, fold, Option, Some, None, refl, ap, sym, subst, arith, cond, inl, inr, ◌⊎◌, ℤ, pos}
 use Rattle.std.specs.Prelude.{if◌then◌else◌}
 use Rattle.std.specs.List.{AllByRecursion}
 use Rattle.std.specs.Str.{bytes_eq}
@@ -7,16 +7,20 @@ use Rattle.std.specs.Map.{lookup}
 use Rattle.std.proofs.lemmas.Bool.Decides.{Decides-eqb}
 use Rattle.estelle_tree.specs.declared.names.Use.{Use}
 use Rattle.estelle_tree.specs.declared.span.Span.{Span}
+use Rattle.pascal_values.specs.declared.value.Value.{Value as PascalValue}
+use Rattle.pascal_values.specs.declared.value.Value.TheVariants as pascal
 use Rattle.type_rules.specs.declared.types.Host.{Host as RuleHost}
 use Rattle.type_rules.specs.declared.types.Host.TheVariants as rule
 use Rattle.type_rules.specs.declared.types.Value.{Value}
 use Rattle.type_rules.specs.declared.meanings.Meaning.{Meaning as RuleMeaning}
 use Rattle.type_rules.specs.declared.meanings.Meaning.TheVariants as said
 use Rattle.type_rules.specs.declared.meanings.Entity.{Entity}
+use Rattle.estelle_tree.specs.Required.{maxint}
 use Rattle.type_rules.specs.Meanings as rules
 use Rattle.type_rules.specs.Meanings.{Env, known, constant_value, valued, env_of, entity_at, or_undeclared, or_nothing, meaning_by}
 use Rattle.estelle_model.specs.declared.meaning.Meaning.{Meaning}
 use Rattle.estelle_model.specs.declared.meaning.Meaning.TheVariants as mean
+use Rattle.estelle_model.specs.Types.{ordinal_at}
 use Rattle.estelle_model.specs.Meant.{Meanings}
 use Rattle.estelle_model.specs.Denoted.{Declaration, Declarations}
 use Rattle.estelle_model.specs.Names.{required, or_other, required_meaning, Declared, at_place, meaning_at, declaration_of, meant_by, with_one}
@@ -25,7 +29,7 @@ use Rattle.accepted_states.proofs.Lists.{Each, count, one_if}
 use Rattle.accepted_states.proofs.Declared.{nothing, places_by, IsFixed, weight, weight-append, AreApart}
 use Rattle.trace_forms.proofs.Lists.{one_back, all_ones}
 use Rattle.trace_forms.proofs.Environments.{some_same, Said, all_said, named_alike}
-use Rattle.trace_forms.proofs.ConstantKinds.{kind_of_rules, Alike, Agree, agree_before}
+use Rattle.trace_forms.proofs.ConstantKinds.{kind_of_rules, HasValue, integer_has, Alike, Agree, agree_before}
 
 -- ---- partners
 
@@ -68,20 +72,29 @@ looked_alike t (r ∷ rs) (m ∷ ms) h = subst (λ k. Alike (or_nothing (cond (t
     by true more = h.1.0
     by false more = more
 
--- the value of a constant is of the kind that it is declared with
-pub valued_kind : (g : RuleHost) (n : ℤ) (w : Value) → constant_value (valued g n) ≡ Some w → kind_of_rules w.host ≡ kind_of_rules g
-valued_kind g n w e = ap (λ (u : Value). kind_of_rules u.host) (sym (some_same _ w e))
+-- a constant that is declared with a value is alike with what has this value
+pub valued_alike : (g : RuleHost) (n : ℤ) (v : PascalValue) → HasValue (record { host = g; ordinal = n }) v → (w : Value) → constant_value (valued g n) ≡ Some w → (kind_of_rules w.host ≡ kind_of_rules g) × HasValue w v
+valued_alike g n v h w e = (ap (λ (u : Value). kind_of_rules u.host) (sym (some_same _ w e)), subst (λ (u : Value). HasValue u v) (some_same _ w e) h)
+
+false_alike : (w : Value) → constant_value (valued rule.Boolean (pos 0)) ≡ Some w → (kind_of_rules w.host ≡ 1) × HasValue w (pascal.Bool false)
+false_alike = valued_alike rule.Boolean (pos 0) (pascal.Bool false) (ap ordinal_at (pascal.outs-Bool false), λ i. absurd (cc))
+
+true_alike : (w : Value) → constant_value (valued rule.Boolean (pos 1)) ≡ Some w → (kind_of_rules w.host ≡ 1) × HasValue w (pascal.Bool true)
+true_alike = valued_alike rule.Boolean (pos 1) (pascal.Bool true) (ap ordinal_at (pascal.outs-Bool true), λ i. absurd (cc))
+
+maxint_alike : (w : Value) → constant_value (valued rule.Integer maxint) ≡ Some w → (kind_of_rules w.host ≡ 0) × HasValue w (pascal.Int maxint)
+maxint_alike = valued_alike rule.Integer maxint (pascal.Int maxint) (integer_has (record { host = rule.Integer; ordinal = maxint }) maxint refl)
 
 -- required identifiers are alike
 required_alike : (w : List ℕ) → Alike (rules.required_meaning w) (required_meaning w)
 unfolding rules.required_meaning
 required_alike w = looked_alike (bytes_eq w) rules.required required
-    (refl, (tt, (refl, (tt, (refl, (tt, (refl, (valued_kind rule.Boolean _, (refl, (valued_kind rule.Boolean _, (refl, (valued_kind rule.Integer _, (refl, (tt, (refl, (tt, (refl, (tt, (refl, (tt, (refl, (tt, (refl, (tt, (refl, (tt, tt))))))))))))))))))))))))))
+    (refl, (tt, (refl, (tt, (refl, (tt, (refl, (false_alike, (refl, (true_alike, (refl, (maxint_alike, (refl, (tt, (refl, (tt, (refl, (tt, (refl, (tt, (refl, (tt, (refl, (tt, (refl, (tt, tt))))))))))))))))))))))))))
 
 -- ---- lists
 
 -- what holds of each holds of one of them
-each_one : {A : Type 0} (P : A → Type 0) (xs : List A) (x : A) → Each P xs → IsOne x xs → P x
+pub each_one : {A : Type 0} (P : A → Type 0) (xs : List A) (x : A) → Each P xs → IsOne x xs → P x
 each_one P [] x h o = absurd o
 each_one P (y ∷ xs) x h (inl e) = subst P (sym e) h.0
 each_one P (y ∷ xs) x h (inr o) = each_one P xs x h.1 o

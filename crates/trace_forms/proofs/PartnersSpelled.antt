@@ -1,5 +1,5 @@
 -- In what spells tokens, each constant of the rules with a value is one that the model declares.
-use Rattle.std.proofs.Common.{◌≡◌, ℕ, zero, suc, ◌+◌, Bool, List, [], ◌∷◌, ◌++◌, length, map, Option, Some, None, refl, sym, subst, inl, inr, pos}
+use Rattle.std.proofs.Common.{◌≡◌, ℕ, zero, suc, ◌+◌, Bool, List, [], ◌∷◌, ◌++◌, length, map, Option, Some, None, refl, ap, sym, subst, inl, inr, pos}
 use Rattle.std.specs.Prelude.{flat_map, option_to_list}
 use Rattle.std.specs.List.{AllByRecursion}
 use Rattle.std.proofs.lemmas.List.Folds.{flat_map-map}
@@ -62,6 +62,7 @@ use Rattle.type_rules.proofs.TypeEquations as rule_types
 use Rattle.type_rules.proofs.SpecificationEquations as ruled
 use Rattle.pascal_values.specs.declared.value.Value.TheVariants as pascal
 use Rattle.estelle_model.specs.declared.meaning.Meaning.TheVariants as mean
+use Rattle.estelle_model.specs.Types.{ordinal_at}
 use Rattle.estelle_model.specs.Constants.{const_meaning}
 use Rattle.estelle_model.specs.Denoted.{Declaration, Declarations, declare, numbered, count_names, enumeration, ordinal_declares, Typing, Section, type_layer, typing, section, types_declare, sections_declare}
 use Rattle.estelle_model.specs.Definitions.{const_def, type_def, definitions, local, local_variables, routine_meaning, value_formals, var_formals, parameter_sections, routine_declares, clause_declares, block_declares}
@@ -76,7 +77,7 @@ use Rattle.scope_rules.specs.NameRules.{IsOne}
 use Rattle.trace_forms.proofs.AllOf.{AllOf, of_chain, of_behind, of_separated, of_lines, of_may_be_lines}
 use Rattle.trace_forms.proofs.Lists.{one_front, one_back, all_append, all_front, all_back, all_flat}
 use Rattle.trace_forms.proofs.ConstantKinds.{const_alike}
-use Rattle.trace_forms.proofs.Partners.{IsSilent, HasPartner, valued_kind}
+use Rattle.trace_forms.proofs.Partners.{IsSilent, HasPartner, valued_alike}
 
 -- ---- what gives no value
 
@@ -194,7 +195,7 @@ module _ (In : Declaration → Type 0) where
   values_follow : (at : Span) (names : List Name) (n : ℕ) (xs : List Name) → Follow (numbered (λ n known. mean.Constant (pascal.Enum n) (enumeration names)) n xs) (type_rules.enumerated at n xs)
   values_follow at names n [] has = tt
   values_follow at names n (x ∷ xs) has = (
-    inr (record { says = λ known. mean.Constant (pascal.Enum n) (enumeration names); is_in = has _ (inl refl); alike = λ env meant a. valued_kind (rule.Enumeration at) (pos n) }),
+    inr (record { says = λ known. mean.Constant (pascal.Enum n) (enumeration names); is_in = has _ (inl refl); alike = λ env meant a. valued_alike (rule.Enumeration at) (pos n) (pascal.Enum n) (ap ordinal_at (pascal.outs-Enum n), λ i. absurd (cc)) }),
     values_follow at names (suc n) xs (λ d o. has d (inr o)),
   )
 

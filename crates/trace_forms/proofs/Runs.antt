@@ -21,7 +21,7 @@ use Rattle.estelle_model.specs.Subject.{Subject, transitions, transition}
 use Rattle.estelle_model.specs.Situation.{Situation}
 use Rattle.estelle_model.specs.Firing.{Firing, Ran, Failed, Undefined, transition_at, fire_of, fire, start, untimed, guard_of, guard_at, guard}
 use Rattle.estelle_model.specs.Delays.{is_on, renew}
-use Rattle.estelle_model.specs.Runs.{MaySelect, HasRun, HasFailed, Applies, IsLastIfFault, fired, next, Goes, Begins, IsRun, started, after_all, situation}
+use Rattle.estelle_model.specs.Runs.{MaySelect, HasRun, HasFailed, Applies, IsLastIfFault, fired, next, Goes, Begins, IsRun, started, after_events, situation}
 use Rattle.estelle_model.specs.Ends.{last_event, IsNoFault, IsFault, Closes}
 use Rattle.estelle_model_legality.proofs.Lists.{and_both}
 use Rattle.estelle_model_legality.proofs.Selected.{selected as legal_selected}
@@ -86,7 +86,7 @@ module _ (s : Subject) (budget : ℕ) where
   next_made g (Fire m n outs drops) = fired_made g m n (fire s budget g m n) refl
   next_made g (Fault m n kind) = omega arith
 
-  all_made : (es : List Event) (g : Situation) → (after_all s budget g es).made ≤ g.made + budget * length es
+  all_made : (es : List Event) (g : Situation) → (after_events s budget g es).made ≤ g.made + budget * length es
   all_made [] g = omega arith
   all_made (e ∷ es) g = let x = next_made g e in let y = all_made es (next s budget g e) in omega (arith, x, y)
 

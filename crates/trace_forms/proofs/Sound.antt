@@ -22,13 +22,13 @@ use Rattle.estelle_model.specs.declared.denoter.Denoter.{Denoter}
 use Rattle.estelle_model.specs.Types.{ordinal_of, shape_of, host_of, value_in}
 use Rattle.estelle_model.specs.Operators.{bool_of, plus, minus, times, divided, modulo, one_member, members_from}
 use Rattle.estelle_model.specs.States.{Offers}
-use Rattle.estelle_model.specs.Steps.{Running, Outcome, Step, Do, and_then, ◌>>=◌, ◌>>◌, pure, fail, checked, all, spend}
+use Rattle.estelle_model.specs.Steps.{Running, StepResult, Step, Do, and_then, ◌>>=◌, ◌>>◌, pure, fail, checked, all, spend}
 use Rattle.estelle_model.specs.declared.meaning.Routine.{Routine}
 use Rattle.estelle_model.specs.declared.meaning.Passing.{Passing}
 use Rattle.estelle_model.specs.declared.meaning.Passing.TheVariants.{ByValue, ByPlace}
 use Rattle.estelle_model.specs.declared.place.Place.{Place}
 use Rattle.estelle_model.specs.declared.place.Place.TheVariants.{Of, In}
-use Rattle.estelle_model.specs.Places.{known, held, held_in, module_variables_of, load, put, put_at, store, store_ordinal, child_step}
+use Rattle.estelle_model.specs.Places.{known, held, held_in, module_variables_of, load, put, put_in_instance, store, store_ordinal, child_step}
 use Rattle.estelle_model.specs.declared.place.ActualParameters.{ActualParameters}
 use Rattle.estelle_model.specs.Expressions.{Call, Operand, Access, Selecting, bool_step, ordinal_step, both, conjunction, disjunction, multiplied, added, place_of_operand, give, give_all, member_step, set_step}
 use Rattle.estelle_model.proofs.Units.{Each, IfThere}
@@ -51,14 +51,14 @@ pub record IsClosed (S : Type 0) (on : Offers S) (I : Running S → Type 0) : Ty
 
 module _ (S : Type 0) (I : Running S → Type 0) where
   -- where a step ends, the invariant holds, and this of its result
-  abbrev pub Comes : {A : Type 0} → (A → Type 0) → Outcome S A → Type 0
+  abbrev pub Comes : {A : Type 0} → (A → Type 0) → StepResult S A → Type 0
   Comes P (Ok r) = P r.0 × I r.1
   Comes P (Err e) = Unit {0}
 
   abbrev pub Gives : {A : Type 0} → (A → Type 0) → Step S A → Type 0
   Gives P p = (s : Running S) → I s → Comes P (p s)
 
-  pub comes_then : (A B : Type 0) (P : A → Type 0) (R : B → Type 0) (o : Outcome S A) (f : A → Step S B) → Comes P o → ((a : A) → P a → Gives R (f a)) → Comes R (and_then o f)
+  pub comes_then : (A B : Type 0) (P : A → Type 0) (R : B → Type 0) (o : StepResult S A) (f : A → Step S B) → Comes P o → ((a : A) → P a → Gives R (f a)) → Comes R (and_then o f)
   comes_then A B P R (Ok r) f h k = k r.0 h.0 r.1 h.1
   comes_then A B P R (Err e) f h k = tt
 
@@ -77,7 +77,7 @@ module _ (S : Type 0) (I : Running S → Type 0) where
   pub fail_sound : (A : Type 0) (P : A → Type 0) (f : Fault) → Gives P (fail f)
   fail_sound A P f s i = tt
 
-  weaker : (A : Type 0) (P : A → Type 0) (o : Outcome S A) → Comes P o → Comes Any o
+  weaker : (A : Type 0) (P : A → Type 0) (o : StepResult S A) → Comes P o → Comes Any o
   weaker A P (Ok r) h = (tt, h.1)
   weaker A P (Err e) h = tt
 
@@ -199,7 +199,7 @@ module _ (S : Type 0) (I : Running S → Type 0) where
     unfolding load
     load_sound a s i = checked_sound (known (held S on a s)) (known_yields (held S on a s) (closed.loaded s i a)) s i
 
-    put_at_sound : (p : List ℕ) (x : ℕ) (way : List ℕ) (v : Value) → Rises v → (s : Running S) → I s → (o : Option Instance) → Comes Any (put_at S on o p x way v s)
+    put_at_sound : (p : List ℕ) (x : ℕ) (way : List ℕ) (v : Value) → Rises v → (s : Running S) → I s → (o : Option Instance) → Comes Any (put_in_instance S on o p x way v s)
     put_at_sound p x way v y s i None = tt
     put_at_sound p x way v y s i (Some z) = by (may_store ((on.core s.state).types z.body) x way v)
       where

@@ -1,5 +1,5 @@
 -- Every expression keeps the invariant, and gives values in which sets rise, where every call of a routine that a name means does.
-use Rattle.std.proofs.Common.{◌≡◌, ℕ, List, [], ◌∷◌, map, ℤ, Option, Some, None, sym, subst, arith}
+use Rattle.std.proofs.Common.{ℕ, List, [], ◌∷◌, map, ℤ, Option, Some, None, arith}
 use Rattle.std.specs.Prelude.{slice_get}
 use Rattle.pascal_values.specs.declared.fault.Fault.TheVariants.{Unset}
 use Rattle.pascal_values.specs.declared.value.Value.{Value}
@@ -11,22 +11,19 @@ use Rattle.estelle_tree.specs.declared.tree.type_expr.Sign.{Sign}
 use Rattle.estelle_tree.specs.declared.tree.expression.Relation.{Relation}
 use Rattle.estelle_tree.specs.declared.tree.expression.Adding.{Adding}
 use Rattle.estelle_tree.specs.declared.tree.expression.Multiplying.{Multiplying}
-use Rattle.estelle_tree.specs.declared.tree.expression.Factor.{Factor, roll-Factor, map-Factor}
-use Rattle.estelle_tree.specs.declared.tree.expression.Selector.{Selector, roll-Selector}
-use Rattle.estelle_tree.specs.declared.tree.expression.Args.{Args, roll-Args}
-use Rattle.estelle_tree.specs.declared.tree.expression.Elem.{Elem, roll-Elem}
-use Rattle.estelle_tree.specs.declared.tree.expression.Expr.{Expr, roll-Expr}
-use Rattle.estelle_tree.specs.declared.tree.expression.Simple.{Simple, roll-Simple}
-use Rattle.estelle_tree.specs.declared.tree.expression.Term.{Term, roll-Term}
-use Rattle.estelle_tree.specs.declared.tree.expression.Variable.{Variable, roll-Variable}
-use Rattle.estelle_tree.specs.declared.tree.expression.Factor.TheOpen.{Factor-F, Selector-F, Args-F, Elem-F, Expr-F, Simple-F, Term-F, Variable-F}
-use Rattle.estelle_tree.specs.declared.tree.expression.Factor.TheFolds.{map-Selector, map-Args, map-Elem, map-Expr, map-Simple, map-Term, map-Variable, ind-Args, ind-Expr, ind-Variable}
+use Rattle.estelle_tree.specs.declared.tree.expression.Args.{Args}
+use Rattle.estelle_tree.specs.declared.tree.expression.Expr.{Expr}
+use Rattle.estelle_tree.specs.declared.tree.expression.Variable.{Variable}
+use Rattle.estelle_tree.specs.declared.tree.expression.Factor.TheOpen.{Factor-F, Selector-F}
+use Rattle.estelle_tree.proofs.Folds.{Related, Pairs, KeepsAt, folds_related}
+use Rattle.estelle_tree.proofs.ExpressionFolds as kind
+use Rattle.estelle_tree.proofs.ExpressionFolds.{Kind, Layer, expressions}
 use Rattle.estelle_model.specs.Types.{ordinal_of, bounds_of}
-use Rattle.estelle_model.specs.declared.meaning.Required.{Required}
+use Rattle.estelle_tree.specs.declared.required.Required.{Required}
 use Rattle.estelle_model.specs.Operators.{negation, signed, related, required_value}
 use Rattle.estelle_tree.specs.Paths.{Path}
 use Rattle.estelle_model.specs.States.{Offers}
-use Rattle.estelle_model.specs.Steps.{Running, ◌>>=◌, pure, checked}
+use Rattle.estelle_model.specs.Steps.{Step, Running, ◌>>=◌, pure, checked}
 use Rattle.estelle_model.specs.declared.meaning.Routine.{Routine}
 use Rattle.estelle_model.specs.declared.meaning.Meaning.{Meaning}
 use Rattle.estelle_model.specs.declared.meaning.Meaning.TheVariants.{Constant, Own, Exported, Local, Var, Field, Called, RequiredFunction, Module}
@@ -38,9 +35,10 @@ use Rattle.estelle_model.specs.declared.place.Environment.{Environment}
 use Rattle.estelle_model.specs.declared.place.ActualParameters.{ActualParameters}
 use Rattle.estelle_model.specs.Expressions.{Call, Operand, Access, Selecting, Written, ordinal_step, multiplied, multiplied_host, added, added_host, computed, give_all, no_arguments, reference_at, index_step, indexed, fielded, selected, exported, behind_dot, behind_module, accessed, of_access, called, valued, required_of, designated, term_of, with_sign, simple_of, factor, selector, args, elem, expr, simple, term, variable}
 use Rattle.estelle_model.proofs.Units.{Each, IfThere}
+use Rattle.estelle_model.proofs.Kept.{each_has, each_marked_has}
 use Rattle.trace_forms.proofs.Sound.{Any, IsClosed, Gives, OperandSound, AccessSound, SelectingSound, CallSound, GivenRise, then_sound, then_any, pure_sound, pure_any, fail_sound, checked_any, checked_sound, of_value_any, of_value_sound, both_sound, multiplied_sound, added_sound, give_all_sound, member_sound, set_sound, load_sound, child_sound}
 use Rattle.trace_forms.proofs.Values.{Rises, int_rises, char_rises, set_value_yields, signed_yields, negation_yields, related_yields, required_yields}
-use Rattle.estelle_model.proofs.ExpressionEquations.{factor_at, factor_made, selector_at, selector_made, args_at, args_made, elem_at, elem_made, expr_at, expr_made, simple_at, simple_made, term_at, term_made, variable_at, variable_made}
+use Rattle.estelle_model.proofs.ExpressionEquations.{Results, layers}
 
 -- what a name means is a constant in which sets rise, or a routine that is told, or anything else
 abbrev pub MeaningTold : (Routine → Type 0) → Meaning → Type 0
@@ -139,142 +137,55 @@ module _ (S : Type 0) (on : Offers S) (I : Running S → Type 0) (closed : IsClo
 
   -- ---- trees
 
-  abbrev pub FactorSound : Factor → Type 0
-  FactorSound x = OperandSound S I (factor S on meant call here x)
+  abbrev NodeSound : (k : Kind) → Results S k → Results S k → Type 0
+  NodeSound kind.selector x y = SelectingSound S I x
+  NodeSound kind.args x y = Each ON x
+  NodeSound kind.elem x y = Gives S I {A = List ℕ} Any x
+  NodeSound kind.variable x y = WrittenSound x
+  NodeSound kind.factor x y = ON x
+  NodeSound kind.expr x y = ON x
+  NodeSound kind.simple x y = ON x
+  NodeSound kind.term x y = ON x
 
-  abbrev pub SelectorSound : Selector → Type 0
-  SelectorSound x = SelectingSound S I (selector S on meant call here x)
+  abbrev Keeps : (k : Kind) → Layer k (Pairs expressions (Results S) (Results S) (layers S on meant call here) (layers S on meant call here) NodeSound) → Type 0
+  Keeps = KeepsAt expressions (Results S) (Results S) (layers S on meant call here) (layers S on meant call here) NodeSound
 
-  abbrev pub ArgsSound : Args → Type 0
-  ArgsSound x = Each (OperandSound S I) (args S on meant call here x)
+  at_elem : (first : Related (Operand S) (Operand S) (λ x y. ON x)) (last : Option (Related (Operand S) (Operand S) (λ x y. ON x))) (span : Span) → Keeps kind.elem (record { first = first; last = last; span = span })
+  at_elem first None span = member_sound S I first.left None first.holds tt
+  at_elem first (Some e) span = member_sound S I first.left (Some e.left) first.holds e.holds
 
-  abbrev pub ElemSound : Elem → Type 0
-  ElemSound x = Gives S I {A = List ℕ} Any (elem S on meant call here x)
+  at_expr : (left : Related (Operand S) (Operand S) (λ x y. ON x)) (right : Option (Relation × Related (Operand S) (Operand S) (λ x y. ON x))) (span : Span) → Keeps kind.expr (record { left = left; right = right; span = span })
+  at_expr left None span = left.holds
+  at_expr left (Some x) span = record { value = both_sound S I (related x.0) (related_yields x.0) left.left.value x.1.left.value left.holds.value x.1.holds.value; place = tt }
 
-  abbrev pub ExprSound : Expr → Type 0
-  ExprSound x = OperandSound S I (expr S on meant call here x)
+  keeps : (k : Kind) (l : Layer k (Pairs expressions (Results S) (Results S) (layers S on meant call here) (layers S on meant call here) NodeSound)) → Keeps k l
+  keeps kind.factor (Factor-F.Number n span) = record { value = pure_sound S I Value Rises (pascal.Int n) (int_rises n); place = tt }
+  keeps kind.factor (Factor-F.Char n span) = record { value = pure_sound S I Value Rises (pascal.Char n) (char_rises n); place = tt }
+  keeps kind.factor (Factor-F.Variable v) = valued_sound (meant v.left.name) (told v.left.name) v.left.selectors v.holds
+  keeps kind.factor (Factor-F.Call x es span) = designated_sound (meant x) (told x) es.left es.holds
+  keeps kind.factor (Factor-F.Paren e span) = record { value = e.holds.value; place = tt }
+  keeps kind.factor (Factor-F.Not e span) = record { value = of_value_sound S I negation negation_yields e.left.value e.holds.value; place = tt }
+  keeps kind.factor (Factor-F.Set elems span) = record { value = set_sound S I [] (omega arith) (map (λ (e : Related (Step S (List ℕ)) (Step S (List ℕ)) (λ x y. Gives S I {A = List ℕ} Any x)). e.left) elems) (each_has (Gives S I {A = List ℕ} Any) elems); place = tt }
+  keeps kind.selector (Selector-F.Index es) = λ a h. indexed_sound (map (λ (e : Related (Operand S) (Operand S) (λ x y. ON x)). e.left) es) a (each_has ON es) h
+  keeps kind.selector (Selector-F.Field x) = λ a h. fielded_sound (meant x) a h
+  keeps kind.args l = each_has ON l.exprs
+  keeps kind.elem l = at_elem l.first l.last l.span
+  keeps kind.expr l = at_expr l.left l.right l.span
+  keeps kind.simple l = simple_of_sound (with_sign S on meant call here l.sign l.first.left) _ (with_sign_sound l.sign l.first.left l.first.holds) (each_marked_has ON l.others)
+  keeps kind.term l = term_of_sound l.first.left _ l.first.holds (each_marked_has ON l.others)
+  keeps kind.variable l = each_has (SelectingSound S I) l.selectors
 
-  abbrev pub SimpleSound : Simple → Type 0
-  SimpleSound x = OperandSound S I (simple S on meant call here x)
+  nodes_sound : (k : Kind) (x : kind.Tree k) → NodeSound k (kind.folded (Results S) (layers S on meant call here) k x) (kind.folded (Results S) (layers S on meant call here) k x)
+  nodes_sound = folds_related expressions (Results S) (Results S) (layers S on meant call here) (layers S on meant call here) NodeSound keeps
 
-  abbrev pub TermSound : Term → Type 0
-  TermSound x = OperandSound S I (term S on meant call here x)
+  pub args_sound : (x : Args) → Each (OperandSound S I) (args S on meant call here x)
+  unfolding factor selector args elem expr simple term variable
+  args_sound = nodes_sound kind.args
 
-  abbrev pub VariableSound : Variable → Type 0
-  VariableSound x = WrittenSound (variable S on meant call here x)
+  pub expr_sound : (x : Expr) → OperandSound S I (expr S on meant call here x)
+  unfolding factor selector args elem expr simple term variable
+  expr_sound = nodes_sound kind.expr
 
-  abbrev ShownFactor : Type 0
-  ShownFactor = (x : Factor) × FactorSound x
-
-  abbrev ShownSelector : Type 0
-  ShownSelector = (x : Selector) × SelectorSound x
-
-  abbrev ShownArgs : Type 0
-  ShownArgs = (x : Args) × ArgsSound x
-
-  abbrev ShownElem : Type 0
-  ShownElem = (x : Elem) × ElemSound x
-
-  abbrev ShownExpr : Type 0
-  ShownExpr = (x : Expr) × ExprSound x
-
-  abbrev ShownSimple : Type 0
-  ShownSimple = (x : Simple) × SimpleSound x
-
-  abbrev ShownTerm : Type 0
-  ShownTerm = (x : Term) × TermSound x
-
-  abbrev ShownVariable : Type 0
-  ShownVariable = (x : Variable) × VariableSound x
-
-  shown_exprs : (xs : List ShownExpr) → Each ON (map (expr S on meant call here) (map (λ e. e.0) xs))
-  shown_exprs [] = tt
-  shown_exprs (x ∷ xs) = (x.1, shown_exprs xs)
-
-  shown_selectors : (xs : List ShownSelector) → Each (SelectingSound S I) (map (selector S on meant call here) (map (λ e. e.0) xs))
-  shown_selectors [] = tt
-  shown_selectors (x ∷ xs) = (x.1, shown_selectors xs)
-
-  shown_elems : (xs : List ShownElem) → Each (Gives S I {A = List ℕ} Any) (map (elem S on meant call here) (map (λ e. e.0) xs))
-  shown_elems [] = tt
-  shown_elems (x ∷ xs) = (x.1, shown_elems xs)
-
-  shown_factors : (xs : List (Multiplying × ShownFactor)) → Each (λ (x : Multiplying × Operand S). ON x.1) (map (λ (e : Multiplying × Factor). (e.0, factor S on meant call here e.1)) (map (λ (e : Multiplying × ShownFactor). (e.0, e.1.0)) xs))
-  shown_factors [] = tt
-  shown_factors (x ∷ xs) = (x.1.1, shown_factors xs)
-
-  shown_terms : (xs : List (Adding × ShownTerm)) → Each (λ (x : Adding × Operand S). ON x.1) (map (λ (e : Adding × Term). (e.0, term S on meant call here e.1)) (map (λ (e : Adding × ShownTerm). (e.0, e.1.0)) xs))
-  shown_terms [] = tt
-  shown_terms (x ∷ xs) = (x.1.1, shown_terms xs)
-
-  factor_shown : (x : Factor-F Factor Selector Args Elem Expr Simple Term Variable) (y : Factor-F ShownFactor ShownSelector ShownArgs ShownElem ShownExpr ShownSimple ShownTerm ShownVariable) → map-Factor ShownFactor ShownSelector ShownArgs ShownElem ShownExpr ShownSimple ShownTerm ShownVariable Factor Selector Args Elem Expr Simple Term Variable (λ e. e.0) (λ e. e.0) (λ e. e.0) (λ e. e.0) (λ e. e.0) (λ e. e.0) (λ e. e.0) (λ e. e.0) y ≡ x → FactorSound (roll-Factor x)
-  factor_shown x y is = subst (λ (z : Factor-F Factor Selector Args Elem Expr Simple Term Variable). FactorSound (roll-Factor z)) is (subst (λ a. OperandSound S I a) (sym (factor_made S on meant call here (map-Factor ShownFactor ShownSelector ShownArgs ShownElem ShownExpr ShownSimple ShownTerm ShownVariable Factor Selector Args Elem Expr Simple Term Variable (λ e. e.0) (λ e. e.0) (λ e. e.0) (λ e. e.0) (λ e. e.0) (λ e. e.0) (λ e. e.0) (λ e. e.0) y))) (go y))
-    where
-      go : (z : Factor-F ShownFactor ShownSelector ShownArgs ShownElem ShownExpr ShownSimple ShownTerm ShownVariable) → OperandSound S I (factor_at S on meant call here (map-Factor ShownFactor ShownSelector ShownArgs ShownElem ShownExpr ShownSimple ShownTerm ShownVariable Factor Selector Args Elem Expr Simple Term Variable (λ e. e.0) (λ e. e.0) (λ e. e.0) (λ e. e.0) (λ e. e.0) (λ e. e.0) (λ e. e.0) (λ e. e.0) z))
-      go (Factor-F.Number n span) = record { value = pure_sound S I Value Rises (pascal.Int n) (int_rises n); place = tt }
-      go (Factor-F.Char n span) = record { value = pure_sound S I Value Rises (pascal.Char n) (char_rises n); place = tt }
-      go (Factor-F.Variable v) = valued_sound (meant (variable S on meant call here v.0).name) (told (variable S on meant call here v.0).name) (variable S on meant call here v.0).selectors v.1
-      go (Factor-F.Call x es span) = designated_sound (meant x) (told x) (args S on meant call here es.0) es.1
-      go (Factor-F.Paren e span) = record { value = e.1.value; place = tt }
-      go (Factor-F.Not e span) = record { value = of_value_sound S I negation negation_yields (factor S on meant call here e.0).value e.1.value; place = tt }
-      go (Factor-F.Set elems span) = record { value = set_sound S I [] (omega arith) (map (elem S on meant call here) (map (λ e. e.0) elems)) (shown_elems elems); place = tt }
-
-  selector_shown : (x : Selector-F Factor Selector Args Elem Expr Simple Term Variable) (y : Selector-F ShownFactor ShownSelector ShownArgs ShownElem ShownExpr ShownSimple ShownTerm ShownVariable) → map-Selector ShownFactor ShownSelector ShownArgs ShownElem ShownExpr ShownSimple ShownTerm ShownVariable Factor Selector Args Elem Expr Simple Term Variable (λ e. e.0) (λ e. e.0) (λ e. e.0) (λ e. e.0) (λ e. e.0) (λ e. e.0) (λ e. e.0) (λ e. e.0) y ≡ x → SelectorSound (roll-Selector x)
-  selector_shown x y is = subst (λ (z : Selector-F Factor Selector Args Elem Expr Simple Term Variable). SelectorSound (roll-Selector z)) is (subst (λ a. SelectingSound S I a) (sym (selector_made S on meant call here (map-Selector ShownFactor ShownSelector ShownArgs ShownElem ShownExpr ShownSimple ShownTerm ShownVariable Factor Selector Args Elem Expr Simple Term Variable (λ e. e.0) (λ e. e.0) (λ e. e.0) (λ e. e.0) (λ e. e.0) (λ e. e.0) (λ e. e.0) (λ e. e.0) y))) (go y))
-    where
-      go : (z : Selector-F ShownFactor ShownSelector ShownArgs ShownElem ShownExpr ShownSimple ShownTerm ShownVariable) → SelectingSound S I (selector_at S on meant call here (map-Selector ShownFactor ShownSelector ShownArgs ShownElem ShownExpr ShownSimple ShownTerm ShownVariable Factor Selector Args Elem Expr Simple Term Variable (λ e. e.0) (λ e. e.0) (λ e. e.0) (λ e. e.0) (λ e. e.0) (λ e. e.0) (λ e. e.0) (λ e. e.0) z))
-      go (Selector-F.Index es) a h = indexed_sound (map (expr S on meant call here) (map (λ e. e.0) es)) a (shown_exprs es) h
-      go (Selector-F.Field x) a h = fielded_sound (meant x) a h
-
-  args_shown : (x : Args-F Factor Selector Args Elem Expr Simple Term Variable) (y : Args-F ShownFactor ShownSelector ShownArgs ShownElem ShownExpr ShownSimple ShownTerm ShownVariable) → map-Args ShownFactor ShownSelector ShownArgs ShownElem ShownExpr ShownSimple ShownTerm ShownVariable Factor Selector Args Elem Expr Simple Term Variable (λ e. e.0) (λ e. e.0) (λ e. e.0) (λ e. e.0) (λ e. e.0) (λ e. e.0) (λ e. e.0) (λ e. e.0) y ≡ x → ArgsSound (roll-Args x)
-  args_shown x y is = subst (λ (z : Args-F Factor Selector Args Elem Expr Simple Term Variable). ArgsSound (roll-Args z)) is (subst (λ a. Each (OperandSound S I) a) (sym (args_made S on meant call here (map-Args ShownFactor ShownSelector ShownArgs ShownElem ShownExpr ShownSimple ShownTerm ShownVariable Factor Selector Args Elem Expr Simple Term Variable (λ e. e.0) (λ e. e.0) (λ e. e.0) (λ e. e.0) (λ e. e.0) (λ e. e.0) (λ e. e.0) (λ e. e.0) y))) (go y))
-    where
-      go : (z : Args-F ShownFactor ShownSelector ShownArgs ShownElem ShownExpr ShownSimple ShownTerm ShownVariable) → Each (OperandSound S I) (args_at S on meant call here (map-Args ShownFactor ShownSelector ShownArgs ShownElem ShownExpr ShownSimple ShownTerm ShownVariable Factor Selector Args Elem Expr Simple Term Variable (λ e. e.0) (λ e. e.0) (λ e. e.0) (λ e. e.0) (λ e. e.0) (λ e. e.0) (λ e. e.0) (λ e. e.0) z))
-      go z = shown_exprs z.exprs
-
-  elem_shown : (x : Elem-F Factor Selector Args Elem Expr Simple Term Variable) (y : Elem-F ShownFactor ShownSelector ShownArgs ShownElem ShownExpr ShownSimple ShownTerm ShownVariable) → map-Elem ShownFactor ShownSelector ShownArgs ShownElem ShownExpr ShownSimple ShownTerm ShownVariable Factor Selector Args Elem Expr Simple Term Variable (λ e. e.0) (λ e. e.0) (λ e. e.0) (λ e. e.0) (λ e. e.0) (λ e. e.0) (λ e. e.0) (λ e. e.0) y ≡ x → ElemSound (roll-Elem x)
-  elem_shown x y is = subst (λ (z : Elem-F Factor Selector Args Elem Expr Simple Term Variable). ElemSound (roll-Elem z)) is (subst (λ a. Gives S I {A = List ℕ} Any a) (sym (elem_made S on meant call here (map-Elem ShownFactor ShownSelector ShownArgs ShownElem ShownExpr ShownSimple ShownTerm ShownVariable Factor Selector Args Elem Expr Simple Term Variable (λ e. e.0) (λ e. e.0) (λ e. e.0) (λ e. e.0) (λ e. e.0) (λ e. e.0) (λ e. e.0) (λ e. e.0) y))) (go y))
-    where
-      go : (z : Elem-F ShownFactor ShownSelector ShownArgs ShownElem ShownExpr ShownSimple ShownTerm ShownVariable) → Gives S I {A = List ℕ} Any (elem_at S on meant call here (map-Elem ShownFactor ShownSelector ShownArgs ShownElem ShownExpr ShownSimple ShownTerm ShownVariable Factor Selector Args Elem Expr Simple Term Variable (λ e. e.0) (λ e. e.0) (λ e. e.0) (λ e. e.0) (λ e. e.0) (λ e. e.0) (λ e. e.0) (λ e. e.0) z))
-      go z = parts z.first z.last z.span
-        where
-          parts : (first : ShownExpr) (last : Option ShownExpr) (span : Span) → Gives S I {A = List ℕ} Any (elem_at S on meant call here (map-Elem ShownFactor ShownSelector ShownArgs ShownElem ShownExpr ShownSimple ShownTerm ShownVariable Factor Selector Args Elem Expr Simple Term Variable (λ e. e.0) (λ e. e.0) (λ e. e.0) (λ e. e.0) (λ e. e.0) (λ e. e.0) (λ e. e.0) (λ e. e.0) (record { first = first; last = last; span = span })))
-          parts first None span = member_sound S I (expr S on meant call here first.0) None first.1 tt
-          parts first (Some e) span = member_sound S I (expr S on meant call here first.0) (Some (expr S on meant call here e.0)) first.1 e.1
-
-  expr_shown : (x : Expr-F Factor Selector Args Elem Expr Simple Term Variable) (y : Expr-F ShownFactor ShownSelector ShownArgs ShownElem ShownExpr ShownSimple ShownTerm ShownVariable) → map-Expr ShownFactor ShownSelector ShownArgs ShownElem ShownExpr ShownSimple ShownTerm ShownVariable Factor Selector Args Elem Expr Simple Term Variable (λ e. e.0) (λ e. e.0) (λ e. e.0) (λ e. e.0) (λ e. e.0) (λ e. e.0) (λ e. e.0) (λ e. e.0) y ≡ x → ExprSound (roll-Expr x)
-  expr_shown x y is = subst (λ (z : Expr-F Factor Selector Args Elem Expr Simple Term Variable). ExprSound (roll-Expr z)) is (subst (λ a. OperandSound S I a) (sym (expr_made S on meant call here (map-Expr ShownFactor ShownSelector ShownArgs ShownElem ShownExpr ShownSimple ShownTerm ShownVariable Factor Selector Args Elem Expr Simple Term Variable (λ e. e.0) (λ e. e.0) (λ e. e.0) (λ e. e.0) (λ e. e.0) (λ e. e.0) (λ e. e.0) (λ e. e.0) y))) (go y))
-    where
-      go : (z : Expr-F ShownFactor ShownSelector ShownArgs ShownElem ShownExpr ShownSimple ShownTerm ShownVariable) → OperandSound S I (expr_at S on meant call here (map-Expr ShownFactor ShownSelector ShownArgs ShownElem ShownExpr ShownSimple ShownTerm ShownVariable Factor Selector Args Elem Expr Simple Term Variable (λ e. e.0) (λ e. e.0) (λ e. e.0) (λ e. e.0) (λ e. e.0) (λ e. e.0) (λ e. e.0) (λ e. e.0) z))
-      go z = parts z.left z.right z.span
-        where
-          parts : (left : ShownSimple) (right : Option (Relation × ShownSimple)) (span : Span) → OperandSound S I (expr_at S on meant call here (map-Expr ShownFactor ShownSelector ShownArgs ShownElem ShownExpr ShownSimple ShownTerm ShownVariable Factor Selector Args Elem Expr Simple Term Variable (λ e. e.0) (λ e. e.0) (λ e. e.0) (λ e. e.0) (λ e. e.0) (λ e. e.0) (λ e. e.0) (λ e. e.0) (record { left = left; right = right; span = span })))
-          parts left None span = left.1
-          parts left (Some x) span = record { value = both_sound S I (related x.0) (related_yields x.0) (simple S on meant call here left.0).value (simple S on meant call here x.1.0).value left.1.value x.1.1.value; place = tt }
-
-  simple_shown : (x : Simple-F Factor Selector Args Elem Expr Simple Term Variable) (y : Simple-F ShownFactor ShownSelector ShownArgs ShownElem ShownExpr ShownSimple ShownTerm ShownVariable) → map-Simple ShownFactor ShownSelector ShownArgs ShownElem ShownExpr ShownSimple ShownTerm ShownVariable Factor Selector Args Elem Expr Simple Term Variable (λ e. e.0) (λ e. e.0) (λ e. e.0) (λ e. e.0) (λ e. e.0) (λ e. e.0) (λ e. e.0) (λ e. e.0) y ≡ x → SimpleSound (roll-Simple x)
-  simple_shown x y is = subst (λ (z : Simple-F Factor Selector Args Elem Expr Simple Term Variable). SimpleSound (roll-Simple z)) is (subst (λ a. OperandSound S I a) (sym (simple_made S on meant call here (map-Simple ShownFactor ShownSelector ShownArgs ShownElem ShownExpr ShownSimple ShownTerm ShownVariable Factor Selector Args Elem Expr Simple Term Variable (λ e. e.0) (λ e. e.0) (λ e. e.0) (λ e. e.0) (λ e. e.0) (λ e. e.0) (λ e. e.0) (λ e. e.0) y))) (go y))
-    where
-      go : (z : Simple-F ShownFactor ShownSelector ShownArgs ShownElem ShownExpr ShownSimple ShownTerm ShownVariable) → OperandSound S I (simple_at S on meant call here (map-Simple ShownFactor ShownSelector ShownArgs ShownElem ShownExpr ShownSimple ShownTerm ShownVariable Factor Selector Args Elem Expr Simple Term Variable (λ e. e.0) (λ e. e.0) (λ e. e.0) (λ e. e.0) (λ e. e.0) (λ e. e.0) (λ e. e.0) (λ e. e.0) z))
-      go z = simple_of_sound (with_sign S on meant call here z.sign (term S on meant call here z.first.0)) _ (with_sign_sound z.sign (term S on meant call here z.first.0) z.first.1) (shown_terms z.others)
-
-  term_shown : (x : Term-F Factor Selector Args Elem Expr Simple Term Variable) (y : Term-F ShownFactor ShownSelector ShownArgs ShownElem ShownExpr ShownSimple ShownTerm ShownVariable) → map-Term ShownFactor ShownSelector ShownArgs ShownElem ShownExpr ShownSimple ShownTerm ShownVariable Factor Selector Args Elem Expr Simple Term Variable (λ e. e.0) (λ e. e.0) (λ e. e.0) (λ e. e.0) (λ e. e.0) (λ e. e.0) (λ e. e.0) (λ e. e.0) y ≡ x → TermSound (roll-Term x)
-  term_shown x y is = subst (λ (z : Term-F Factor Selector Args Elem Expr Simple Term Variable). TermSound (roll-Term z)) is (subst (λ a. OperandSound S I a) (sym (term_made S on meant call here (map-Term ShownFactor ShownSelector ShownArgs ShownElem ShownExpr ShownSimple ShownTerm ShownVariable Factor Selector Args Elem Expr Simple Term Variable (λ e. e.0) (λ e. e.0) (λ e. e.0) (λ e. e.0) (λ e. e.0) (λ e. e.0) (λ e. e.0) (λ e. e.0) y))) (go y))
-    where
-      go : (z : Term-F ShownFactor ShownSelector ShownArgs ShownElem ShownExpr ShownSimple ShownTerm ShownVariable) → OperandSound S I (term_at S on meant call here (map-Term ShownFactor ShownSelector ShownArgs ShownElem ShownExpr ShownSimple ShownTerm ShownVariable Factor Selector Args Elem Expr Simple Term Variable (λ e. e.0) (λ e. e.0) (λ e. e.0) (λ e. e.0) (λ e. e.0) (λ e. e.0) (λ e. e.0) (λ e. e.0) z))
-      go z = term_of_sound (factor S on meant call here z.first.0) _ z.first.1 (shown_factors z.others)
-
-  variable_shown : (x : Variable-F Factor Selector Args Elem Expr Simple Term Variable) (y : Variable-F ShownFactor ShownSelector ShownArgs ShownElem ShownExpr ShownSimple ShownTerm ShownVariable) → map-Variable ShownFactor ShownSelector ShownArgs ShownElem ShownExpr ShownSimple ShownTerm ShownVariable Factor Selector Args Elem Expr Simple Term Variable (λ e. e.0) (λ e. e.0) (λ e. e.0) (λ e. e.0) (λ e. e.0) (λ e. e.0) (λ e. e.0) (λ e. e.0) y ≡ x → VariableSound (roll-Variable x)
-  variable_shown x y is = subst (λ (z : Variable-F Factor Selector Args Elem Expr Simple Term Variable). VariableSound (roll-Variable z)) is (subst (λ a. WrittenSound a) (sym (variable_made S on meant call here (map-Variable ShownFactor ShownSelector ShownArgs ShownElem ShownExpr ShownSimple ShownTerm ShownVariable Factor Selector Args Elem Expr Simple Term Variable (λ e. e.0) (λ e. e.0) (λ e. e.0) (λ e. e.0) (λ e. e.0) (λ e. e.0) (λ e. e.0) (λ e. e.0) y))) (go y))
-    where
-      go : (z : Variable-F ShownFactor ShownSelector ShownArgs ShownElem ShownExpr ShownSimple ShownTerm ShownVariable) → WrittenSound (variable_at S on meant call here (map-Variable ShownFactor ShownSelector ShownArgs ShownElem ShownExpr ShownSimple ShownTerm ShownVariable Factor Selector Args Elem Expr Simple Term Variable (λ e. e.0) (λ e. e.0) (λ e. e.0) (λ e. e.0) (λ e. e.0) (λ e. e.0) (λ e. e.0) (λ e. e.0) z))
-      go z = shown_selectors z.selectors
-
-  pub args_sound : (x : Args) → ArgsSound x
-  args_sound = ind-Args FactorSound SelectorSound ArgsSound ElemSound ExprSound SimpleSound TermSound VariableSound factor_shown selector_shown args_shown elem_shown expr_shown simple_shown term_shown variable_shown
-
-  pub expr_sound : (x : Expr) → ExprSound x
-  expr_sound = ind-Expr FactorSound SelectorSound ArgsSound ElemSound ExprSound SimpleSound TermSound VariableSound factor_shown selector_shown args_shown elem_shown expr_shown simple_shown term_shown variable_shown
-
-  pub variable_sound : (x : Variable) → VariableSound x
-  variable_sound = ind-Variable FactorSound SelectorSound ArgsSound ElemSound ExprSound SimpleSound TermSound VariableSound factor_shown selector_shown args_shown elem_shown expr_shown simple_shown term_shown variable_shown
+  pub variable_sound : (x : Variable) → WrittenSound (variable S on meant call here x)
+  unfolding factor selector args elem expr simple term variable
+  variable_sound = nodes_sound kind.variable

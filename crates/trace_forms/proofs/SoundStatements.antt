@@ -1,5 +1,5 @@
 -- Every statement whose outputs are named by identifiers keeps the invariant, where calls and the statements of Estelle do.
-use Rattle.std.proofs.Common.{◌≡◌, ℕ, zero, suc, Bool, List, [], ◌∷◌, map, ℤ, Option, Some, None, sym, subst, cond, true, ◌∙◌}
+use Rattle.std.proofs.Common.{◌≡◌, ℕ, zero, suc, Bool, List, [], ◌∷◌, map, ℤ, Option, Some, None, cond, true}
 use Rattle.pascal_values.specs.declared.fault.Fault.TheVariants as fault
 use Rattle.pascal_values.specs.declared.value.Value.{Value}
 use Rattle.pascal_values.specs.declared.value.Value.TheVariants as pascal
@@ -9,11 +9,11 @@ use Rattle.estelle_tree.specs.declared.tree.expression.Expr.{Expr}
 use Rattle.estelle_tree.specs.declared.tree.expression.Args.{Args}
 use Rattle.estelle_tree.specs.declared.tree.expression.Variable.{Variable}
 use Rattle.estelle_tree.specs.declared.tree.statement.Direction.{Direction}
-use Rattle.estelle_tree.specs.declared.tree.statement.Stmt.{Stmt, roll-Stmt, map-Stmt}
-use Rattle.estelle_tree.specs.declared.tree.statement.Case.{Case, roll-Case}
-use Rattle.estelle_tree.specs.declared.tree.statement.Stmts.{Stmts, roll-Stmts}
-use Rattle.estelle_tree.specs.declared.tree.statement.Stmt.TheOpen.{Stmt-F, Case-F, Stmts-F}
-use Rattle.estelle_tree.specs.declared.tree.statement.Stmt.TheFolds.{map-Case, map-Stmts, ind-Stmts}
+use Rattle.estelle_tree.specs.declared.tree.statement.Stmts.{Stmts}
+use Rattle.estelle_tree.specs.declared.tree.statement.Stmt.TheOpen.{Stmt-F}
+use Rattle.estelle_tree.proofs.Folds.{Related, Pairs, KeepsAt, folds_related}
+use Rattle.estelle_tree.proofs.StatementFolds as kind
+use Rattle.estelle_tree.proofs.StatementFolds.{Kind, Layer, statements}
 use Rattle.estelle_model.specs.declared.denoter.Denoter.{Denoter}
 use Rattle.estelle_model.specs.Types.{ordinal_of}
 use Rattle.estelle_model.specs.Operators.{bool_of}
@@ -35,11 +35,11 @@ use Rattle.estelle_model.proofs.Units.{Each, IfThere}
 use Rattle.trace_forms.proofs.Sound.{Any, IsClosed, Gives, OperandSound, AccessSound, SelectingSound, CallSound, GivenRise, then_sound, then_any, pure_any, fail_sound, if_sound, seq_sound, all_sound, spend_sound, of_value_any, give_all_sound, put_sound, store_sound, store_ordinal_sound}
 use Rattle.trace_forms.proofs.Values.{Rises, unset_rises}
 use Rattle.std.specs.List.{list_all}
-use Rattle.trace_forms.proofs.Named.{are_names, named_stmt, named_case, named_stmts, stmt_test, case_test, stmts_test}
+use Rattle.trace_forms.proofs.Named.{are_names, named_stmts}
 use Rattle.trace_forms.proofs.Named as named
 use Rattle.trace_forms.proofs.SoundExpressions.{MeaningTold, accessed_sound, args_sound, expr_sound, variable_sound}
 use Rattle.estelle_model_legality.proofs.Lists.{and_both}
-use Rattle.estelle_model.proofs.StatementEquations.{stmt_at, stmt_made, branch_made, stmts_made}
+use Rattle.estelle_model.proofs.StatementEquations.{Results, layers}
 
 -- ---- loops
 
@@ -158,71 +158,40 @@ module _ (S : Type 0) (on : Offers S) (I : Running S → Type 0) (closed : IsClo
 
   -- ---- trees
 
-  abbrev pub StmtSound : Stmt → Type 0
-  StmtSound x = named_stmt x ≡ true → Gives S I {A = Unit {0}} Any (stmt S on meant act call here x)
+  -- what is told, where the names of outputs are identifiers
+  abbrev NodeSound : (k : Kind) → Results S k → Bool → Type 0
+  NodeSound kind.stmt x n = n ≡ true → Gives S I {A = Unit {0}} Any x
+  NodeSound kind.branch x n = n ≡ true → CaseSound x
+  NodeSound kind.stmts x n = n ≡ true → Gives S I {A = Unit {0}} Any x
 
-  abbrev pub BranchSound : Case → Type 0
-  BranchSound x = named_case x ≡ true → CaseSound (branch S on meant act call here x)
+  abbrev Nodes : Kind → Type 0
+  Nodes = Pairs statements (Results S) (λ k. Bool) (layers S on meant act call here) named.layers NodeSound
 
-  abbrev pub StmtsSound : Stmts → Type 0
-  StmtsSound x = named_stmts x ≡ true → Gives S I {A = Unit {0}} Any (stmts S on meant act call here x)
+  each_sound : {A : Type 0} (P : A → Type 0) (xs : List (Related A Bool (λ x n. n ≡ true → P x))) → list_all (λ b. b) (map (λ (x : Related A Bool (λ x n. n ≡ true → P x)). x.right) xs) ≡ true → Each P (map (λ (x : Related A Bool (λ x n. n ≡ true → P x)). x.left) xs)
+  each_sound P [] n = tt
+  each_sound P (x ∷ xs) n = let b = and_both x.right _ n in (x.holds b.0, each_sound P xs b.1)
 
-  abbrev ShownStmt : Type 0
-  ShownStmt = (x : Stmt) × StmtSound x
+  keeps : (k : Kind) (l : Layer k Nodes) → KeepsAt statements (Results S) (λ k. Bool) (layers S on meant act call here) named.layers NodeSound k l
+  keeps kind.stmt Stmt-F.Empty = λ n. pure_any S I (Unit {0}) tt
+  keeps kind.stmt (Stmt-F.Assign v e span) = λ n. assign_sound v e
+  keeps kind.stmt (Stmt-F.Call x es span) = λ n. invoke_sound x es
+  keeps kind.stmt (Stmt-F.Begin body span) = λ n. body.holds n
+  keeps kind.stmt (Stmt-F.If test then_part None span) = λ n. choose_sound test then_part.left None (then_part.holds (and_both then_part.right _ n).0) tt
+  keeps kind.stmt (Stmt-F.If test then_part (Some p) span) = λ n. let b = and_both then_part.right _ n in choose_sound test then_part.left (Some p.left) (then_part.holds b.0) (p.holds b.1)
+  keeps kind.stmt (Stmt-F.While test body span) = λ n. while_sound S on I closed (bool_step (value_of_expr S on meant act call here test)) body.left (test_sound test) (body.holds n)
+  keeps kind.stmt (Stmt-F.Repeat body test span) = λ n. repeat_sound S on I closed body.left (bool_step (value_of_expr S on meant act call here test)) (body.holds n) (test_sound test)
+  keeps kind.stmt (Stmt-F.Count x first dir last body span) = λ n. for_sound x first dir last body.left (body.holds n)
+  keeps kind.stmt (Stmt-F.Case e cases semicolon span) = λ n. select_sound e (map (λ (c : Related (List Const × Do S) Bool (λ x n. n ≡ true → CaseSound x)). c.left) cases) (each_sound CaseSound cases n)
+  keeps kind.stmt (Stmt-F.Init x b es span) = λ n. acts (Init x b (arguments S on meant act call here es)) tt (arguments_sound es)
+  keeps kind.stmt (Stmt-F.Release x span) = λ n. acts (Release x) tt tt
+  keeps kind.stmt (Stmt-F.Connect p q span) = λ n. acts (Connect p q) tt tt
+  keeps kind.stmt (Stmt-F.Disconnect p span) = λ n. acts (Disconnect p) tt tt
+  keeps kind.stmt (Stmt-F.Attach p x q span) = λ n. acts (Attach p x q) tt tt
+  keeps kind.stmt (Stmt-F.Detach p span) = λ n. acts (Detach p) tt tt
+  keeps kind.stmt (Stmt-F.Output p x es span) = λ n. acts (Output p x (arguments S on meant act call here es)) n (arguments_sound es)
+  keeps kind.branch l = λ n. l.body.holds n
+  keeps kind.stmts l = λ n. all_sound S I (map (λ (x : Related (Do S) Bool (λ x n. n ≡ true → Gives S I {A = Unit {0}} Any x)). x.left) l.stmts) (each_sound (Gives S I {A = Unit {0}} Any) l.stmts n)
 
-  abbrev ShownCase : Type 0
-  ShownCase = (x : Case) × BranchSound x
-
-  abbrev ShownStmts : Type 0
-  ShownStmts = (x : Stmts) × StmtsSound x
-
-  shown_stmts : (xs : List ShownStmt) → list_all (λ b. b) (map named_stmt (map (λ e. e.0) xs)) ≡ true → Each (Gives S I {A = Unit {0}} Any) (map (stmt S on meant act call here) (map (λ e. e.0) xs))
-  shown_stmts [] n = tt
-  shown_stmts (x ∷ xs) n = let b = and_both (named_stmt x.0) _ n in (x.1 b.0, shown_stmts xs b.1)
-
-  shown_cases : (xs : List ShownCase) → list_all (λ b. b) (map named_case (map (λ e. e.0) xs)) ≡ true → Each CaseSound (map (branch S on meant act call here) (map (λ e. e.0) xs))
-  shown_cases [] n = tt
-  shown_cases (x ∷ xs) n = let b = and_both (named_case x.0) _ n in (x.1 b.0, shown_cases xs b.1)
-
-  abbrev opened_stmt : Stmt-F ShownStmt ShownCase ShownStmts → Stmt-F Stmt Case Stmts
-  opened_stmt y = map-Stmt ShownStmt ShownCase ShownStmts Stmt Case Stmts (λ e. e.0) (λ e. e.0) (λ e. e.0) y
-
-  abbrev opened_case : Case-F ShownStmt ShownCase ShownStmts → Case-F Stmt Case Stmts
-  opened_case y = map-Case ShownStmt ShownCase ShownStmts Stmt Case Stmts (λ e. e.0) (λ e. e.0) (λ e. e.0) y
-
-  abbrev opened_stmts : Stmts-F ShownStmt ShownCase ShownStmts → Stmts-F Stmt Case Stmts
-  opened_stmts y = map-Stmts ShownStmt ShownCase ShownStmts Stmt Case Stmts (λ e. e.0) (λ e. e.0) (λ e. e.0) y
-
-  stmt_go : (z : Stmt-F ShownStmt ShownCase ShownStmts) → stmt_test (opened_stmt z) ≡ true → Gives S I {A = Unit {0}} Any (stmt_at S on meant act call here (opened_stmt z))
-  stmt_go Stmt-F.Empty n = pure_any S I (Unit {0}) tt
-  stmt_go (Stmt-F.Assign v e span) n = assign_sound v e
-  stmt_go (Stmt-F.Call x es span) n = invoke_sound x es
-  stmt_go (Stmt-F.Begin body span) n = body.1 n
-  stmt_go (Stmt-F.If test then_part None span) n = choose_sound test (stmt S on meant act call here then_part.0) None (then_part.1 (and_both (named_stmt then_part.0) _ n).0) tt
-  stmt_go (Stmt-F.If test then_part (Some p) span) n = let b = and_both (named_stmt then_part.0) _ n in choose_sound test (stmt S on meant act call here then_part.0) (Some (stmt S on meant act call here p.0)) (then_part.1 b.0) (p.1 b.1)
-  stmt_go (Stmt-F.While test body span) n = while_sound S on I closed (bool_step (value_of_expr S on meant act call here test)) (stmt S on meant act call here body.0) (test_sound test) (body.1 n)
-  stmt_go (Stmt-F.Repeat body test span) n = repeat_sound S on I closed (stmts S on meant act call here body.0) (bool_step (value_of_expr S on meant act call here test)) (body.1 n) (test_sound test)
-  stmt_go (Stmt-F.Count x first dir last body span) n = for_sound x first dir last (stmt S on meant act call here body.0) (body.1 n)
-  stmt_go (Stmt-F.Case e cases semicolon span) n = select_sound e (map (branch S on meant act call here) (map (λ c. c.0) cases)) (shown_cases cases n)
-  stmt_go (Stmt-F.Init x b es span) n = acts (Init x b (arguments S on meant act call here es)) tt (arguments_sound es)
-  stmt_go (Stmt-F.Release x span) n = acts (Release x) tt tt
-  stmt_go (Stmt-F.Connect p q span) n = acts (Connect p q) tt tt
-  stmt_go (Stmt-F.Disconnect p span) n = acts (Disconnect p) tt tt
-  stmt_go (Stmt-F.Attach p x q span) n = acts (Attach p x q) tt tt
-  stmt_go (Stmt-F.Detach p span) n = acts (Detach p) tt tt
-  stmt_go (Stmt-F.Output p x es span) n = acts (Output p x (arguments S on meant act call here es)) n (arguments_sound es)
-
-  stmt_shown : (x : Stmt-F Stmt Case Stmts) (y : Stmt-F ShownStmt ShownCase ShownStmts) → opened_stmt y ≡ x → StmtSound (roll-Stmt x)
-  stmt_shown x y is = subst (λ (z : Stmt-F Stmt Case Stmts). StmtSound (roll-Stmt z)) is
-      (λ n. subst (λ a. Gives S I {A = Unit {0}} Any a) (sym (stmt_made S on meant act call here (opened_stmt y))) (stmt_go y (sym (named.stmt_made (opened_stmt y)) ∙ n)))
-
-  branch_shown : (x : Case-F Stmt Case Stmts) (y : Case-F ShownStmt ShownCase ShownStmts) → opened_case y ≡ x → BranchSound (roll-Case x)
-  branch_shown x y is = subst (λ (z : Case-F Stmt Case Stmts). BranchSound (roll-Case z)) is
-      (λ n. subst (λ a. CaseSound a) (sym (branch_made S on meant act call here (opened_case y))) (y.body.1 (sym (named.case_made (opened_case y)) ∙ n)))
-
-  stmts_shown : (x : Stmts-F Stmt Case Stmts) (y : Stmts-F ShownStmt ShownCase ShownStmts) → opened_stmts y ≡ x → StmtsSound (roll-Stmts x)
-  stmts_shown x y is = subst (λ (z : Stmts-F Stmt Case Stmts). StmtsSound (roll-Stmts z)) is
-      (λ n. subst (λ a. Gives S I {A = Unit {0}} Any a) (sym (stmts_made S on meant act call here (opened_stmts y))) (all_sound S I (map (stmt S on meant act call here) (map (λ e. e.0) y.stmts)) (shown_stmts y.stmts (sym (named.stmts_made (opened_stmts y)) ∙ n))))
-
-  pub stmts_sound : (x : Stmts) → StmtsSound x
-  stmts_sound = ind-Stmts StmtSound BranchSound StmtsSound stmt_shown branch_shown stmts_shown
+  pub stmts_sound : (x : Stmts) → named_stmts x ≡ true → Gives S I {A = Unit {0}} Any (stmts S on meant act call here x)
+  unfolding stmt branch stmts named_stmts
+  stmts_sound = folds_related statements (Results S) (λ k. Bool) (layers S on meant act call here) named.layers NodeSound keeps kind.stmts

@@ -56,11 +56,11 @@ use Rattle.tree_visits.specs.Visits as visiting
 use Rattle.tree_visits.specs.Visits.{Visits, visit_of, in_body, in_specification, init_nodes, trans, routines_in, visits}
 use Rattle.tree_visits.proofs.BodyEquations as visited
 use Rattle.trace_forms.proofs.Named.{named_stmts}
-use Rattle.trace_forms.proofs.Passes.{Less, less_same, less_more, less_takes, less_flag, name_less, AllLess, maybe, chain, behind, ended, enclosed, joined, several, separated, lines, may_be_lines, name, names, const_less, expr_less, all_at}
+use Rattle.trace_forms.proofs.Passes.{FormsAt, Less, less_same, less_more, less_takes, less_flag, name_less, AllLess, maybe, chain, behind, ended, enclosed, joined, several, separated, lines, may_be_lines, name, names, const_less, expr_less, all_at}
 use Rattle.trace_forms.proofs.Holds.{Holds, AllHold, hold_less, hold_end, hold_both, hold_as, always, hold_chain, hold_behind, hold_optional, hold_enclosed, hold_separated, hold_lines, hold_may_be_lines}
 use Rattle.trace_forms.proofs.SpelledStatements.{Good, stmts_good}
 use Rattle.trace_forms.proofs.Kept.{Kept, PlacedKept, PartKept, PlacedPartKept, kept_front, kept_back, placed_front, placed_back, not_placed, each_kept, parts_kept, each_part_kept}
-use Rattle.trace_forms.proofs.TypePlaces.{IsFixed}
+use Rattle.trace_forms.proofs.TypePlaces.{IsSettled}
 use Rattle.trace_forms.proofs.Declared.{AllSay, BodyTold, BlockTold, DefinitionTold, DefinitionsTold, TypeDefTold, SectionTold, OrdinalFirm, ClauseFirm, VarsTold, consts_say, type_defs_say, vars_say, routine_says, channel_says, header_says, stateset_says}
 use Rattle.trace_forms.proofs.SpelledTypes.{ordinal_holds, const_def_holds, type_def_holds, vars_hold, definition_holds}
 use Rattle.trace_forms.proofs.Lists.{all_append, all_front, all_back, one_front, one_back}
@@ -100,7 +100,7 @@ module _ (env : Env) (room : ℕ) where
       let C = (sites.all_of (map sites.block_decl_part r.decls)).sites env in
       let D = stmts_sites env r.body in
       let V = flat_map sites.formal_variables (sites.formals_of r.formals) in
-      hold_as (λ p at kept. (p.0 (kept_front C D (kept_back B (C ++ D) (kept_back A (B ++ (C ++ D)) kept.0)), all_back (IsFixed env) V _ kept.1.1), p.1)) (hold_less
+      hold_as (λ p at kept. (p.0 (kept_front C D (kept_back B (C ++ D) (kept_back A (B ++ (C ++ D)) kept.0)), all_back (IsSettled env) V _ kept.1.1), p.1)) (hold_less
       (less_more (behind name r.name i h.after_name h.name) (less_more (maybe formals_less r.formals h.after_name h.after_formals h.formals)
       (less_more (result_less r.form h.after_formals h.after_result h.result) (less_takes h.semicolon))))
       (hold_both (definitions_hold r.decls h.after_head h.after_decls h.decls) (part_holds r.body h.after_decls j h.body)))
@@ -173,8 +173,8 @@ module _ (env : Env) (room : ℕ) where
       let B = (sites.all_of (map sites.group gs)).sites env in
       let D = (sites.group g).declares in
       let M = (sites.all_of (map sites.group gs)).declares in
-      let first = h.0 (kept_front A B kept.0, all_front (IsFixed env) D M kept.1) in
-      let more = groups_told gs h.1 (kept_back A B kept.0, all_back (IsFixed env) D M kept.1) in
+      let first = h.0 (kept_front A B kept.0, all_front (IsSettled env) D M kept.1) in
+      let more = groups_told gs h.1 (kept_back A B kept.0, all_back (IsSettled env) D M kept.1) in
       (all_append (ClauseFirm env) (group_clauses g) (flat_map (λ cs. cs) (map group_clauses gs)) first.0 more.0, all_append (λ (w : Way). BlockTold env w.block) (group_ways g) (flat_map (λ ws. ws) (map group_ways gs)) first.1 more.1)
 
   module _ (G : List Kind → Spelling Group) (holds : (way : List Kind) → AllHold GroupTold (G way)) where
@@ -203,7 +203,7 @@ module _ (env : Env) (room : ℕ) where
         hold_as (λ p kept0.
         let kept = subst (PartKept env) (ruled.group_is g) kept0 in
         let first = p.0 (kept_front A B kept.0) in
-        let more = p.1 (kept_back A B kept.0, all_back (IsFixed env) (sites.clause_part c).declares (sites.trans_body b).declares kept.1) in
+        let more = p.1 (kept_back A B kept.0, all_back (IsSettled env) (sites.clause_part c).declares (sites.trans_body b).declares kept.1) in
         (subst ClausesFirm (sym (group_clauses_out g)) (first, more.0), subst WaysTold (sym (group_out g)) (behind_told c (ways b) more.1)))
         (hold_both (clause_holds c i h.mid h.clause) (trans_body_holds (way_of way g) b h.mid j h.body))
 
@@ -292,11 +292,11 @@ visited_back vs ws (b ∷ bs) h = (record { around = h.0.around; routines = h.0.
 
 module _ (env : Env) (by_default : Bool) where
   -- what is told of the parts of a body
-  record PartsTold (p : Parts) : Type 0 where
+  pub record PartsTold (p : Parts) : Type 0 where
     told : (at : ℕ) → PlacedPartKept env at (sites.parts p) → (title header : Option Name) → AllByRecursion (BodyTold env) (standing by_default title header p ∷ inner_of by_default p)
     seen : (title header : Option Name) (a : Around) → AllByRecursion (IsVisited (visiting.parts p a)) (standing by_default title header p ∷ inner_of by_default p)
 
-  record DeclTold (d : Decl) : Type 0 where
+  pub record DeclTold (d : Decl) : Type 0 where
     names : (at : ℕ) → PlacedPartKept env at (sites.decl d) → AllSay env (names_of by_default d)
     inside : (at : ℕ) → PlacedPartKept env at (sites.decl d) → AllByRecursion (BodyTold env) (flat_map (stand.body by_default) (bodies_of d))
     seen : (a : Around) → AllByRecursion (IsVisited ((visiting.decl d).visits a)) (flat_map (stand.body by_default) (bodies_of d))
@@ -342,7 +342,7 @@ module _ (env : Env) (by_default : Bool) where
     body_told : (b : Body) (at : ℕ) → PartsTold (out-Body b).parts → PlacedPartKept env at (sites.body b) → AllByRecursion (BodyTold env) (stand.body by_default b)
     body_told b at p kept =
         let o = out-Body b in
-        subst (AllByRecursion (BodyTold env)) (sym (body_is by_default b)) (p.told o.span.start (subst PlacedKept (ruled.body_sites b env at) kept.0, (subst (AllByRecursion (IsFixed env)) (ruled.body_declares b at) kept.1).1) (Some o.name) (Some o.header))
+        subst (AllByRecursion (BodyTold env)) (sym (body_is by_default b)) (p.told o.span.start (subst PlacedKept (ruled.body_sites b env at) kept.0, (subst (AllByRecursion (IsSettled env)) (ruled.body_declares b at) kept.1).1) (Some o.name) (Some o.header))
 
     -- the bodies in a declaration
     inside_told : (l : DeclLayer) → BodiesTold l → (at : ℕ) → PlacedPartKept env at (layer_part l) → AllByRecursion (BodyTold env) (flat_map (stand.body by_default) (bodies_at l))
@@ -378,7 +378,7 @@ module _ (env : Env) (by_default : Bool) where
     layer_seen (Decl-F.Stateset sets span) h a = tt
     layer_seen (Decl-F.Routine r) h a = tt
 
-    decl_told : AllHold DeclTold (DeclOf room P)
+    pub decl_told : AllHold DeclTold (DeclOf room P)
     decl_told d i j h = hold_as (λ t. record {
       names = λ at kept. t.0 at (subst (PlacedPartKept env at) (ruled.decl_is d) kept);
       inside = λ at kept. inside_told (out-Decl d) t.1 at (subst (PlacedPartKept env at) (ruled.decl_is d) kept);
@@ -394,13 +394,13 @@ module _ (env : Env) (by_default : Bool) where
     decls_declare ds at = flat_map (λ d. (sites.decl d).declares at) ds
 
     abbrev DeclsKept : List Decl → ℕ → Type 0
-    DeclsKept ds at = PlacedKept (decls_sites ds at) × AllByRecursion (IsFixed env) (decls_declare ds at)
+    DeclsKept ds at = PlacedKept (decls_sites ds at) × AllByRecursion (IsSettled env) (decls_declare ds at)
 
     first_kept : (d : Decl) (ds : List Decl) (at : ℕ) → DeclsKept (d ∷ ds) at → PlacedPartKept env at (sites.decl d)
-    first_kept d ds at kept = (placed_front ((sites.decl d).sites env at) (decls_sites ds at) kept.0, all_front (IsFixed env) ((sites.decl d).declares at) (decls_declare ds at) kept.1)
+    first_kept d ds at kept = (placed_front ((sites.decl d).sites env at) (decls_sites ds at) kept.0, all_front (IsSettled env) ((sites.decl d).declares at) (decls_declare ds at) kept.1)
 
     more_kept : (d : Decl) (ds : List Decl) (at : ℕ) → DeclsKept (d ∷ ds) at → DeclsKept ds at
-    more_kept d ds at kept = (placed_back ((sites.decl d).sites env at) (decls_sites ds at) kept.0, all_back (IsFixed env) ((sites.decl d).declares at) (decls_declare ds at) kept.1)
+    more_kept d ds at kept = (placed_back ((sites.decl d).sites env at) (decls_sites ds at) kept.0, all_back (IsSettled env) ((sites.decl d).declares at) (decls_declare ds at) kept.1)
 
     brought_told : (ds : List Decl) → AllByRecursion DeclTold ds → (at : ℕ) → DeclsKept ds at → AllByRecursion (λ (c : Contribution). AllSay env c.names) (map (brought_of by_default) ds)
     brought_told [] h at kept = tt
@@ -430,15 +430,15 @@ module _ (env : Env) (by_default : Bool) where
     abbrev trans_declare : List Trans → Declarations
     trans_declare ts = flat_map (λ t. (sites.trans_body t.body).declares) ts
 
-    all_trans_told : (ts : List Trans) → AllByRecursion (λ t. TransTold env room t.body) ts → (at : ℕ) → PlacedKept (all_trans_sites ts at) → AllByRecursion (IsFixed env) (trans_declare ts) → AllTransTold ts
+    all_trans_told : (ts : List Trans) → AllByRecursion (λ t. TransTold env room t.body) ts → (at : ℕ) → PlacedKept (all_trans_sites ts at) → AllByRecursion (IsSettled env) (trans_declare ts) → AllTransTold ts
     all_trans_told [] h at kept fixed = (tt, tt)
     all_trans_told (t ∷ ts) h at kept fixed =
         let S = (sites.trans_body t.body).sites env in
         let A = sites.placed (sites.in_body at) S in
         let B = all_trans_sites ts at in
         let D = (sites.trans_body t.body).declares in
-        let first = h.0 (not_placed (sites.in_body at) S (placed_front A B kept), all_front (IsFixed env) D (trans_declare ts) fixed) in
-        let more = all_trans_told ts h.1 at (placed_back A B kept) (all_back (IsFixed env) D (trans_declare ts) fixed) in (
+        let first = h.0 (not_placed (sites.in_body at) S (placed_front A B kept), all_front (IsSettled env) D (trans_declare ts) fixed) in
+        let more = all_trans_told ts h.1 at (placed_back A B kept) (all_back (IsSettled env) D (trans_declare ts) fixed) in (
           all_append (ClauseFirm env) (clauses t.body) (flat_map (λ t. clauses t.body) ts) first.0 more.0,
           all_append (λ (w : Way). BlockTold env w.block) (ways t.body) (flat_map (λ t. ways t.body) ts) first.1 more.1,
         )
@@ -475,17 +475,17 @@ module _ (env : Env) (by_default : Bool) where
               let I = (sites.init_part o.init).declares in
               let T = trans_declare o.trans in
               let kept : PlacedKept (A ++ (B ++ C)) = subst PlacedKept (ruled.parts_sites p env at) kept0.0 in
-              let fixed : AllByRecursion (IsFixed env) (D ++ (I ++ T)) = subst (AllByRecursion (IsFixed env)) (ruled.parts_declare p at) kept0.1 in
+              let fixed : AllByRecursion (IsSettled env) (D ++ (I ++ T)) = subst (AllByRecursion (IsSettled env)) (ruled.parts_declare p at) kept0.1 in
               let more : PlacedKept (B ++ C) = placed_back A (B ++ C) kept in
-              let last : AllByRecursion (IsFixed env) (I ++ T) = all_back (IsFixed env) D (I ++ T) fixed in
-              let first : DeclsKept o.decls at = (placed_front A (B ++ C) kept, all_front (IsFixed env) D (I ++ T) fixed) in
-              let trans = all_trans_told o.trans t.1.1 at (placed_back B C more) (all_back (IsFixed env) I T last) in
-              (record { brought = brought_told o.decls t.0 at first; init = init_told o.init t.1.0 (not_placed (sites.in_body at) S (placed_front B C more), all_front (IsFixed env) I T last); clauses = trans.0; blocks = trans.1 }, inner_told o.decls t.0 at first);
+              let last : AllByRecursion (IsSettled env) (I ++ T) = all_back (IsSettled env) D (I ++ T) fixed in
+              let first : DeclsKept o.decls at = (placed_front A (B ++ C) kept, all_front (IsSettled env) D (I ++ T) fixed) in
+              let trans = all_trans_told o.trans t.1.1 at (placed_back B C more) (all_back (IsSettled env) I T last) in
+              (record { brought = brought_told o.decls t.0 at first; init = init_told o.init t.1.0 (not_placed (sites.in_body at) S (placed_front B C more), all_front (IsSettled env) I T last); clauses = trans.0; blocks = trans.1 }, inner_told o.decls t.0 at first);
           seen = parts_seen p t.0;
         })
         (hold_both (hold_chain decl_told o.decls i h.after_decls h.decls) (hold_both (hold_optional (init_holds env room) o.init h.after_decls h.after_init h.init) (hold_chain (trans_holds env room) o.trans h.after_init j h.trans)))
 
-  below_told : (room : ℕ) → AllHold PartsTold (PartsBelow room)
+  pub below_told : (room : ℕ) → AllHold PartsTold (PartsBelow room)
   below_told zero p i j h = absurd h
   below_told (suc room) p i j h = parts_of_told room (PartsBelow room) (below_told room) p i j h
 
@@ -495,13 +495,19 @@ pub record SpecTold (env : Env) (spec : Spec) : Type 0 where
   pub told : AllByRecursion (BodyTold env) (bodies spec)
   pub seen : AllByRecursion (IsVisited (visits spec)) (bodies spec)
 
+-- the tokens of its parts have the form of tokens
+pub parts_formed : (spec : Spec) (tokens : List Placed) (spells : Spells spec tokens) → length tokens ≤ 2 ^ 32 → FormsAt spells.whole.after_heads
+parts_formed spec tokens spells few =
+    let h = spells.whole in
+    let before = less_more (behind name spec.name (input tokens 0) h.after_name h.name) (less_more (maybe sys_attr_less spec.attr h.after_name h.after_attr h.attr) (less_more (less_takes h.semicolon) (chain head_less spec.heads h.after_head h.after_heads h.heads.heads))) in
+    before.pass (all_at tokens spells.forms, few)
+
 pub spelled_told : (env : Env) (spec : Spec) (tokens : List Placed) → Spells spec tokens → length tokens ≤ 2 ^ 32 → PlacedPartKept env spec.span.start (sites.parts spec.parts) → SpecTold env spec
 unfolding visits
 spelled_told env spec tokens spells few kept =
     let h = spells.whole in
     let d = default_of spec.heads in
-    let before = less_more (behind name spec.name (input tokens 0) h.after_name h.name) (less_more (maybe sys_attr_less spec.attr h.after_name h.after_attr h.attr) (less_more (less_takes h.semicolon) (chain head_less spec.heads h.after_head h.after_heads h.heads.heads))) in
-    let p = (below_told env d (suc max_nesting) spec.parts h.after_heads h.after_parts h.parts).told (before.pass (all_at tokens spells.forms, few)) in
+    let p = (below_told env d (suc max_nesting) spec.parts h.after_heads h.after_parts h.parts).told (parts_formed spec tokens spells few) in
     record {
       told = subst (AllByRecursion (BodyTold env)) (sym (parts_is d spec.parts)) (p.told spec.span.start kept None None);
       seen = subst (AllByRecursion (IsVisited (visiting.parts spec.parts (in_specification spec.attr spec.span)))) (sym (parts_is d spec.parts)) (p.seen None None (in_specification spec.attr spec.span));

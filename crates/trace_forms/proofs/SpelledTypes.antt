@@ -39,7 +39,7 @@ use Rattle.trace_forms.proofs.Passes.{less_next, less_takes, less_mark, less_fla
 use Rattle.trace_forms.proofs.Holds.{Holds, AllHold, hold_less, hold_end, hold_both, hold_as, always, hold_behind, hold_enclosed, hold_separated, hold_lines}
 use Rattle.trace_forms.proofs.Firm.{number_in}
 use Rattle.trace_forms.proofs.Kept.{SiteKept, Kept, PartKept, kept_front, kept_back, each_kept, parts_kept, each_part_kept, subrange_kept}
-use Rattle.trace_forms.proofs.TypePlaces.{IsFixed}
+use Rattle.trace_forms.proofs.TypePlaces.{IsSettled}
 use Rattle.trace_forms.proofs.Flat.{depth_of}
 use Rattle.trace_forms.proofs.Nests.{NestsTo, Within, TypeWithin, within_more, whole_within, type_within}
 use Rattle.trace_forms.proofs.Lists.{all_back}
@@ -160,7 +160,7 @@ module _ (env : Env) where
         T = type_rules.typing d.type_expr
 
         fixed : (T.denotes env).depth ≤ depth_of (entity_at env d.name.span.start).meaning
-        fixed = (all_back (IsFixed env) T.declares _ kept.1).0
+        fixed = (all_back (IsSettled env) T.declares _ kept.1).0.0
 
         nests_so : (meant : Meanings) → AllTold env meant → NestsTo 200 ((typing d.type_expr).denotes meant) × Within (depth_of (entity_at env d.name.span.start).meaning) ((typing d.type_expr).denotes meant)
         nests_so meant k =

@@ -1,4 +1,4 @@
--- For the rules each type definition is what is known at its place, as deep as it is once all is known: for the types that it names are declared before it.
+-- Each type definition is known to the rules at its place, in the form that it has at the end: it names what is declared before.
 use Rattle.std.proofs.Common.{◌≡◌, ◌∙◌, ℕ, zero, suc, ◌≤◌, Bool, true, false, nat_eq, if◌then◌else◌, List, [], ◌∷◌, ◌++◌, map, length, Option, Some, None, refl, ap, sym, subst, arith, append_assoc, append-nil, inl, inr, cond}
 use Rattle.std.specs.Prelude.{flat_map}
 use Rattle.std.specs.Option.{is_some}
@@ -70,7 +70,9 @@ use Rattle.scope_names_events.proofs.SpecificationEquations as part_equations
 use Rattle.type_rules.specs.declared.meanings.Entity.{Entity}
 use Rattle.type_rules.specs.declared.meanings.Meaning.TheVariants as said
 use Rattle.type_rules.specs.Meanings as rules
-use Rattle.type_rules.specs.Meanings.{Env, Declaration, Declarations, declare_one, declare_all, with_entity, put_first, env_of, entity_at, or_undeclared, known, meaning_by, required_meaning, declaration_of}
+use Rattle.type_rules.specs.Meanings.{Env, Declaration, Declarations, declare_one, declare_all, with_entity, put_first, env_of, entity_at, or_undeclared, known, meaning_by, required_meaning, declaration_of, type_denoted}
+use Rattle.type_rules.specs.Types.{at_fault, is_no_index}
+use Rattle.type_rules.specs.declared.types.Denoted.{Denoted}
 use Rattle.type_rules.specs.TypeSites as types
 use Rattle.type_rules.specs.SpecificationSites as sites
 use Rattle.type_rules.specs.SpecificationSites.{Part, PlacedPart}
@@ -84,13 +86,14 @@ use Rattle.accepted_states.proofs.Leads.{once, parts_less, outermost, events_are
 use Rattle.accepted_states.proofs.Fit as fit
 use Rattle.accepted_states.proofs.Fit.{starts, Frame, One}
 use Rattle.accepted_states.proofs.Uses.{Found, use_found}
-use Rattle.trace_forms.proofs.Lists.{all_append, all_flat, one_of_all}
+use Rattle.trace_forms.proofs.Lists.{all_append, all_front, all_flat, one_of_all}
 use Rattle.trace_forms.proofs.AllOf.{of_ended, of_enclosed}
 use Rattle.trace_forms.proofs.Environments.{Earlier, all_earlier, all_said, named_alike}
 use Rattle.trace_forms.proofs.TypesFound.{types_at, types_in, type_found}
-use Rattle.trace_forms.proofs.Typeless.{Typeless, none_typed, type_typeless, stmts_typeless, clause_typeless, channel_typeless, header_typeless, ips_typeless, modvars_typeless, statesets_typeless, consts_typeless, vars_typeless, formals_typeless, result_typeless}
+use Rattle.trace_forms.proofs.Typeless.{Typeless, none_typed, IsQuiet, Quiet, quiet_typeless, type_typeless, stmts_quiet, clause_quiet, channel_typeless, header_typeless, ips_quiet, modvars_quiet, statesets_quiet, consts_quiet, vars_typeless, formals_quiet, result_quiet}
+use Rattle.trace_forms.proofs.Keeps.{KeepsHere, AllKeep, few_onward, less_onward, keep_earlier, quiet_keeps, type_keeps, vars_keep, channel_keeps, header_keeps}
 use Rattle.trace_forms.proofs.Flat.{depth_of, IsFlat, places, Few, count_more, few_append, few_exchanged, few_less, few_end, few_name, Flat, flat_nil, flat_append, flat_less, flat_end, flat_name, type_flat, flat_consts, flat_vars, flat_formals, flat_any, flat_channel, flat_ips, flat_modvars, flat_header}
-use Rattle.trace_forms.proofs.TypesStay.{UseStays, NeedStays, EventStays, UsesStay, type_stays}
+use Rattle.trace_forms.proofs.TypesStay.{UseStays, NeedStays, EventStays, UsesStay, SameForm, type_stays}
 
 -- ---- environments
 
@@ -116,7 +119,7 @@ one_counts p x [] o e = absurd o
 one_counts p x (r ∷ rs) (inl is) e = let a : one_if (nat_eq p r.at) ≡ 1 = ap one_if (ap (λ (y : Declaration). nat_eq p y.at) (sym is) ∙ ap (nat_eq p) e ∙ (Decides-eqb p p).1 refl) in omega (arith, a)
 one_counts p x (r ∷ rs) (inr o) e = let a = one_counts p x rs o e in omega (arith, a)
 
-needs_type : (k : Denotes) → may_be need.Type k ≡ true → k ≡ d.Type
+pub needs_type : (k : Denotes) → may_be need.Type k ≡ true → k ≡ d.Type
 needs_type d.Type h = refl
 needs_type d.Constant h = absurd (cc)
 needs_type d.Variable h = absurd (cc)
@@ -135,9 +138,9 @@ needs_type d.Ip h = absurd (cc)
 needs_type d.State h = absurd (cc)
 needs_type d.StateSet h = absurd (cc)
 
--- what is known at its place is as deep as what it says once all is known
-abbrev pub IsFixed : Env → Declaration → Type 0
-IsFixed e r = depth_of (r.says e).meaning ≤ depth_of (entity_at e r.at).meaning
+-- what is known at its place is as deep as what it says once all is known, and no type of an index where that is none
+abbrev pub IsSettled : Env → Declaration → Type 0
+IsSettled e r = (depth_of (r.says e).meaning ≤ depth_of (entity_at e r.at).meaning) × (is_no_index (type_denoted (r.says e).meaning) ≡ true → is_no_index (type_denoted (entity_at e r.at).meaning) ≡ true)
 
 types_more : (es fs : Events) → types_in (es ++ fs) ≡ types_in es ++ types_in fs
 types_more es fs = flat-append types_at es fs
@@ -155,8 +158,8 @@ module _ (names : List Used) (all : Events) (ruled : Declarations) (found : (bef
   abbrev pub Sound : Events → Declarations → Type 0
   Sound before front = AllByRecursion (IsThere (env front)) (types_in before)
 
-  abbrev pub Fixed : Declaration → Type 0
-  Fixed = IsFixed (env ruled)
+  abbrev pub Settled : Declaration → Type 0
+  Settled = IsSettled (env ruled)
 
   abbrev pub Apart : Type 0
   Apart = (p : ℕ) → count (nat_eq p) (places ruled) ≤ 1
@@ -230,44 +233,57 @@ module _ (names : List Used) (all : Events) (ruled : Declarations) (found : (bef
   -- the rules declare a part in its text, where the types that its events declare are theirs
   pub record Goes (i j : Input) (es : Events) (rs : Declarations) : Type 0 where
     pub few : Few i j rs
-    pub follows : Apart → (before more : Events) (front rest : Declarations) → all ≡ before ++ (es ++ more) → ruled ≡ front ++ (rs ++ rest) → Sound before front → Sound (before ++ es) (front ++ rs) × AllByRecursion Fixed rs
+    pub keeps : AllKeep i es
+    pub follows : Apart → (before more : Events) (front rest : Declarations) → all ≡ before ++ (es ++ more) → ruled ≡ front ++ (rs ++ rest) → Sound before front → Sound (before ++ es) (front ++ rs) × AllByRecursion Settled rs
 
-  flat_fixed : (rs : Declarations) → AllByRecursion IsFlat rs → AllByRecursion Fixed rs
-  flat_fixed [] h = tt
-  flat_fixed (r ∷ rs) h = (let a = h.0 (env ruled) in omega (arith, a), flat_fixed rs h.1)
+  -- what has no type is not refused as the type of an index
+  none_is_refused : is_no_index at_fault ≡ false
+  unfolding is_no_index
+  none_is_refused = refl
 
-  go_flat : {i j : Input} {rs : Declarations} (es : Events) → Typeless es → Flat i j rs → Goes i j es rs
-  go_flat {i} {j} {rs} es t h = record { few = h.few; follows = λ apart before more front rest e f s. (sound_more before es front rs (none_typed es t) s, flat_fixed rs h.flat) }
+  flat_settled : (rs : Declarations) → AllByRecursion IsFlat rs → AllByRecursion Settled rs
+  flat_settled [] h = tt
+  flat_settled (r ∷ rs) h =
+      let a = h.0 (env ruled) in
+      let b = ap (λ (u : Denoted). u.depth) a in
+      ((omega (arith, b), λ g. absurd (let c = sym (ap is_no_index a ∙ none_is_refused) ∙ g in cc)), flat_settled rs h.1)
+
+  go_flat : {i j : Input} {rs : Declarations} (es : Events) → Typeless es → AllKeep i es → Flat i j rs → Goes i j es rs
+  go_flat {i} {j} {rs} es t k h = record { few = h.few; keeps = k; follows = λ apart before more front rest e f s. (sound_more before es front rs (none_typed es t) s, flat_settled rs h.flat) }
 
   go_nil : {i j : Input} → Less i j → Goes i j [] []
-  go_nil l = go_flat [] tt (flat_nil l)
+  go_nil l = go_flat [] tt tt (flat_nil l)
 
   go_append : {i m j : Input} {es fs : Events} {rs ss : Declarations} → Goes i m es rs → Goes m j fs ss → Goes i j (es ++ fs) (rs ++ ss)
   go_append {i} {m} {j} {es} {fs} {rs} {ss} h g = record {
     few = few_append h.few g.few;
+    keeps = all_append (KeepsHere i) es fs h.keeps (keep_earlier i m (few_onward h.few) fs g.keeps);
     follows = λ apart before more front rest e f s.
         let e1 = e ∙ ap (λ xs. before ++ xs) (append_assoc es fs more) in
         let f1 = f ∙ ap (λ xs. front ++ xs) (append_assoc rs ss rest) in
         let first = h.follows apart before (fs ++ more) front (ss ++ rest) e1 f1 s in
         let second = g.follows apart (before ++ es) more (front ++ rs) rest (e1 ∙ sym (append_assoc before es (fs ++ more))) (f1 ∙ sym (append_assoc front rs (ss ++ rest))) first.0 in
-        (subst (λ xs. Sound xs (front ++ (rs ++ ss))) (append_assoc before es fs) (subst (Sound ((before ++ es) ++ fs)) (append_assoc front rs ss) second.0), all_append Fixed rs ss first.1 second.1);
+        (subst (λ xs. Sound xs (front ++ (rs ++ ss))) (append_assoc before es fs) (subst (Sound ((before ++ es) ++ fs)) (append_assoc front rs ss) second.0), all_append Settled rs ss first.1 second.1);
   }
 
   go_less : {i m j : Input} {es : Events} {rs : Declarations} → Less i m → Goes m j es rs → Goes i j es rs
-  go_less {i} {m} {j} {es} {rs} l h = record { few = few_less l h.few; follows = h.follows }
+  go_less {i} {m} {j} {es} {rs} l h = record { few = few_less l h.few; keeps = keep_earlier i m (less_onward l) es h.keeps; follows = h.follows }
 
   go_end : {i m j : Input} {es : Events} {rs : Declarations} → Goes i m es rs → Less m j → Goes i j es rs
-  go_end {i} {m} {j} {es} {rs} h l = record { few = few_end h.few l; follows = h.follows }
+  go_end {i} {m} {j} {es} {rs} h l = record { few = few_end h.few l; keeps = h.keeps; follows = h.follows }
 
-  -- events alone, which declare no types
-  go_events : (i : Input) (es : Events) → Typeless es → Goes i i es []
-  go_events i es t = go_flat es t (flat_nil (less_same refl))
+  go_quiet : {i j : Input} {rs : Declarations} (es : Events) → Quiet es → Flat i j rs → Goes i j es rs
+  go_quiet {i} {j} {rs} es q h = go_flat es (quiet_typeless es q) (quiet_keeps i es q) h
+
+  -- events alone, which declare no types and keep no names
+  go_events : (i : Input) (es : Events) → Quiet es → Goes i i es []
+  go_events i es q = go_quiet es q (flat_nil (less_same refl))
 
   -- with more events before it, or behind it
-  go_behind : {i j : Input} {es : Events} {rs : Declarations} (fs : Events) → Typeless fs → Goes i j es rs → Goes i j (fs ++ es) rs
+  go_behind : {i j : Input} {es : Events} {rs : Declarations} (fs : Events) → Quiet fs → Goes i j es rs → Goes i j (fs ++ es) rs
   go_behind {i} {j} {es} {rs} fs t h = go_append {es = fs} {rs = []} (go_events i fs t) h
 
-  go_before : {i j : Input} {es : Events} {rs : Declarations} (fs : Events) → Typeless fs → Goes i j es rs → Goes i j (es ++ fs) rs
+  go_before : {i j : Input} {es : Events} {rs : Declarations} (fs : Events) → Quiet fs → Goes i j es rs → Goes i j (es ++ fs) rs
   go_before {i} {j} {es} {rs} fs t h = subst (Goes i j (es ++ fs)) (append-nil rs) (go_append h (go_events j fs t))
 
   module _ {A : Type 0} (f : A → Events) (g : A → Declarations) where
@@ -301,12 +317,12 @@ module _ (names : List Used) (all : Events) (ruled : Declarations) (found : (bef
     defines x = sites.declare_as (λ e. said.TypeName ((types.typing x.type_expr).denotes e)) x.name
 
     type_follows : (x : TypeDef) (i j : Input) → IsTypeDef room x i j → Apart → (before more : Events) (front rest : Declarations) → all ≡ before ++ (type_def x ++ more) → ruled ≡ front ++ ((sites.type_def x).declares ++ rest) → Sound before front
-        → Sound (before ++ type_def x) (front ++ (sites.type_def x).declares) × AllByRecursion Fixed (sites.type_def x).declares
+        → Sound (before ++ type_def x) (front ++ (sites.type_def x).declares) × AllByRecursion Settled (sites.type_def x).declares
     unfolding declare_all declare_one with_entity entity_at
     type_follows x i j h apart before more front rest e f s = (
       subst (AllByRecursion (IsThere (env (front ++ R)))) (sym (types_more before (type_def x) ∙ ap (λ ys. types_in before ++ ys) declared_type))
           (all_append (IsThere (env (front ++ R))) (types_in before) (x.name ∷ []) (there_later (env front) (env (front ++ R)) (later front R) (types_in before) s) ((λ g. (N.says at, there)), tt)),
-      all_append Fixed D (N ∷ []) (flat_fixed D (type_flat room x.type_expr h.at j h.second).flat) (fixed, tt),
+      all_append Settled D (N ∷ []) (flat_settled D (type_flat room x.type_expr h.at j h.second).flat) (settled, tt),
     )
       where
         D : Declarations
@@ -333,10 +349,11 @@ module _ (names : List Used) (all : Events) (ruled : Declarations) (found : (bef
         stay : UsesStay (env front) T
         stay = uses_stay before T (declare x.name d.Type (inside x.type_expr) ++ more) front typeless (e ∙ ap (λ xs. before ++ xs) (append_assoc T (declare x.name d.Type (inside x.type_expr)) more)) s
 
-        as_deep : ((types.typing x.type_expr).denotes (env ruled)).depth ≡ ((types.typing x.type_expr).denotes at).depth
-        as_deep =
-            type_stays room x.type_expr h.at j h.second (env front) (env ruled) (to_end front (R ++ rest) f) stay
-            ∙ sym (type_stays room x.type_expr h.at j h.second (env front) at (later front D) stay)
+        same : SameForm ((types.typing x.type_expr).denotes (env ruled)) ((types.typing x.type_expr).denotes at)
+        same =
+            let a = type_stays room x.type_expr h.at j h.second (env front) (env ruled) (to_end front (R ++ rest) f) stay in
+            let b = type_stays room x.type_expr h.at j h.second (env front) at (later front D) stay in
+            (a.0 ∙ sym b.0, a.1 ∙ sym b.1)
 
         none : count (nat_eq x.name.span.start) (places (front ++ D)) ≡ 0
         none =
@@ -358,13 +375,17 @@ module _ (names : List Used) (all : Events) (ruled : Declarations) (found : (bef
         known_there : entity_at (env ruled) x.name.span.start ≡ N.says at
         known_there = ap or_undeclared ((to_end (front ++ R) rest (f ∙ sym (append_assoc front R rest))).stays x.name.span.start (N.says at) there)
 
-        fixed : Fixed N
-        fixed = let a = as_deep in let b = ap (λ (v : Entity). depth_of v.meaning) known_there in omega (arith, a, b)
+        settled : Settled N
+        settled = (
+          let a = same.0 in let b = ap (λ (v : Entity). depth_of v.meaning) known_there in omega (arith, a, b),
+          λ g. ap (λ (v : Entity). is_no_index (type_denoted v.meaning)) known_there ∙ (sym same.1 ∙ g),
+        )
 
     go_type : (x : TypeDef) (i j : Input) → IsTypeDef room x i j → Goes i j (type_def x) (sites.type_def x).declares
     go_type x i j h = record {
       few = few_exchanged (few_name (λ e. types.meaning_only (said.TypeName ((types.typing x.type_expr).denotes e))) h.first)
           (few_less (less_takes h.mark) (type_flat room x.type_expr h.at j h.second).few);
+      keeps = all_append (KeepsHere i) (type_events x.type_expr) (declare x.name d.Type (inside x.type_expr)) (keep_earlier i h.at (less_onward (less_more (name_less h.first) (less_takes h.mark))) (type_events x.type_expr) (type_keeps room x.type_expr h.at j h.second).keeps) (tt, tt);
       follows = type_follows x i j h;
     }
 
@@ -380,10 +401,10 @@ module _ (names : List Used) (all : Events) (ruled : Declarations) (found : (bef
         (fit.lines (All type_def of_type) (go_frame type_def of_type) (IsTypeDef room) (λ x i j h. go_one type_def of_type x i j (go_type x i j h)) xs i j h)
 
     go_consts : (xs : List ConstDef) (i j : Input) → Lines IsConstDef xs i j → Goes i j (flat_map defining.const_def xs) (sites.all_of (map sites.const_def xs)).declares
-    go_consts xs i j h = joined i j (flat_map defining.const_def xs) sites.const_def xs (go_flat (flat_map defining.const_def xs) (consts_typeless xs) (flat_consts xs i j h))
+    go_consts xs i j h = joined i j (flat_map defining.const_def xs) sites.const_def xs (go_quiet (flat_map defining.const_def xs) (consts_quiet xs) (flat_consts xs i j h))
 
     go_vars : (xs : List TypedNames) (i j : Input) → Lines (AreVars room) xs i j → Goes i j (flat_map (typed_names d.Variable) xs) (sites.all_of (map sites.var_decl xs)).declares
-    go_vars xs i j h = joined i j (flat_map (typed_names d.Variable) xs) sites.var_decl xs (go_flat (flat_map (typed_names d.Variable) xs) (vars_typeless room xs i j h) (flat_vars room xs i j h))
+    go_vars xs i j h = joined i j (flat_map (typed_names d.Variable) xs) sites.var_decl xs (go_flat (flat_map (typed_names d.Variable) xs) (vars_typeless room xs i j h) (vars_keep room d.Variable xs i j h).keeps (flat_vars room xs i j h))
 
     go_definition : (x : BlockDecl) (i j : Input) → IsBlockDecl room x i j → Goes i j (block_decl_events x) (sites.block_decl_part x).declares
     go_definition (block_decl.Const defs span) i j h = go_less (less_takes h.0.mark) (go_consts defs h.0.at j h.0.item)
@@ -402,8 +423,8 @@ module _ (names : List Used) (all : Events) (ruled : Declarations) (found : (bef
 
     -- ---- routines, blocks and clauses
 
-    body_typeless : (ss : Stmts) (i j : Input) → IsStatementPart room ss i j → Typeless (stmts ss ++ Close ∷ [])
-    body_typeless ss i j h = all_append (λ (v : Event). types_at v ≡ []) (stmts ss) (Close ∷ []) (of_ended (of_enclosed (stmts_typeless room)) ss i j h.stmts) (refl, tt)
+    body_quiet : (ss : Stmts) (i j : Input) → IsStatementPart room ss i j → Quiet (stmts ss ++ Close ∷ [])
+    body_quiet ss i j h = all_append IsQuiet (stmts ss) (Close ∷ []) (of_ended (of_enclosed (stmts_quiet room)) ss i j h.stmts) ((refl, refl), tt)
 
     body_less : (ss : Stmts) (i j : Input) → IsStatementPart room ss i j → Less i j
     body_less ss i j h = less_of (part_fine room ss i j h)
@@ -412,10 +433,10 @@ module _ (names : List Used) (all : Events) (ruled : Declarations) (found : (bef
     result_less form.Procedure i j h = less_same h
     result_less (form.Function x) i j h = less_more (less_takes h.mark) (name_less h.item)
 
-    routine_flat : (at : ℕ) (r : Routine) (e : Env) → depth_of (sites.routine_says at r e).meaning ≡ 0
+    routine_flat : (at : ℕ) (r : Routine) (e : Env) → type_denoted (sites.routine_says at r e).meaning ≡ at_fault
     routine_flat at r e = by r.form
       where
-        by : (f : RoutineForm) → depth_of (sites.routine_meaning at f e) ≡ 0
+        by : (f : RoutineForm) → type_denoted (sites.routine_meaning at f e) ≡ at_fault
         by form.Procedure = refl
         by (form.Function x) = refl
 
@@ -425,15 +446,15 @@ module _ (names : List Used) (all : Events) (ruled : Declarations) (found : (bef
         let S = stmts r.body ++ Close ∷ [] in
         let N = sites.declare r.name (sites.routine_says at r) ∷ [] in
         let head = flat_append {rs = N} (flat_less (less_takes h.name.mark) (flat_name (sites.routine_says at r) (routine_flat at r) h.name.item)) (flat_formals r.formals h.after_name h.after_formals h.formals) in
-        let decls = go_before S (body_typeless r.body h.after_decls j h.body) (go_end (go_definitions r.decls h.after_head h.after_decls h.decls) (body_less r.body h.after_decls j h.body)) in
-        let more = go_behind (defining.result_type r.form) (result_typeless r.form) (go_less (less_more (result_less r.form h.after_formals h.after_result h.result) (less_takes h.semicolon)) decls) in
-        go_append {es = Open scope.Inner ∷ F} (go_flat (Open scope.Inner ∷ F) (refl, formals_typeless r.formals) head) more
+        let decls = go_before S (body_quiet r.body h.after_decls j h.body) (go_end (go_definitions r.decls h.after_head h.after_decls h.decls) (body_less r.body h.after_decls j h.body)) in
+        let more = go_behind (defining.result_type r.form) (result_quiet r.form) (go_less (less_more (result_less r.form h.after_formals h.after_result h.result) (less_takes h.semicolon)) decls) in
+        go_append {es = Open scope.Inner ∷ F} (go_quiet (Open scope.Inner ∷ F) ((refl, refl), formals_quiet r.formals) head) more
 
     go_block : (b : Block) (i j : Input) → IsBlock room b i j → Goes i j (block b) (sites.block b).declares
     go_block b i j h =
         let S = stmts b.body ++ Close ∷ [] in
         let last = less_more (label_less room b.late_label h.after_decls h.after_late h.late_label) (body_less b.body h.after_late j h.body) in
-        go_behind (Open scope.Inner ∷ []) (refl, tt) (go_before S (body_typeless b.body h.after_late j h.body)
+        go_behind (Open scope.Inner ∷ []) ((refl, refl), tt) (go_before S (body_quiet b.body h.after_late j h.body)
         (go_less (label_less room b.label i h.after_label h.label) (go_end (go_definitions b.decls h.after_label h.after_decls h.decls) last)))
 
     clause_flat : (c : Clause) (i j : Input) → IsClause room c i j → Less i j → Flat i j (sites.clause_part c).declares
@@ -446,7 +467,7 @@ module _ (names : List Used) (all : Events) (ruled : Declarations) (found : (bef
     clause_flat (clause.Delay low high span) i j h l = flat_nil l
 
     go_clause : (c : Clause) (i j : Input) → IsClause room c i j → Goes i j (clause_events c) (sites.clause_part c).declares
-    go_clause c i j h = go_flat (clause_events c) (clause_typeless room c i j h) (clause_flat c i j h (less_of (clause_fine room c i j h)))
+    go_clause c i j h = go_quiet (clause_events c) (clause_quiet room c i j h) (clause_flat c i j h (less_of (clause_fine room c i j h)))
 
     -- ---- transitions
 
@@ -482,7 +503,7 @@ module _ (names : List Used) (all : Events) (ruled : Declarations) (found : (bef
           let b = (out-Group g).body in
           subst (λ es. Goes i j es (sites.group g).declares) (sym (way_equations.group_is g))
           (subst (λ (p : Part). Goes i j (Open scope.Further ∷ (clause_events c ++ (trans_body b ++ Close ∷ []))) p.declares) (sym (ruled_equations.group_is g))
-          (go_behind (Open scope.Further ∷ []) (refl, tt) (go_append (go_clause c i h.mid h.clause) (go_before (Close ∷ []) (refl, tt) (trans_body_goes (way_of way g) b h.mid j h.body)))))
+          (go_behind (Open scope.Further ∷ []) ((refl, refl), tt) (go_append (go_clause c i h.mid h.clause) (go_before (Close ∷ []) ((refl, refl), tt) (trans_body_goes (way_of way g) b h.mid j h.body)))))
 
     group_goes : (n : ℕ) (way : List Kind) (g : Group) (i j : Input) → GroupWithin room n way g i j → GroupGoes i j g
     group_goes zero way g i j h = absurd h
@@ -494,19 +515,19 @@ module _ (names : List Used) (all : Events) (ruled : Declarations) (found : (bef
     go_trans : (t : Trans) (i j : Input) → IsTrans room t i j → Goes i j (trans t) (of_trans t)
     go_trans t i j h =
         let n = length clause_kinds in
-        go_behind (Open scope.Inner ∷ []) (refl, tt) (go_before (Close ∷ []) (refl, tt) (go_less (less_takes h.body.mark) (trans_body_goes (GroupWithin room n) (group_goes n) [] t.body h.body.at j h.body.item)))
+        go_behind (Open scope.Inner ∷ []) ((refl, refl), tt) (go_before (Close ∷ []) ((refl, refl), tt) (go_less (less_takes h.body.mark) (trans_body_goes (GroupWithin room n) (group_goes n) [] t.body h.body.at j h.body.item)))
 
     first_less : (o : Option Name) (i j : Input) → Optional (Behind k.To IsName) o i j → Less i j
     first_less None i j h = less_same h
     first_less (Some x) i j h = less_more (less_takes h.mark) (name_less h.item)
 
-    first_typeless : (o : Option Name) → Typeless (part_events.first_state o)
-    first_typeless None = tt
-    first_typeless (Some x) = (refl, tt)
+    first_quiet : (o : Option Name) → Quiet (part_events.first_state o)
+    first_quiet None = tt
+    first_quiet (Some x) = ((refl, refl), tt)
 
     go_init : (o : Option Init) (i j : Input) → Optional (IsInit room) o i j → Goes i j (optional init o) (sites.init_part o).declares
     go_init None i j h = go_nil (less_same h)
-    go_init (Some x) i j h = go_behind (part_events.first_state x.to) (first_typeless x.to) (go_less (less_more (less_takes h.word) (first_less x.to h.at h.mid h.to)) (go_block x.block h.mid j h.block))
+    go_init (Some x) i j h = go_behind (part_events.first_state x.to) (first_quiet x.to) (go_less (less_more (less_takes h.word) (first_less x.to h.at h.mid h.to)) (go_block x.block h.mid j h.block))
 
   -- ---- bodies
 
@@ -521,21 +542,21 @@ module _ (names : List Used) (all : Events) (ruled : Declarations) (found : (bef
         let named = flat_end (flat_less (less_takes h.word) (flat_name (λ e. types.meaning_only (sites.body_meaning o.header e)) (λ e. refl) h.names.first)) (less_more (less_takes h.names.mark) (less_more (name_less h.names.second) (less_takes h.semicolon))) in
         subst (λ es. Goes i j es ((sites.body b).declares at)) (sym (part_equations.body_is b))
         (subst (Goes i j (head ++ ((parts o.parts).events ++ Close ∷ []))) (sym (ruled_equations.body_declares b at))
-        (go_append {es = head} (go_flat head (refl, (refl, (refl, (refl, (refl, tt))))) named)
-        (go_before (Close ∷ []) (refl, tt) (go_end (goes o.parts h.after_head h.after_parts h.parts o.span.start) (less_more (less_takes h.ends) (less_takes h.last))))))
+        (go_append {es = head} (go_quiet head ((refl, refl), ((refl, refl), ((refl, refl), ((refl, refl), ((refl, refl), tt))))) named)
+        (go_before (Close ∷ []) ((refl, refl), tt) (go_end (goes o.parts h.after_head h.after_parts h.parts o.span.start) (less_more (less_takes h.ends) (less_takes h.last))))))
 
     layer_go : (at : ℕ) (l : DeclLayer) (i j : Input) → DeclLayerOf room P l i j
         → Goes i j (part_events.decl_layer (map-Decl Decl Body Parts Declaring Events Saying decl body parts l)).events ((sites.decl_layer (map-Decl Decl Body Parts PlacedPart PlacedPart PlacedPart sites.decl sites.body sites.parts l)).declares at)
     layer_go at (Decl-F.Const defs span) i j h = go_less (less_takes h.0.mark) (go_consts room defs h.0.at j h.0.item)
     layer_go at (Decl-F.Types defs span) i j h = go_less (less_takes h.0.mark) (go_types room defs h.0.at j h.0.item)
-    layer_go at (Decl-F.Channel c) i j h = go_flat (part_events.channel c) (channel_typeless c) (flat_channel c i j h)
-    layer_go at (Decl-F.Header x) i j h = go_flat (part_events.header x) (header_typeless room x i j h) (flat_header room x i j h)
+    layer_go at (Decl-F.Channel c) i j h = go_flat (part_events.channel c) (channel_typeless c) (channel_keeps c i j h).keeps (flat_channel c i j h)
+    layer_go at (Decl-F.Header x) i j h = go_flat (part_events.header x) (header_typeless room x i j h) (header_keeps room x i j h).keeps (flat_header room x i j h)
     layer_go at (Decl-F.Body b) i j h = go_body at b i j h
-    layer_go at (Decl-F.Ip ips span) i j h = go_flat (flat_map part_events.ip_decl ips) (ips_typeless ips) (flat_less (less_takes h.0.mark) (flat_ips ips h.0.at j h.0.item))
-    layer_go at (Decl-F.Modvar ms span) i j h = go_flat (flat_map part_events.modvar_decl ms) (modvars_typeless ms) (flat_less (less_takes h.0.mark) (flat_modvars ms h.0.at j h.0.item))
+    layer_go at (Decl-F.Ip ips span) i j h = go_quiet (flat_map part_events.ip_decl ips) (ips_quiet ips) (flat_less (less_takes h.0.mark) (flat_ips ips h.0.at j h.0.item))
+    layer_go at (Decl-F.Modvar ms span) i j h = go_quiet (flat_map part_events.modvar_decl ms) (modvars_quiet ms) (flat_less (less_takes h.0.mark) (flat_modvars ms h.0.at j h.0.item))
     layer_go at (Decl-F.Var vars span) i j h = go_less (less_takes h.0.mark) (go_vars room vars h.0.at j h.0.item)
-    layer_go at (Decl-F.State states span) i j h = go_flat (Declare states.names d.State Nothing ∷ []) (refl, tt) (flat_nil (less_more (less_takes h.0.opens) (less_more (less_names h.0.inside) (less_takes h.0.closes))))
-    layer_go at (Decl-F.Stateset sets span) i j h = go_flat (flat_map part_events.stateset_def sets) (statesets_typeless sets) (flat_nil (less_of (fine.behind (fine.lines stateset_fine) sets i j h.0)))
+    layer_go at (Decl-F.State states span) i j h = go_quiet (Declare states.names d.State Nothing ∷ []) ((refl, refl), tt) (flat_nil (less_more (less_takes h.0.opens) (less_more (less_names h.0.inside) (less_takes h.0.closes))))
+    layer_go at (Decl-F.Stateset sets span) i j h = go_quiet (flat_map part_events.stateset_def sets) (statesets_quiet sets) (flat_nil (less_of (fine.behind (fine.lines stateset_fine) sets i j h.0)))
     layer_go at (Decl-F.Routine r) i j h = go_routine room at r i j h
 
     abbrev decl_events : Decl → Events
@@ -550,25 +571,25 @@ module _ (names : List Used) (all : Events) (ruled : Declarations) (found : (bef
         (subst (λ (v : Declaring). Goes i j v.events (of_decl at x)) (sym (part_equations.decl_is x))
         (subst (λ (p : PlacedPart). Goes i j (part_events.decl_layer (map-Decl Decl Body Parts Declaring Events Saying decl body parts (out-Decl x))).events (p.declares at)) (sym (ruled_equations.decl_is x)) (layer_go at (out-Decl x) i j h)))
 
-    routine_typeless : (l : DeclLayer) → Typeless (part_events.decl_layer (map-Decl Decl Body Parts Declaring Events Saying decl body parts l)).routine
-    routine_typeless (Decl-F.Const defs span) = tt
-    routine_typeless (Decl-F.Types defs span) = tt
-    routine_typeless (Decl-F.Channel c) = tt
-    routine_typeless (Decl-F.Header x) = tt
-    routine_typeless (Decl-F.Body b) = tt
-    routine_typeless (Decl-F.Ip ips span) = tt
-    routine_typeless (Decl-F.Modvar ms span) = tt
-    routine_typeless (Decl-F.Var vars span) = tt
-    routine_typeless (Decl-F.State states span) = tt
-    routine_typeless (Decl-F.Stateset sets span) = tt
-    routine_typeless (Decl-F.Routine r) = by r.form
+    routine_quiet : (l : DeclLayer) → Quiet (part_events.decl_layer (map-Decl Decl Body Parts Declaring Events Saying decl body parts l)).routine
+    routine_quiet (Decl-F.Const defs span) = tt
+    routine_quiet (Decl-F.Types defs span) = tt
+    routine_quiet (Decl-F.Channel c) = tt
+    routine_quiet (Decl-F.Header x) = tt
+    routine_quiet (Decl-F.Body b) = tt
+    routine_quiet (Decl-F.Ip ips span) = tt
+    routine_quiet (Decl-F.Modvar ms span) = tt
+    routine_quiet (Decl-F.Var vars span) = tt
+    routine_quiet (Decl-F.State states span) = tt
+    routine_quiet (Decl-F.Stateset sets span) = tt
+    routine_quiet (Decl-F.Routine r) = by r.form
       where
-        by : (f : RoutineForm) → Typeless (declare r.name (defining.routine_kind f) Nothing)
-        by form.Procedure = (refl, tt)
-        by (form.Function x) = (refl, tt)
+        by : (f : RoutineForm) → Quiet (declare r.name (defining.routine_kind f) Nothing)
+        by form.Procedure = ((refl, refl), tt)
+        by (form.Function x) = ((refl, refl), tt)
 
-    routines_typeless : (xs : List Decl) → Typeless (flat_map (λ x. (decl x).routine) xs)
-    routines_typeless = all_flat (λ (v : Event). types_at v ≡ []) (λ (x : Decl). (decl x).routine) (λ x. subst (λ (v : Declaring). Typeless v.routine) (sym (part_equations.decl_is x)) (routine_typeless (out-Decl x)))
+    routines_quiet : (xs : List Decl) → Quiet (flat_map (λ x. (decl x).routine) xs)
+    routines_quiet = all_flat IsQuiet (λ (x : Decl). (decl x).routine) (λ x. subst (λ (v : Declaring). Quiet v.routine) (sym (part_equations.decl_is x)) (routine_quiet (out-Decl x)))
 
     go_parts : (p : Parts) (i j : Input) → PartsOf room P p i j → PartsGo i j p
     go_parts p i j h at =
@@ -578,18 +599,29 @@ module _ (names : List Used) (all : Events) (ruled : Declarations) (found : (bef
         let transitions = fit.chain (All trans (of_trans room)) (go_frame trans (of_trans room)) (IsTrans room) (λ t i j h. go_one trans (of_trans room) t i j (go_trans room t i j h)) o.trans h.after_init j h.trans in
         subst (λ es. Goes i j es ((sites.parts p).declares at)) (sym (part_equations.parts_is p))
         (subst (Goes i j _) (sym (ruled_equations.parts_declare p at))
-        (go_behind (flat_map (λ x. (decl x).routine) o.decls) (routines_typeless o.decls) (go_append decls (go_append first transitions))))
+        (go_behind (flat_map (λ x. (decl x).routine) o.decls) (routines_quiet o.decls) (go_append decls (go_append first transitions))))
 
   below_go : (room : ℕ) (p : Parts) (i j : Input) → PartsBelow room p i j → PartsGo i j p
   below_go zero p i j h = absurd h
   below_go (suc room) p i j h = go_parts room (PartsBelow room) (below_go room) p i j h
 
+-- ---- what names are kept
+
+module _ (room : ℕ) where
+  nothing_found : (before : Events) (x : Name) (steps : List Step) (rest : Events) → [] ≡ before ++ Use x need.Type steps ∷ rest → Found [] (after start before) x need.Type
+  nothing_found [] x steps rest e = absurd (cc)
+  nothing_found (v ∷ vs) x steps rest e = absurd (cc)
+
+  -- a declaration keeps names for places of its own tokens
+  pub decl_keeps : (x : Decl) (i j : Input) → DeclOf room (PartsBelow room) x i j → AllKeep i (decl x).events
+  decl_keeps x i j h = all_front (KeepsHere i) (decl x).events [] (go_decl [] [] [] nothing_found room (PartsBelow room) (below_go [] [] [] nothing_found room) 0 x i j h).keeps
+
 -- ---- whole specifications
 
 -- for the rules each type definition of a specification that breaks no rule on names is what is known at its place
-pub types_fixed : (spec : Spec) (tokens : List PlacedToken) (rest : ℕ) → Spells spec tokens → FollowOneAnother 0 tokens rest → ((b : Breach) → NameRuleBroken spec b → ⊥)
-    → AllByRecursion (IsFixed (env_of (names_of spec) ((sites.parts spec.parts).declares spec.span.start))) ((sites.parts spec.parts).declares spec.span.start)
-types_fixed spec tokens rest0 spells follow kept =
+pub types_settled : (spec : Spec) (tokens : List PlacedToken) (rest : ℕ) → Spells spec tokens → FollowOneAnother 0 tokens rest → ((b : Breach) → NameRuleBroken spec b → ⊥)
+    → AllByRecursion (IsSettled (env_of (names_of spec) ((sites.parts spec.parts).declares spec.span.start))) ((sites.parts spec.parts).declares spec.span.start)
+types_settled spec tokens rest0 spells follow kept =
     let h = spells.whole in
     let ruled = (sites.parts spec.parts).declares spec.span.start in
     let whole = below_go (names_of spec) (events spec) ruled (λ before x steps rest here. use_found (events spec) kept (uses_apart spec tokens rest0 spells follow) before x need.Type steps rest here) (suc max_nesting) spec.parts h.after_heads h.after_parts h.parts spec.span.start in

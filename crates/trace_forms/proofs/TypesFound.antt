@@ -2,6 +2,7 @@
 use Rattle.std.proofs.Common.{◌≡◌, ◌∙◌, ℕ, Bool, true, false, nat_eq, nat_lt, if◌then◌else◌, List, [], ◌∷◌, Option, Some, None, refl, sym, subst, inl, inr, cond}
 use Rattle.std.specs.Prelude.{flat_map, ◌||◌, ◌&&◌}
 use Rattle.std.specs.Map.{lookup}
+use Rattle.std.specs.Option.{option_or, unwrap_or}
 use Rattle.std.specs.Str.{bytes_eq}
 use Rattle.std.specs.Cmp.Lexicographic.{bytes_decides}
 use Rattle.estelle_tree.specs.declared.tree.name.Name.{Name}
@@ -12,7 +13,7 @@ use Rattle.scope_rules.specs.declared.event.Event.{Event}
 use Rattle.scope_rules.specs.declared.event.Event.TheVariants.{Open, Close, Keep, Import, Receive, Array, Declare, Use, By, Init, States}
 use Rattle.scope_rules.specs.Kinds.{is_private, is_of_channel}
 use Rattle.scope_rules.specs.TypeEvents.{Events}
-use Rattle.scope_rules.specs.Scopes.{Word, Scope, Level, Scopes, start, after, after_one, or_else, or_empty, in_names, kept_at, in_level, is_body, hiding, alone, meaning, meaning_of, earlier, declared, declaration, innermost, declare_level, declare_one, declare_all, inside_of, join_level, put, names_of_top, below}
+use Rattle.scope_rules.specs.Scopes.{Word, Scope, Level, Scopes, start, after, after_one, in_names, kept_at, in_level, is_body, hiding, alone, meaning, meaning_of, earlier, declared, declaration, innermost, declare_level, declare_one, declare_all, inside_of, join_level, put, names_of_top, below}
 use Rattle.scope_rules.specs.NameRules.{IsOne}
 use Rattle.accepted_states.proofs.Lists.{Each}
 use Rattle.trace_forms.proofs.Lists.{one_flat}
@@ -34,7 +35,7 @@ types_in = flat_map types_at
 
 -- P : what holds of a word and what it is declared as
 module _ (P : Word → Declared → Type 0) where
-  abbrev AllNames : Scope → Type 0
+  abbrev pub AllNames : Scope → Type 0
   AllNames = Each (λ (e : Word × Declared). P e.0 e.1)
 
   record Kept (s : Scopes) : Type 0 where
@@ -46,7 +47,7 @@ module _ (P : Word → Declared → Type 0) where
   OfEvent s (Declare names k inside) = Each (λ (x : Name). P x.word (declaration x k (inside_of s inside))) names
   OfEvent s e = Unit {0}
 
-  in_names_so : (w : Word) (s : Scope) (e : Declared) → AllNames s → in_names w s ≡ Some e → P w e
+  pub in_names_so : (w : Word) (s : Scope) (e : Declared) → AllNames s → in_names w s ≡ Some e → P w e
   in_names_so w [] e h f = absurd (cc)
   in_names_so w (x ∷ xs) e h f = by (λ g. in_names_so w xs e h.1 g) (bytes_eq w x.0) refl f
     where
@@ -61,7 +62,7 @@ module _ (P : Word → Declared → Type 0) where
       by true = k
       by false = h
 
-  declared_so : (w : Word) (e : Declared) (s : Scope) → AllNames s → P w e → AllNames (declared w e s)
+  pub declared_so : (w : Word) (e : Declared) (s : Scope) → AllNames s → P w e → AllNames (declared w e s)
   declared_so w e [] h k = (k, tt)
   declared_so w e (x ∷ xs) h k = by (declared_so w e xs h.1 k) (bytes_eq w x.0) refl
     where
@@ -73,7 +74,7 @@ module _ (P : Word → Declared → Type 0) where
   kept_so at [] h = tt
   kept_so at (x ∷ xs) h = by (kept_so at xs h.1) (nat_eq at x.0)
     where
-      by : AllNames (kept_at xs at) → (b : Bool) → AllNames (or_empty (cond b (Some x.1) (lookup (nat_eq at) xs)))
+      by : AllNames (kept_at xs at) → (b : Bool) → AllNames (unwrap_or (cond b (Some x.1) (lookup (nat_eq at) xs)) [])
       by more true = h.0
       by more false = more
 
@@ -125,11 +126,11 @@ module _ (P : Word → Declared → Type 0) where
   level_so : (kept : List (ℕ × Scope)) (w : Word) (l : Level) (e : Declared) → Each (λ (x : ℕ × Scope). AllNames x.1) kept → AllNames l.names → in_level kept w l ≡ Some e → P w e
   level_so kept w l e h k f = by (in_names w l.names) refl f
     where
-      by : (o : Option Declared) → in_names w l.names ≡ o → or_else o (in_names w (kept_at kept l.within)) ≡ Some e → P w e
+      by : (o : Option Declared) → in_names w l.names ≡ o → option_or o (in_names w (kept_at kept l.within)) ≡ Some e → P w e
       by (Some x) g f = in_names_so w l.names e k (g ∙ f)
       by None g f = in_names_so w (kept_at kept l.within) e (kept_so l.within kept h) f
 
-  alone_so : (o : Option Declared) (e : Declared) → alone o ≡ Some e → o ≡ Some e
+  pub alone_so : (o : Option Declared) (e : Declared) → alone o ≡ Some e → o ≡ Some e
   alone_so None e f = absurd (cc)
   alone_so (Some x) e f = by (is_of_channel x.denotes) f
     where

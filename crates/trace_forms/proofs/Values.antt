@@ -23,8 +23,8 @@ use Rattle.estelle_model.specs.declared.denoter.Denoter.{Denoter}
 use Rattle.estelle_model.specs.declared.denoter.Host.{Host}
 use Rattle.estelle_model.specs.declared.denoter.Host.TheVariants as host
 use Rattle.estelle_model.specs.Types.{shape_of, ordinal_of, value_of, value_in, least, greatest}
-use Rattle.estelle_model.specs.declared.meaning.Required.{Required}
-use Rattle.estelle_model.specs.declared.meaning.Required.TheVariants.{Abs, Sqr, Odd, Succ, Pred, Ord, Chr}
+use Rattle.estelle_tree.specs.declared.required.Required.{Required}
+use Rattle.estelle_tree.specs.declared.required.Required.TheVariants.{Abs, Sqr, Odd, Succ, Pred, Ord, Chr}
 use Rattle.estelle_model.specs.Operators.{◌>>>◌, int_of, bool_of, set_of_value, an_int, two_ints, by_kind, plus, minus, times, divided, modulo, signed, negation, related, beyond, stepped, is_odd, required_value}
 use Rattle.estelle_model.specs.Places.{set_value}
 use Rattle.pascal_values.specs.Integers.{is_between, sum_of, difference_of, product_of, quotient_of, remainder_of}

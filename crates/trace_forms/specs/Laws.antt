@@ -17,22 +17,18 @@ use Rattle.estelle_model.specs.Ends.{Closes}
 use Rattle.scope_rules.specs.NameRules.{names_of}
 use Rattle.accepted_states.specs.Laws.{KeepsRules}
 use Rattle.trace_text.specs.Forms.{HasForm}
-use Rattle.trace_forms.specs.Types.{IsReadableType, HasFilledArrays}
+use Rattle.trace_forms.specs.Types.{IsReadableType}
 
 -- the values of the parameters of each interaction can be read
 abbrev pub HasReadableParameters : Subject → Type 0
 HasReadableParameters s = (x : Name) (kind : InteractionKind) → meant s x ≡ Interaction kind → AllByRecursion IsReadableType kind.parameters
 
--- in the type of each parameter of an interaction no array is empty
-abbrev pub HasFilledParameters : Subject → Type 0
-HasFilledParameters s = (x : Name) (kind : InteractionKind) → meant s x ≡ Interaction kind → AllByRecursion HasFilledArrays kind.parameters
-
--- Where a specification spells tokens whose spans follow one another within 2^32 bytes, and breaks no rule, with the names that the rules say, and no array in the type of a parameter of an interaction is empty, the values of these parameters can be read.
+-- Where a specification spells tokens whose spans follow one another within 2^32 bytes, and breaks no rule, with the names that the rules say, the values of the parameters of its interactions can be read.
 abbrev pub ParametersAreReadable : Type 0
 ParametersAreReadable = (spec : Spec) (names : List Use) (tokens : List Placed) (rest : ℕ) → Spells spec tokens → FollowOneAnother 0 tokens rest → rest ≤ 2 ^ 32 → names ≡ names_of spec → KeepsRules spec
-    → HasFilledParameters (record { specification = spec; names = names }) → HasReadableParameters (record { specification = spec; names = names })
+    → HasReadableParameters (record { specification = spec; names = names })
 
--- In every run of a specification that spells tokens whose spans follow one another within 2^32 bytes, and that breaks no rule, with the names that the rules say, where no array in the type of a parameter of an interaction is empty, and where births and outputs can be numbered with 64 bits.
+-- In every run of a specification that spells tokens whose spans follow one another within 2^32 bytes, and that breaks no rule, with the names that the rules say, where births and outputs can be numbered with 64 bits, the events and the end have this form.
 abbrev pub RunsHaveForm : Type 0
-RunsHaveForm = (spec : Spec) (names : List Use) (tokens : List Placed) (rest : ℕ) → Spells spec tokens → FollowOneAnother 0 tokens rest → rest ≤ 2 ^ 32 → names ≡ names_of spec → KeepsRules spec → HasFilledParameters (record { specification = spec; names = names })
+RunsHaveForm = (spec : Spec) (names : List Use) (tokens : List Placed) (rest : ℕ) → Spells spec tokens → FollowOneAnother 0 tokens rest → rest ≤ 2 ^ 32 → names ≡ names_of spec → KeepsRules spec
     → (budget : ℕ) (events : List Event) (e : End) → IsRun (record { specification = spec; names = names }) budget events → Closes (record { specification = spec; names = names }) budget events e → budget * length events < 2 ^ 64 → HasForm events e

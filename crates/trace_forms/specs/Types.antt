@@ -30,21 +30,3 @@ NestsWithin (suc depth) t = IsTypeFormed (NestsWithin depth) (out-Denoter t)
 -- a type whose values can be read: arrays and records nest at most 200 deep
 abbrev pub IsReadableType : Denoter → Type 0
 IsReadableType t = NestsWithin 200 t
-
--- ---- arrays that are not empty
-
--- no array is empty, where `IsPart` says it of the parts
-abbrev pub AreArraysFilled : (Denoter → Type 0) → Denoter-F Denoter → Type 0
-AreArraysFilled IsPart (Denoter-F.Ordinal h low high) = Unit {0}
-AreArraysFilled IsPart (Denoter-F.Set h low high) = Unit {0}
-AreArraysFilled IsPart (Denoter-F.Array low high item) = (0 < item_count low high) × IsPart item
-AreArraysFilled IsPart (Denoter-F.Fields fields) = AllByRecursion IsPart fields
-
--- no array that stands so deep is empty
-abbrev pub FilledTo : ℕ → Denoter → Type 0
-FilledTo zero t = Unit {0}
-FilledTo (suc depth) t = AreArraysFilled (FilledTo depth) (out-Denoter t)
-
--- a type in which no array is empty
-abbrev pub HasFilledArrays : Denoter → Type 0
-HasFilledArrays t = (depth : ℕ) → FilledTo depth t

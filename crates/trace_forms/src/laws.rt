@@ -2,13 +2,13 @@
 
 ghost use Rattle.trace_forms.specs.Laws.{ParametersAreReadable, RunsHaveForm};
 
-/// The values of the parameters of the interactions of an accepted specification can be read, where no array in their types is empty.
+/// The values of the parameters of the interactions of an accepted specification can be read.
 pub fn parameters_are_readable()
     ensures { ParametersAreReadable }
 {}
 
-/// The events and the end of every run of an accepted specification have the form that a trace can tell, where no array in
-/// the types of the parameters of its interactions is empty, and births and outputs can be numbered with 64 bits.
+/// The events and the end of every run of an accepted specification have the form that a trace can tell, where births and
+/// outputs can be numbered with 64 bits.
 pub fn runs_have_form()
     ensures { RunsHaveForm }
 {}

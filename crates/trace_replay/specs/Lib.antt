@@ -1,2 +1,0 @@
--- ---- what is judged
-pub mod Replayed

@@ -3,7 +3,7 @@
 ghost use Rattle.std.specs.Prelude.{◌<◌, ◌^◌, length, OnOk, IfErr};
 ghost use Rattle.estelle_model_legality.specs.Instances.{LeadsToStates};
 ghost use Rattle.trace_check.specs.Judging.{IsRunTo, IsRefused};
-ghost use Rattle.trace_replay.specs.Replayed.{subject};
+ghost use Rattle.estelle_model.specs.Subject.{subject};
 
 use body_walker_program::Program;
 use estelle_model::{End, Run};

@@ -1,8 +1,7 @@
 -- The domains of the names of `any`, by the places of the names.
-use Rattle.std.specs.Prelude.{ℕ, nat_eq, List, [], map, Option, Some, None}
+use Rattle.std.specs.Prelude.{ℕ, List, [], ◌++◌, map, Option, Some, None}
 use Rattle.std.specs.List.{flat_map}
-use Rattle.std.specs.Map.{lookup}
-use Rattle.indexmap.specs.IndexMap.{insert_all}
+use Rattle.place_table.specs.Latest.{latest}
 use Rattle.estelle_tree.specs.declared.span.Span.{Span}
 use Rattle.estelle_tree.specs.declared.tree.name.Name.{Name}
 use Rattle.estelle_tree.specs.declared.tree.clause.AnyDom.{AnyDom}
@@ -45,14 +44,14 @@ visit_domains e v = node_domains e v.node
 -- ---- all together
 
 -- with more domains
-unfoldable pub put_all : Known → Domains → Known
-put_all k ds = record { types = k.types; domains = insert_all nat_eq k.domains ds }
+abbrev pub put_all : Known → Domains → Known
+put_all k ds = record { types = k.types; domains = k.domains ++ ds }
 
 -- what is known of a specification, by what names mean to the rules on types
 unfoldable pub known : Env → Spec → Known
-known e tree = put_all (record { types = e; domains = [] }) (flat_map (visit_domains e) (visits tree))
+known e tree = record { types = e; domains = flat_map (visit_domains e) (visits tree) }
 
 -- the domain of the name of `any` that is declared there
 abbrev pub domain_of : Known → Option Span → Option Denoted
 domain_of k None = None
-domain_of k (Some decl) = lookup (nat_eq decl.start) k.domains
+domain_of k (Some decl) = latest decl.start k.domains

@@ -28,7 +28,8 @@ use Rattle.type_rules.specs.TypeSites.{ordinal_type}
 use Rattle.type_rules.specs.SpecificationSites.{env}
 use Rattle.flat_transitions.specs.Flat.{transitions_in}
 use Rattle.tree_visits.specs.Visit.{Visited, Begins, ClauseBegins, Around}
-use Rattle.visit_rules.specs.Breaches.{Rules, Broken, breach, where_}
+use Rattle.scope_rules.specs.Least.{breach}
+use Rattle.visit_rules.specs.Breaches.{Rules, Broken, where_}
 use Rattle.transition_expand.specs.Domains.{Known, known, domain_of}
 
 -- ---- 30: a flat way has `delay` and `when`; at the later of the two clauses

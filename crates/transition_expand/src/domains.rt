@@ -1,12 +1,12 @@
 //! The domains of the names of `any`, by the places of the names.
 
-ghost use Rattle.std.specs.Prelude.{◌≡◌, ◌∷◌, [], map, IfOk, OnOk};
+ghost use Rattle.std.specs.Prelude.{◌≡◌, ◌++◌, map, IfOk, OnOk};
 ghost use Rattle.std.specs.List.{flat_map};
 ghost use Rattle.transition_expand.specs.Domains as spec;
 
 use declaration_table::Table;
 use estelle_tree::{AnyDom, Clause, Name, Sequence, Span, Spec};
-use indexmap::IndexMap;
+use place_table::Places;
 use std::alloc::{AllocError, Global};
 use std::marker::Model;
 use tree_visits::{Node, Visitor, Within, walk};
@@ -16,7 +16,7 @@ use type_rules::Denoted;
 #[derive(Drop)]
 pub struct Domains<'t> {
     types: &'t Table,
-    domains: IndexMap<u32, Denoted>,
+    domains: Places<Denoted>,
 }
 
 impl<'t> Model for Domains<'t> {
@@ -24,27 +24,10 @@ impl<'t> Model for Domains<'t> {
 
     ghost Value = { Known };
 
-    ghost view = { λ d. record { types = d.types.now; domains = d.domains.entries } };
+    ghost view = { λ d. record { types = d.types.now; domains = d.domains } };
 }
 
 impl<'t> Domains<'t> {
-    fn new(alloc: Global, types: &'t Table) -> Domains<'t>
-        ensures { result ≡ record { types = types.now; domains = [] } }
-    {
-        Domains {
-            types,
-            domains: IndexMap::new(alloc),
-        }
-    }
-
-    #[tactic(auto, unfolding(crate::specs::Domains::put_all))]
-    fn put(&mut self, at: u32, domain: Denoted) -> Result<(), AllocError>
-        ensures { OnOk result (self.new ≡ spec.put_all self.old ((at, domain) ∷ [])) }
-    {
-        self.domains.insert(at, domain)?;
-        Ok(())
-    }
-
     pub fn types(&self) -> &'t Table
         ensures { result.now ≡ self.now.types }
     {
@@ -57,44 +40,42 @@ impl<'t> Domains<'t> {
     {
         match declared {
             None => None,
-            Some(decl) => self.domains.get(&decl.start).copied(),
+            Some(decl) => self.domains.get(decl.start).copied(),
         }
     }
 }
 
 /// The names of one domain.
-fn put_names(domains: &mut Domains, names: &[Name], domain: Denoted) -> Result<(), AllocError>
-    ensures { OnOk result (domains.new ≡ spec.put_all domains.old (map (spec.domain_at domain) names.now)) }
+fn put_names(
+    domains: &mut Places<Denoted>,
+    names: &[Name],
+    domain: Denoted,
+) -> Result<(), AllocError>
+    ensures { OnOk result (domains.new ≡ domains.old ++ map (spec.domain_at domain) names.now) }
 {
     for name in names {
-        domains.put(name.span.start, domain)?;
+        domains.push(name.span.start, domain)?;
     }
     Ok(())
 }
 
-fn put_any(domains: &mut Domains, any: &AnyDom) -> Result<(), AllocError>
-    ensures { OnOk result (domains.new ≡ spec.put_all domains.old (spec.any_domains domains.old.types any.now)) }
+fn put_any(types: &Table, domains: &mut Places<Denoted>, any: &AnyDom) -> Result<(), AllocError>
+    ensures { OnOk result (domains.new ≡ domains.old ++ spec.any_domains types.now any.now) }
 {
-    let domain = domains.types.ordinal_type(&any.domain);
-    put_names(domains, any.names.names.items(), domain)
+    put_names(
+        domains,
+        any.names.names.items(),
+        types.ordinal_type(&any.domain),
+    )
 }
 
-fn put_each(domains: &mut Domains, anys: &[AnyDom]) -> Result<(), AllocError>
-    ensures { OnOk result (domains.new ≡ spec.put_all domains.old (flat_map (spec.any_domains domains.old.types) anys.now)) }
+fn put_each(types: &Table, domains: &mut Places<Denoted>, anys: &[AnyDom]) -> Result<(), AllocError>
+    ensures { OnOk result (domains.new ≡ domains.old ++ flat_map (spec.any_domains types.now) anys.now) }
 {
     for any in anys {
-        put_any(domains, any)?;
+        put_any(types, domains, any)?;
     }
     Ok(())
-}
-
-fn put_clause(domains: &mut Domains, clause: &Clause) -> Result<(), AllocError>
-    ensures { OnOk result (domains.new ≡ spec.put_all domains.old (spec.clause_domains domains.old.types clause.now)) }
-{
-    match clause {
-        Clause::Any { domains: anys, .. } => put_each(domains, anys.items()),
-        _ => Ok(()),
-    }
 }
 
 impl<'t> Visitor for Domains<'t> {
@@ -104,7 +85,9 @@ impl<'t> Visitor for Domains<'t> {
 
     fn see(&mut self, _within: &Within, node: &Node) -> Result<(), AllocError> {
         match node {
-            Node::ClauseBegins(clause) => put_clause(self, clause),
+            Node::ClauseBegins(Clause::Any { domains: anys, .. }) => {
+                put_each(self.types, &mut self.domains, anys.items())
+            }
             _ => Ok(()),
         }
     }
@@ -118,7 +101,10 @@ pub fn domains_in<'t>(
 ) -> Result<Domains<'t>, AllocError>
     ensures { IfOk result (λ domains. domains ≡ spec.known types.now tree.now) }
 {
-    let mut domains = Domains::new(alloc, types);
+    let mut domains = Domains {
+        types,
+        domains: Places::new(alloc),
+    };
     walk(tree, &mut domains)?;
     Ok(domains)
 }

@@ -31,7 +31,8 @@ pub struct Counting {
     pub transitions: Vec<Countable>,
 }
 
-fn is_higher(a: Option<i64>, b: Option<i64>) -> bool
+/// Whether one priority is higher than another.
+pub fn is_higher(a: Option<i64>, b: Option<i64>) -> bool
     ensures { result ≡ is_higher a b }
 {
     match (a, b) {

@@ -11,5 +11,5 @@ mod countings;
 mod offers;
 
 pub use choice::{choose, pick};
-pub use countings::{Countable, Counting, offered, offers_of};
+pub use countings::{Countable, Counting, is_higher, offered, offers_of};
 pub use offers::Offer;

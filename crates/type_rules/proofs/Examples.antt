@@ -29,7 +29,8 @@ use Rattle.type_rules.specs.declared.sites.Operator.TheVariants.{Arithmetic, Ord
 use Rattle.type_rules.specs.declared.sites.Wanted.TheVariants.{AnInteger, ABoolean, Fitting}
 use Rattle.type_rules.specs.declared.sites.Members.TheVariants.{NoMember}
 use Rattle.type_rules.specs.declared.sites.Site.TheVariants.{Operation, Wants, ConstantAt, LabelAt}
-use Rattle.type_rules.specs.Types.{simple, integer, boolean, fits, gives, set_type, record_type, no_fields, is_no_base, least_integer, maxint, array_type, over_index, as_type, ordinal_count, subrange, is_no_subrange}
+use Rattle.type_rules.specs.Types.{simple, integer, boolean, fits, gives, set_type, record_type, no_fields, is_no_base, array_type, over_index, as_type, ordinal_count, subrange, is_no_subrange}
+use Rattle.estelle_tree.specs.Required.{maxint, least_integer}
 use Rattle.type_rules.specs.Meanings.{Env, env_of, with_entity, declare_one, declare_all, entity_at, declaration_of, known, required_meaning, const_value}
 use Rattle.type_rules.specs.TypeSites.{ordinal_type}
 use Rattle.type_rules.specs.ExpressionSites.{Judged, Selection, value, value_at, operated, signed_typed, negated_typed, with_member, set_type_of, factor_layer, selector_layer, args_layer, elem_layer, expr_layer, simple_layer, term_layer, variable_layer, factor, selector, args, elem, expr, simple as simple_node, term, variable}

@@ -1,4 +1,5 @@
 pub mod Lists
+pub mod RequiredMeanings
 pub mod TypeEquations
 pub mod ExpressionEquations
 pub mod StatementEquations

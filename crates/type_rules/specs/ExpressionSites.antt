@@ -25,8 +25,8 @@ use Rattle.type_rules.specs.declared.types.Host.TheVariants as host
 use Rattle.type_rules.specs.declared.types.Base.TheVariants as set_base
 use Rattle.type_rules.specs.declared.types.PascalType.{PascalType}
 use Rattle.type_rules.specs.declared.types.PascalType.TheVariants as t
-use Rattle.type_rules.specs.declared.meanings.Required.{Required}
-use Rattle.type_rules.specs.declared.meanings.Required.TheVariants.{Abs, Sqr, Odd, Succ, Pred, Ord, Chr}
+use Rattle.estelle_tree.specs.declared.required.Required.{Required}
+use Rattle.estelle_tree.specs.declared.required.Required.TheVariants.{Abs, Sqr, Odd, Succ, Pred, Ord, Chr}
 use Rattle.type_rules.specs.declared.meanings.Parameter.{Parameter}
 use Rattle.type_rules.specs.declared.meanings.Meaning.{Meaning}
 use Rattle.type_rules.specs.declared.meanings.Meaning.TheVariants.{Constant, Variable, Function, RequiredFunction, ModuleVariable}
@@ -176,14 +176,14 @@ abbrev pub call_sites : Span → Parameters → List Judged → Sites
 call_sites at ps es = arguments ps es ++ CallOf at (length ps) (length es) ∷ []
 
 -- what a required function takes (6.6.6)
-unfoldable pub taken : Required → Wanted
-taken Abs = AnInteger
-taken Sqr = AnInteger
-taken Odd = AnInteger
-taken Chr = AnInteger
-taken Succ = AnOrdinal
-taken Pred = AnOrdinal
-taken Ord = AnOrdinal
+unfoldable pub required_argument : Required → Wanted
+required_argument Abs = AnInteger
+required_argument Sqr = AnInteger
+required_argument Odd = AnInteger
+required_argument Chr = AnInteger
+required_argument Succ = AnOrdinal
+required_argument Pred = AnOrdinal
+required_argument Ord = AnOrdinal
 
 abbrev pub whole_of : Option Host → Option PascalType
 whole_of None = None
@@ -206,7 +206,7 @@ required_result Pred u = whole_of (host_in u)
 -- the first argument is the one that it takes
 abbrev pub required_arguments : Required → List Judged → Sites
 required_arguments f [] = []
-required_arguments f (e ∷ es) = (e.sites ++ Wants (taken f) e.typed ∷ []) ++ all_sites es
+required_arguments f (e ∷ es) = (e.sites ++ Wants (required_argument f) e.typed ∷ []) ++ all_sites es
 
 abbrev pub required_call : Span → Name → Required → List Judged → Judged
 required_call at x f es = value at (required_result f (first_type es)) (required_arguments f es ++ CallOf x.span 1 (length es) ∷ [])

@@ -1,11 +1,14 @@
 -- What a name in use means: what its declaration says, in terms of the declarations before it.
-use Rattle.std.specs.Prelude.{ℕ, nat_eq, Bool, true, false, if◌then◌else◌, List, [], ◌∷◌, ◌++◌, fold, Option, Some, None, ℤ, pos, neg_ℤ, codes, int_lt}
+use Rattle.std.specs.Prelude.{ℕ, nat_eq, Bool, true, false, if◌then◌else◌, List, [], ◌∷◌, ◌++◌, fold, map, Option, Some, None, ℤ, pos, neg_ℤ, int_lt}
 use Rattle.std.specs.Option.{is_some}
 use Rattle.std.specs.Map.{lookup}
 use Rattle.std.specs.Str.{bytes_eq}
 use Rattle.estelle_tree.specs.declared.span.Span.{Span}
 use Rattle.estelle_tree.specs.declared.names.Use.{Use}
 use Rattle.estelle_tree.specs.declared.tree.name.Name.{Name}
+use Rattle.estelle_tree.specs.declared.required.RequiredIdentifier.{RequiredIdentifier}
+use Rattle.estelle_tree.specs.declared.required.RequiredIdentifier.TheVariants as identifier
+use Rattle.estelle_tree.specs.Required.{identifiers, maxint, least_integer}
 use Rattle.estelle_tree.specs.declared.tree.type_expr.Sign.{Sign}
 use Rattle.estelle_tree.specs.declared.tree.type_expr.Sign.TheVariants as sign
 use Rattle.estelle_tree.specs.declared.tree.type_expr.Const.{Const}
@@ -16,12 +19,11 @@ use Rattle.type_rules.specs.declared.types.PascalType.{PascalType}
 use Rattle.type_rules.specs.declared.types.PascalType.TheVariants as t
 use Rattle.type_rules.specs.declared.types.Value.{Value}
 use Rattle.type_rules.specs.declared.types.Denoted.{Denoted}
-use Rattle.type_rules.specs.declared.meanings.Required.TheVariants.{Abs, Sqr, Odd, Succ, Pred, Ord, Chr}
 use Rattle.type_rules.specs.declared.meanings.Parameter.{Parameter}
 use Rattle.type_rules.specs.declared.meanings.Meaning.{Meaning}
 use Rattle.type_rules.specs.declared.meanings.Meaning.TheVariants.{Nothing, Constant, TypeName, Variable, ArrayType, Procedure, Function, RequiredFunction, Body}
 use Rattle.type_rules.specs.declared.meanings.Entity.{Entity}
-use Rattle.type_rules.specs.Types.{at_fault, simple, least_integer, maxint}
+use Rattle.type_rules.specs.Types.{at_fault, simple}
 
 abbrev pub Parameters : Type 0
 Parameters = List Parameter
@@ -39,12 +41,17 @@ whole h low high = TypeName (simple (Some (t.Whole h)) low high)
 abbrev pub valued : Host → ℤ → Meaning
 valued h n = Constant (Some h) (Some (record { host = h; ordinal = n }))
 
+abbrev pub meaning_of_required : RequiredIdentifier → Meaning
+meaning_of_required identifier.Integer = whole host.Integer least_integer maxint
+meaning_of_required identifier.Boolean = whole host.Boolean (pos 0) (pos 1)
+meaning_of_required identifier.Char = whole host.Char (pos 0) (pos 255)
+meaning_of_required identifier.False = valued host.Boolean (pos 0)
+meaning_of_required identifier.True = valued host.Boolean (pos 1)
+meaning_of_required identifier.Maxint = valued host.Integer maxint
+meaning_of_required (identifier.Function f) = RequiredFunction f
+
 abbrev pub required : List (List ℕ × Meaning)
-required =
-    (codes "integer", whole host.Integer least_integer maxint) ∷ (codes "boolean", whole host.Boolean (pos 0) (pos 1)) ∷ (codes "char", whole host.Char (pos 0) (pos 255))
-    ∷ (codes "false", valued host.Boolean (pos 0)) ∷ (codes "true", valued host.Boolean (pos 1)) ∷ (codes "maxint", valued host.Integer maxint)
-    ∷ (codes "abs", RequiredFunction Abs) ∷ (codes "sqr", RequiredFunction Sqr) ∷ (codes "odd", RequiredFunction Odd)
-    ∷ (codes "succ", RequiredFunction Succ) ∷ (codes "pred", RequiredFunction Pred) ∷ (codes "ord", RequiredFunction Ord) ∷ (codes "chr", RequiredFunction Chr) ∷ []
+required = map (λ e. (e.0, meaning_of_required e.1)) identifiers
 
 abbrev pub or_nothing : Option Meaning → Meaning
 or_nothing None = Nothing

@@ -1,5 +1,5 @@
 -- Types: which are the same, which fit, what an operation gives, and what a type expression denotes.
-use Rattle.std.specs.Prelude.{ℕ, ◌+◌, ◌*◌, nat_eq, min, max, Bool, true, false, ◌||◌, ◌&&◌, not, if◌then◌else◌, List, fold, Option, Some, None, ℤ, pos, negsuc, ◌-◌, ◌^◌, nat_abs, ◌-ℤ◌, int_lt}
+use Rattle.std.specs.Prelude.{ℕ, ◌+◌, ◌*◌, nat_eq, min, max, Bool, true, false, ◌||◌, ◌&&◌, not, if◌then◌else◌, List, fold, Option, Some, None, ℤ, pos, nat_abs, ◌-ℤ◌, int_lt}
 use Rattle.std.specs.Option.{is_some}
 use Rattle.std.specs.Ordering.{int_eq}
 use Rattle.estelle_tree.specs.declared.span.Span.{Span}
@@ -151,12 +151,6 @@ fails test (Some u) = not (test u)
 
 abbrev pub same_value : Value → Value → Bool
 same_value v w = same_host v.host w.host && int_eq v.ordinal w.ordinal
-
-abbrev pub maxint : ℤ
-maxint = pos (2 ^ 63 - 1)
-
-abbrev pub least_integer : ℤ
-least_integer = negsuc (2 ^ 63 - 2)
 
 -- ---- types with their values (6.4)
 

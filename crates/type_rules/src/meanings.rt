@@ -5,19 +5,7 @@ ghost use Rattle.type_rules.specs.Meanings as spec;
 
 use crate::denoted::at_fault;
 use crate::types::{Denoted, Host, PascalType, Value};
-use estelle_tree::{Items, Sign};
-
-/// The required functions (ISO 7185, 6.6.6).
-#[derive(Clone, Copy)]
-pub enum Required {
-    Abs,
-    Sqr,
-    Odd,
-    Succ,
-    Pred,
-    Ord,
-    Chr,
-}
+use estelle_tree::{Items, Required, Sign};
 
 /// A formal parameter: whether it is a variable parameter, and its type.
 #[derive(Clone, Copy)]

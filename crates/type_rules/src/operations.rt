@@ -6,13 +6,12 @@ ghost use Rattle.type_rules.specs.Sites as sites;
 ghost use Rattle.type_rules.specs.ExpressionSites as spec;
 
 use crate::denoted::host_in;
-use crate::meanings::Required;
 use crate::sites::{Access, Members, Operator, Typed, Wanted};
 use crate::types::{
     Base, Host, PascalType, fits, is_array, is_boolean, is_integer, is_ordinal, may_be_in,
     ordinals_fit, sets_fit,
 };
-use estelle_tree::{Adding, Multiplying, Relation, Span};
+use estelle_tree::{Adding, Multiplying, Relation, Required, Span};
 
 fn only_where(test: bool, u: PascalType) -> Option<PascalType>
     ensures { result ≡ types.where_ test u }
@@ -251,8 +250,8 @@ pub fn set_type_of(at: Span, members: Members) -> Option<PascalType>
 }
 
 /// What a required function takes.
-pub fn taken(required: Required) -> Wanted
-    ensures { result ≡ spec.taken required }
+pub fn required_argument(required: Required) -> Wanted
+    ensures { result ≡ spec.required_argument required }
 {
     match required {
         Required::Abs | Required::Sqr | Required::Odd | Required::Chr => Wanted::AnInteger,

@@ -4,12 +4,12 @@ use Rattle.std.specs.Prelude.{fold, IfNone, IfSome}
 use Rattle.std.specs.List.{flat_map}
 use Rattle.estelle_tree.specs.declared.tree.name.Name.{Name}
 use Rattle.scope_rules.specs.declared.refusal.Breach.{Breach}
-use Rattle.scope_rules.specs.Least.{noted, IsLeast, IsFirst}
+use Rattle.scope_rules.specs.Least.{breach, noted, IsLeast, IsFirst}
 use Rattle.scope_rules.specs.NameRules.{IsOne}
 use Rattle.scope_rules.proofs.First.{first_noted, first_same, first_of_none, first_alone, first_none, first_some}
 use Rattle.tree_visits.specs.Visit.{Visit}
 use Rattle.tree_visits.specs.Visits.{Visits, visits}
-use Rattle.visit_rules.specs.Breaches.{Rules, breach, breaches_at, noted_all}
+use Rattle.visit_rules.specs.Breaches.{Rules, breaches_at, noted_all}
 
 pub noted-nil : (first : Option Breach) → noted_all first [] ≡ first
 unfolding noted_all

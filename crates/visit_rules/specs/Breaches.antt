@@ -1,11 +1,10 @@
 -- Tables of rules: what each visit of a tree breaks.
 use Rattle.std.specs.Prelude.{ℕ, Bool, if◌then◌else◌, List, [], ◌∷◌, map, Option, Some}
 use Rattle.std.specs.List.{flat_map}
-use Rattle.estelle_tree.specs.declared.span.Span.{Span}
 use Rattle.estelle_tree.specs.declared.tree.name.Name.{Name}
 use Rattle.estelle_tree.specs.declared.tree.specification.Spec.{Spec}
 use Rattle.scope_rules.specs.declared.refusal.Breach.{Breach}
-use Rattle.scope_rules.specs.Least.{noted}
+use Rattle.scope_rules.specs.Least.{breach, noted}
 use Rattle.scope_rules.specs.NameRules.{IsOne}
 use Rattle.tree_visits.specs.Visit.{Visit}
 use Rattle.tree_visits.specs.Visits.{visits}
@@ -17,10 +16,6 @@ Rules = Visit → List Breach
 -- a breach of a tree: one of a visit
 abbrev pub Broken : Rules → Spec → Breach → Type 0
 Broken rules tree b = IsOne b (flat_map rules (visits tree))
-
--- a node breaks a rule
-abbrev pub breach : ℕ → Span → Breach
-breach number at = record { number = number; span = at }
 
 -- each of these names breaks a rule
 abbrev pub breaches_at : ℕ → List Name → List Breach

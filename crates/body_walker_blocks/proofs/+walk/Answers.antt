@@ -23,7 +23,7 @@ use Rattle.estelle_model.specs.declared.place.Place.{Place}
 use Rattle.estelle_model.specs.Core.{Instances}
 use Rattle.estelle_model.specs.Bodies.{BodyAlone}
 use Rattle.estelle_model.specs.Subject.{Subject, body, child_of}
-use Rattle.estelle_model.specs.Actions.{types_of}
+use Rattle.estelle_model.specs.Definitions.{types_received}
 use Rattle.estelle_model.specs.Operators.{one_member, members_from, required_value}
 use Rattle.estelle_model.specs.States.{Logged, on_log}
 use Rattle.estelle_model.specs.Places.{load, store, store_ordinal}
@@ -742,13 +742,13 @@ pub output::output-value_arguments-requires : goal.output::output-value_argument
 output::output-value_arguments-requires t c = (omega (arith, c.decreases, arguments_weigh c.args.args.now, ap (total of_expr) c.exprs_of.ensures), tt)
 
 pub output::output-returns-in_err-given : goal.output::output-returns-in_err-given
-output::output-returns-in_err-given t c = exits c.from_residual.result c.from_residual.ensures.1 (output_steps c.args.scope.now c.args.here.now c.args.ip.now c.args.interaction.now c.args.args.now c.args.scope.now.subject c.types_of-types.result.now c.exprs_of.result.now refl (c.types_of-types.ensures ∙ ap types_of c.meaning-meaning.ensures) c.exprs_of.ensures) (stops c.in_err-given.ensures)
+output::output-returns-in_err-given t c = exits c.from_residual.result c.from_residual.ensures.1 (output_steps c.args.scope.now c.args.here.now c.args.ip.now c.args.interaction.now c.args.args.now c.args.scope.now.subject c.types_received-types.result.now c.exprs_of.result.now refl (c.types_received-types.ensures ∙ ap types_received c.meaning-meaning.ensures) c.exprs_of.ensures) (stops c.in_err-given.ensures)
 
 pub output::output-returns-in_err-spend : goal.output::output-returns-in_err-spend
-output::output-returns-in_err-spend t c = exits c.from_residual-in_err-spend.result c.from_residual-in_err-spend.ensures.1 (output_steps c.args.scope.now c.args.here.now c.args.ip.now c.args.interaction.now c.args.args.now c.args.scope.now.subject c.types_of-types.result.now c.exprs_of.result.now refl (c.types_of-types.ensures ∙ ap types_of c.meaning-meaning.ensures) c.exprs_of.ensures) (then c.in_ok-given.ensures (stops c.in_err-spend.ensures))
+output::output-returns-in_err-spend t c = exits c.from_residual-in_err-spend.result c.from_residual-in_err-spend.ensures.1 (output_steps c.args.scope.now c.args.here.now c.args.ip.now c.args.interaction.now c.args.args.now c.args.scope.now.subject c.types_received-types.result.now c.exprs_of.result.now refl (c.types_received-types.ensures ∙ ap types_received c.meaning-meaning.ensures) c.exprs_of.ensures) (then c.in_ok-given.ensures (stops c.in_err-spend.ensures))
 
 pub output::output-returns-in_err-a : goal.output::output-returns-in_err-a
-output::output-returns-in_err-a t c = exits c.from_residual-in_err-a.result c.from_residual-in_err-a.ensures.1 (output_steps c.args.scope.now c.args.here.now c.args.ip.now c.args.interaction.now c.args.args.now c.args.scope.now.subject c.types_of-types.result.now c.exprs_of.result.now refl (c.types_of-types.ensures ∙ ap types_of c.meaning-meaning.ensures) c.exprs_of.ensures) (then c.in_ok-given.ensures (then c.in_ok-spend.ensures (without c.in_err-a.ensures)))
+output::output-returns-in_err-a t c = exits c.from_residual-in_err-a.result c.from_residual-in_err-a.ensures.1 (output_steps c.args.scope.now c.args.here.now c.args.ip.now c.args.interaction.now c.args.args.now c.args.scope.now.subject c.types_received-types.result.now c.exprs_of.result.now refl (c.types_received-types.ensures ∙ ap types_received c.meaning-meaning.ensures) c.exprs_of.ensures) (then c.in_ok-given.ensures (then c.in_ok-spend.ensures (without c.in_err-a.ensures)))
 
 pub output::output-returns : goal.output::output-returns
-output::output-returns t c = leaves (output_steps c.args.scope.now c.args.here.now c.args.ip.now c.args.interaction.now c.args.args.now c.bodies.result.now c.types_of-types.result.now c.exprs_of.result.now c.bodies.ensures (c.types_of-types.ensures ∙ ap types_of c.meaning-meaning.ensures) c.exprs_of.ensures) (then c.in_ok-given.ensures (then c.in_ok-spend.ensures (with c.in_ok-a.ensures (last (c.output_at.ensures (meanings c.args.scope.now) (sym c.meaning-meaning.ensures))))))
+output::output-returns t c = leaves (output_steps c.args.scope.now c.args.here.now c.args.ip.now c.args.interaction.now c.args.args.now c.bodies.result.now c.types_received-types.result.now c.exprs_of.result.now c.bodies.ensures (c.types_received-types.ensures ∙ ap types_received c.meaning-meaning.ensures) c.exprs_of.ensures) (then c.in_ok-given.ensures (then c.in_ok-spend.ensures (with c.in_ok-a.ensures (last (c.output_at.ensures (meanings c.args.scope.now) (sym c.meaning-meaning.ensures))))))

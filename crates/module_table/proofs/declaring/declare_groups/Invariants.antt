@@ -1,7 +1,7 @@
-use Rattle.std.proofs.Common.{◌≡◌, take}
+use Rattle.std.proofs.Common.{◌≡◌, ◌++◌, take}
 use Rattle.std.specs.List.{flat_map}
-use Rattle.module_table.specs.Known.{declare_all, group_declares}
+use Rattle.module_table.specs.Known.{group_declares}
 use Rattle.module_table.proofs.declaring.declare_groups.Given as goal
 
 abbrev pub invariant-loop-group : goal.invariant-loop-group
-invariant-loop-group l = l.table ≡ declare_all l.initial.table (flat_map (group_declares l.initial.table.names l.channel) (take l.group-index l.groups))
+invariant-loop-group l = l.places ≡ l.initial.places ++ flat_map (group_declares l.names l.channel) (take l.group-index l.groups)

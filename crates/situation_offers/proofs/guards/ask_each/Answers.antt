@@ -34,7 +34,7 @@ loop-part-preserved c = λ g system of all.
     let part = c.part-item.result.now in
     let at : IsAt g system part = mapped_at (IsAt g system) (λ (r : Bor Part). r.now) xs k c.part-item.result c.loop-part-test.true c.part-item.is all.each_at in
     let count = subst (IsCount s c.args.budget g system c.args.now part.path _ _) c.in-Counts.is (c.in_ok-count.ensures g system of at) in
-    let its = c.in_ok-counting-in-Counts.ensures g system c.args.now c.args.budget of.legal of.is_system at count.0 in
+    let its = c.in_ok-counting-in-Counts.ensures g system c.args.now c.args.budget of.shown.legal of.is_system at count.0 in
     one_more (λ (r : Bor Part). r.now.path) s c.args.budget g system c.args.now xs k c.loop-part.counts.items _ (c.loop-part.invariant g system of all)
     c.part-item.result c.loop-part-test.true c.part-item.is c.in_ok-counting-in-Counts.field-0 its.path its.counting count.1 _ count.2 c.push.new.self.items c.in_ok-push-in-Counts.ensures.items
 

@@ -18,7 +18,7 @@ loop-index-init c = λ g system of at. (
 pub returns-in-Faulted : goal.returns-in-Faulted
 returns-in-Faulted c = λ g system of at.
     first_here c.args.program.now c.args.budget g system c.args.now c.args.part.now.path c.loop-index.index c.loop-index.counted.items _ _ c.in-Faulted.kind
-    (c.loop-index.invariant g system of at).0 (sym (c.in_ok-answer.ensures g system of at.of_instance (c.loop-index.invariant g system of at).1).0 ∙ c.in-Faulted.is)
+    (c.loop-index.invariant g system of at).0 (sym (c.in_ok-answer.ensures g of.shown at.of_instance (c.loop-index.invariant g system of at).1).0 ∙ c.in-Faulted.is)
 
 pub loop-index-preserved : goal.loop-index-preserved
 loop-index-preserved c = λ g system of at.
@@ -27,11 +27,11 @@ loop-index-preserved c = λ g system of at.
     let n = c.loop-index.index + 1 in
     let answer = c.in_ok-answer.answer in
     let is = body_of g c.args.part.now at.of_instance in
-    let its = c.in_ok-answer.ensures g system of at.of_instance (c.loop-index.invariant g system of at).1 in (
+    let its = c.in_ok-answer.ensures g of.shown at.of_instance (c.loop-index.invariant g system of at).1 in (
       counted_more s c.args.budget g system c.args.now m at.inside c.loop-index.index _ _ _ _ _ answer c.may-may.result c.must-must.result
           (c.loop-index.invariant g system of at).0 its.0 c.in_default.not-Faulted
-          (c.may-may.ensures g is ∙ ap (λ ts. may_by c.args.now (map.get ts (pair m n)) (has_delay s g m n) answer) of.running)
-          (c.must-must.ensures g is ∙ ap (λ ts. must_by c.args.now (map.get ts (pair m n)) (has_delay s g m n) answer) of.running)
+          (c.may-may.ensures g is ∙ ap (λ ts. may_by c.args.now (map.get ts (pair m n)) (has_delay s g m n) answer) of.shown.running)
+          (c.must-must.ensures g is ∙ ap (λ ts. must_by c.args.now (map.get ts (pair m n)) (has_delay s g m n) answer) of.shown.running)
           (c.in_ok-count_if.ensures g m is)
           (c.in_ok-want_if.ensures ∙ ap (λ b. c.loop-index.wanted.items ++ wanted_if b (pair m n) answer) (c.is_delayed-delayed.ensures g m is)),
       its.1,

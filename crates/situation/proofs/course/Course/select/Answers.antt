@@ -31,7 +31,7 @@ returns-in-Err-clause-stepped g c =
     subst (λ m. HasStepped g.H.Chooser.draw told m old c.ended.new.self c.ended.result) (sym c.moment.ensures.told)
     (subst (HasStepped g.H.Chooser.draw told told old c.ended.new.self) (sym c.ended.ensures.says)
     (subst (λ x. HasStepped g.H.Chooser.draw told told old x (did.Ended Clock)) (sym c.ended.ensures.rest)
-    (clock_step g.H.Chooser.draw told old c.ended.new.self c.args.at c.requires.open.is_open c.requires.due asked c.ended.ensures.noted)))
+    (clock_step g.H.Chooser.draw told old c.ended.new.self c.args.at 2 c.requires.open c.requires.due asked c.ended.ensures.noted)))
 
 pub returns-in-Err-clause-cause : goal.returns-in-Err-clause-cause
 returns-in-Err-clause-cause g c said =

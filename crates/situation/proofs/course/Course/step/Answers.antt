@@ -15,13 +15,13 @@ returns-then-self-from-clause-stepped g c =
     let m = g.C.Clock.moment c.args.clock.now in
     let none : old.end ≡ None = search (rules, tests) in
     let room : 3 ≤ h.spare = search (rules, tests) in
-    let o = (goes_on_so old h 3 c.reserve.ensures.kept room none c.requires).is_open in
-    let fired = o.fired in
+    let opened = goes_on_so old h 3 c.reserve.ensures.kept room none c.requires in
+    let fired = opened.is_open.fired in
     let full : fires h.entries ≡ old.limits.turns = search (rules, tests) in
     stepped_so g.H.Chooser.draw m m old c.ended.new.self h c.ended.result c.reserve.ensures.kept
     (subst (HasStepped g.H.Chooser.draw m m (with_history old h) c.ended.new.self) (sym c.ended.ensures.says)
     (subst (λ x. HasStepped g.H.Chooser.draw m m (with_history old h) x (did.Ended Turns)) (sym c.ended.ensures.rest)
-    (turns_step g.H.Chooser.draw m (with_history old h) c.ended.new.self o full c.ended.ensures.noted)))
+    (turns_step g.H.Chooser.draw m (with_history old h) c.ended.new.self 3 opened full c.ended.ensures.noted)))
 
 pub returns-clause-stepped : goal.returns-clause-stepped
 returns-clause-stepped g c =

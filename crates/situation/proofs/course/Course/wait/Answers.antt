@@ -34,7 +34,7 @@ returns-in-Err-clause-stepped g c =
     subst (λ m. HasStepped g.H.Chooser.draw told m old c.ended.new.self c.ended.result) (sym same)
     (subst (HasStepped g.H.Chooser.draw told told old c.ended.new.self) (sym c.ended.ensures.says)
     (subst (λ x. HasStepped g.H.Chooser.draw told told old x (did.Ended Clock)) (sym c.ended.ensures.rest)
-    (wait_fails g.H.Chooser.draw told old c.ended.new.self c.args.due c.requires.open.is_open c.requires.may c.ended.ensures.noted)))
+    (wait_fails g.H.Chooser.draw told old c.ended.new.self c.args.due 2 c.requires.open c.requires.may c.ended.ensures.noted)))
 
 pub returns-in-Err-clause-unasked : goal.returns-in-Err-clause-unasked
 returns-in-Err-clause-unasked g c undelayed =
