@@ -1,12 +1,11 @@
 //! Attributes of modules: which texts keep the rules on them, and where others break which.
 
-use crate::marks::{told, wanted};
+use crate::marks::{found, told, wanted};
 use attribute_rules::check;
 use estelle_tree::Spec;
 use scope_names::resolve;
 use std::alloc::Global;
 use std::test::Fail;
-use test_texts::tree;
 
 /// Texts. A comment that is a number alone stands right before the node at which that rule is reported.
 const TEXTS: [&str; 47] = [
@@ -81,14 +80,10 @@ fn judged(alloc: Global, spec: &Spec) -> Option<(u8, usize)> {
 #[test]
 fn rules_on_attributes(rt: HostRuntime) -> Result<(), Fail> {
     for text in &TEXTS {
-        let spec = tree(rt.alloc(), text.as_bytes());
-        assert!(rt; spec.is_some(), "{text}");
-        if let Some(spec) = spec {
-            assert!(rt;
-                judged(rt.alloc(), &spec) == Some(wanted(text.as_bytes())),
-                "{text}"
-            );
-        }
+        assert!(rt;
+            found(rt.alloc(), text.as_bytes(), judged) == Some(wanted(text.as_bytes())),
+            "{text}"
+        );
     }
     Ok(())
 }
@@ -103,11 +98,7 @@ fn process_inside_activity(rt: HostRuntime) -> Result<(), Fail> {
         "end.\n",
     ];
     let text = lines.concat(rt.alloc())?;
-    let spec = tree(rt.alloc(), text.as_bytes());
-    assert!(rt; spec.is_some());
-    if let Some(spec) = spec {
-        let place = lines[0].len() + lines[1].len() + 7;
-        assert!(rt; judged(rt.alloc(), &spec) == Some((14, place)));
-    }
+    let place = lines[0].len() + lines[1].len() + 7;
+    assert!(rt; found(rt.alloc(), text.as_bytes(), judged) == Some((14, place)));
     Ok(())
 }

@@ -1,12 +1,11 @@
 //! Roles, interactions and links: which texts keep the rules on them, and where others break which.
 
-use crate::marks::{told, wanted};
+use crate::marks::{found, told, wanted};
 use channel_roles::check;
 use estelle_tree::Spec;
 use scope_names::resolve;
 use std::alloc::Global;
 use std::test::Fail;
-use test_texts::tree;
 
 /// Texts. A comment that is a number alone stands right before the node at which that rule is reported.
 const TEXTS: [&str; 66] = [
@@ -99,14 +98,10 @@ fn judged(alloc: Global, spec: &Spec) -> Option<(u8, usize)> {
 #[test]
 fn rules_on_channels(rt: HostRuntime) -> Result<(), Fail> {
     for text in &TEXTS {
-        let spec = tree(rt.alloc(), text.as_bytes());
-        assert!(rt; spec.is_some(), "{text}");
-        if let Some(spec) = spec {
-            assert!(rt;
-                judged(rt.alloc(), &spec) == Some(wanted(text.as_bytes())),
-                "{text}"
-            );
-        }
+        assert!(rt;
+            found(rt.alloc(), text.as_bytes(), judged) == Some(wanted(text.as_bytes())),
+            "{text}"
+        );
     }
     Ok(())
 }

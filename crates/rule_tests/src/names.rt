@@ -1,11 +1,10 @@
 //! Names: which texts keep the rules on them, and where others break which.
 
-use crate::marks::{told, wanted};
+use crate::marks::{found, told, wanted};
 use estelle_tree::Spec;
 use scope_names::resolve;
 use std::alloc::Global;
 use std::test::Fail;
-use test_texts::tree;
 
 /// Texts. A comment that is a digit alone stands right before the node at which that rule is reported.
 const TEXTS: [&str; 88] = [
@@ -119,14 +118,10 @@ fn judged(alloc: Global, spec: &Spec) -> Option<(u8, usize)> {
 #[test]
 fn rules_on_names(rt: HostRuntime) -> Result<(), Fail> {
     for text in &TEXTS {
-        let spec = tree(rt.alloc(), text.as_bytes());
-        assert!(rt; spec.is_some(), "{text}");
-        if let Some(spec) = spec {
-            assert!(rt;
-                judged(rt.alloc(), &spec) == Some(wanted(text.as_bytes())),
-                "{text}"
-            );
-        }
+        assert!(rt;
+            found(rt.alloc(), text.as_bytes(), judged) == Some(wanted(text.as_bytes())),
+            "{text}"
+        );
     }
     Ok(())
 }

@@ -1,11 +1,11 @@
 //! Clauses and numbers of transitions: which texts keep the rules on them, and where others break which.
 
-use crate::marks::wanted;
+use crate::marks::{found, wanted};
 use estelle_tree::Spec;
 use scope_names::resolve;
 use std::alloc::{AllocError, Global};
 use std::test::Fail;
-use test_texts::{WORKED, tree};
+use test_texts::WORKED;
 use transition_expand::{ExpandError, expand};
 
 /// Texts. A comment of two digits stands right before the node at which that rule is reported.
@@ -118,14 +118,10 @@ fn judged(alloc: Global, spec: &Spec) -> Option<(u8, usize)> {
 #[test]
 fn rules_on_transitions(rt: HostRuntime) -> Result<(), Fail> {
     for text in &TEXTS {
-        let spec = tree(rt.alloc(), text.as_bytes());
-        assert!(rt; spec.is_some(), "{text}");
-        if let Some(spec) = spec {
-            assert!(rt;
-                judged(rt.alloc(), &spec) == Some(wanted(text.as_bytes())),
-                "{text}"
-            );
-        }
+        assert!(rt;
+            found(rt.alloc(), text.as_bytes(), judged) == Some(wanted(text.as_bytes())),
+            "{text}"
+        );
     }
     Ok(())
 }
@@ -144,14 +140,10 @@ fn changed_text(alloc: Global, name: &str, old: &str, new: &str) -> Result<Strin
 fn worked_texts_with_one_more_clause(rt: HostRuntime) -> Result<(), Fail> {
     for (name, old, new, rule, words) in CHANGED {
         let text = changed_text(rt.alloc(), name, old, new)?;
-        let spec = tree(rt.alloc(), text.as_bytes());
-        assert!(rt; spec.is_some(), "{text}");
-        if let Some(spec) = spec {
-            assert!(rt;
-                judged(rt.alloc(), &spec) == text.find(words).map(|at| (rule, at)),
-                "{text}"
-            );
-        }
+        assert!(rt;
+            found(rt.alloc(), text.as_bytes(), judged) == text.find(words).map(|at| (rule, at)),
+            "{text}"
+        );
     }
     Ok(())
 }
