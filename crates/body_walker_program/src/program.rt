@@ -21,12 +21,22 @@ use std::alloc::{AllocError, Global};
 use std::marker::Model;
 
 /// A specification, seen with what its names mean.
-#[derive(Drop)]
 pub struct Program<'a> {
     table: Table<'a>,
     bodies: ModuleBodies<'a>,
     /// Of each body.
     transitions: Items<BodyTransitions<'a>>,
+}
+
+// Written out, so that it is proved here alone, and not in each crate that drops a program.
+impl Drop for Program<'_> {
+    fn drop(self) {
+        let Program {
+            table: _,
+            bodies: _,
+            transitions: _,
+        } = self;
+    }
 }
 
 impl<'a> Model for Program<'a> {

@@ -5,10 +5,21 @@ use queue_store::Queues;
 
 /// What the instances of a situation share (ISO/IEC 9074: global instantaneous description): the instances themselves,
 /// the interactions that wait, the links, and how many outputs there have been.
-#[derive(Drop)]
 pub struct Shared {
     pub tree: Tree<Part>,
     pub queues: Queues<Interaction>,
     pub links: Links,
     pub outputs: u64,
+}
+
+// Written out, so that it is proved here alone.
+impl Drop for Shared {
+    fn drop(self) {
+        let Shared {
+            tree: _,
+            queues: _,
+            links: _,
+            outputs: _,
+        } = self;
+    }
 }

@@ -77,7 +77,6 @@ pub struct Heading {
 }
 
 /// What a name can mean.
-#[derive(Drop)]
 pub enum Meaning<'a> {
     /// A constant, a value of an enumerated type, or a name of an `any` clause.
     Constant { value: Value, host: Host },
@@ -112,4 +111,43 @@ pub enum Meaning<'a> {
     Body(u32),
     /// A name of another kind.
     Other,
+}
+
+// Written out, so that it is proved here alone, and not in each crate that drops a meaning.
+impl Drop for Meaning<'_> {
+    fn drop(self) {
+        match self {
+            Meaning::Constant { value: _, host: _ } => {}
+            Meaning::TypeName(_) => {}
+            Meaning::Own {
+                number: _,
+                denoter: _,
+            } => {}
+            Meaning::Exported {
+                number: _,
+                denoter: _,
+            } => {}
+            Meaning::Local {
+                number: _,
+                denoter: _,
+            } => {}
+            Meaning::Var {
+                number: _,
+                denoter: _,
+            } => {}
+            Meaning::Field(_) => {}
+            Meaning::Called(_) => {}
+            Meaning::RequiredFunction(_) => {}
+            Meaning::Module(_) => {}
+            Meaning::Ip(_) => {}
+            Meaning::State(_) => {}
+            Meaning::StateSet(_) => {}
+            Meaning::Channel(_) => {}
+            Meaning::Role(_) => {}
+            Meaning::Interaction(_) => {}
+            Meaning::Header(_) => {}
+            Meaning::Body(_) => {}
+            Meaning::Other => {}
+        }
+    }
 }

@@ -10,9 +10,15 @@ use std::alloc::{AllocError, Global};
 use std::marker::Model;
 
 /// The flat transitions of each body, numbered from 0 (the specification) in text order.
-#[derive(Drop)]
 pub struct Flat {
     pub bodies: Items<Items<FlatTrans>>,
+}
+
+// Written out, so that it is proved here alone.
+impl Drop for Flat {
+    fn drop(self) {
+        let Flat { bodies: _ } = self;
+    }
 }
 
 /// A transition without nested clauses and without `any` (ISO/IEC 9074): the clauses on the way to a

@@ -125,9 +125,15 @@ impl<'a> Transition<'a> {
 }
 
 /// Flat transitions in text order, no more than `u32` has numbers for, from 1 on.
-#[derive(Drop)]
 pub struct Transitions<'a> {
     items: Items<Transition<'a>>,
+}
+
+// Written out, so that it is proved here alone.
+impl Drop for Transitions<'_> {
+    fn drop(self) {
+        let Transitions { items: _ } = self;
+    }
 }
 
 impl<'a> Model for Transitions<'a> {

@@ -12,12 +12,22 @@ use std::alloc::{AllocError, Global};
 use std::marker::Model;
 
 /// What each name in use means, as far as it is declared. A table may lie over another one, which stays as it is.
-#[derive(Drop)]
 pub struct Table<'a> {
     pub alloc: Global,
     names: HeldNames<'a>,
     /// By the place of a declaration.
     declared: Layers<'a, Meaning<'a>>,
+}
+
+// Written out, so that it is proved here alone, and not in each crate that drops a table.
+impl Drop for Table<'_> {
+    fn drop(self) {
+        let Table {
+            alloc: _,
+            names: _,
+            declared: _,
+        } = self;
+    }
 }
 
 impl<'a> Model for Table<'a> {

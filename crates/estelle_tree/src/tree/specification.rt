@@ -4,13 +4,25 @@ use crate::{Items, Span};
 /// A specification (ISO/IEC 9074).
 ///
 /// `Spec = specification NAME [SysAttr] ";" {Head} Parts end "."`
-#[derive(Drop)]
 pub struct Spec {
     pub name: Name,
     pub attr: Option<SysAttr>,
     pub heads: Items<Head>,
     pub parts: Parts,
     pub span: Span,
+}
+
+// Written out, so that it is proved here alone, and not in each crate that drops a specification.
+impl Drop for Spec {
+    fn drop(self) {
+        let Spec {
+            name: _,
+            attr: _,
+            heads: _,
+            parts: _,
+            span: _,
+        } = self;
+    }
 }
 
 /// The attribute of a system module (ISO/IEC 9074).
