@@ -15,7 +15,7 @@ pub(crate) type Step = (&'static [u64], u32, Option<(&'static [u8], i64)>);
 /// How many units each job has.
 const BUDGET: u32 = 1000;
 
-pub(crate) fn write_path(out: &mut String, path: &Path) -> Result<(), AllocError> {
+fn write_path(out: &mut String, path: &Path) -> Result<(), AllocError> {
     if path.items().is_empty() {
         write!(out, "/")?;
     }
@@ -207,7 +207,7 @@ fn write_accepted(
     write_all(alloc, &program, steps, out)
 }
 
-fn accepted(alloc: Global, text: &str) -> Option<Checked> {
+pub(crate) fn accepted(alloc: Global, text: &str) -> Option<Checked> {
     accept(alloc, tree(alloc, text.as_bytes())?).ok()
 }
 

@@ -1,15 +1,15 @@
 //! What an evaluator of bodies is made of: whether a value fits a type, and variables that are put and loaded.
 
+use crate::modules::accepted;
 use body_walker_program::Program;
 use body_walker_state::{View, Walk};
 use body_walker_values::{Stop, fits};
 use estelle_model::{Denoter, Host, Image, Part, Place};
 use estelle_tree::{Items, Path, SequenceMut};
 use pascal_values::{Fault, Value, Values};
-use spec_accept::{Checked, accept};
+use spec_accept::Checked;
 use std::alloc::{AllocError, Global};
 use std::test::Fail;
-use test_texts::tree;
 
 #[test]
 fn a_char_type(rt: HostRuntime) -> Result<(), Fail> {
@@ -89,10 +89,6 @@ fn is_put_by(alloc: Global, checked: &Checked) -> bool {
         Ok(program) => is_put_of(alloc, &program),
         Err(_) => false,
     }
-}
-
-fn accepted(alloc: Global, text: &str) -> Option<Checked> {
-    accept(alloc, tree(alloc, text.as_bytes())?).ok()
 }
 
 fn is_put(alloc: Global, text: &str) -> bool {

@@ -4,7 +4,7 @@ use Rattle.std.specs.List.{IsDistinct}
 use Rattle.std.proofs.lemmas.Map.Keys.{IsDistinct-cons}
 use Rattle.estelle_tree.specs.Timers.{pair_cmp}
 use Rattle.delay_timers.specs.Moments.{AreDifferent}
-use Rattle.body_tests.proofs.selections.running.Goals as goal
+use Rattle.situation_tests.proofs.selections.running.Goals as goal
 
 no_two : AreDifferent []
 unfolding IsDistinct

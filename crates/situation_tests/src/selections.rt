@@ -4,7 +4,6 @@ ghost use Rattle.std.specs.Prelude.{◌≡◌, ◌+◌, ◌∷◌, [], ℕ, ◌-
 ghost use Rattle.module_tree.specs.Trees.{births_at};
 
 use crate::firings::{LastChooser, accepted};
-use crate::modules::write_path;
 use body_walker::Program;
 use delay_timers::Timers;
 use effect_log::Shared;
@@ -229,7 +228,9 @@ fn running(alloc: Global) -> Result<Timers, AllocError> {
 
 fn write_pair(out: &mut String, path: &Path, trans: u32) -> Result<(), AllocError> {
     write!(out, " ")?;
-    write_path(out, path)?;
+    for number in path.items() {
+        write!(out, "/{number}")?;
+    }
     write!(out, ":{trans}")
 }
 

@@ -1,7 +1,7 @@
 use Rattle.std.proofs.Common.{sym, subst}
 use Rattle.estelle_tree.specs.declared.tree.specification.Spec.{Spec}
 use Rattle.estelle_tree.specs.Spells.{Spells}
-use Rattle.body_tests.proofs.firings.accepted_of.Goals as goal
+use Rattle.situation_tests.proofs.firings.accepted_of.Goals as goal
 
 pub returns-in-Ok : goal.returns-in-Ok
 returns-in-Ok c =
