@@ -7,6 +7,8 @@
 #[cfg(test)]
 mod jobs;
 #[cfg(test)]
+mod lists;
+#[cfg(test)]
 mod modules;
 #[cfg(test)]
 mod transitions;

@@ -44,7 +44,7 @@ fn unset_image(alloc: Global) -> Result<Image, AllocError> {
 }
 
 fn holds(alloc: Global, walk: &Walk, place: &Place, wanted: i64) -> bool {
-    matches!(walk.load(alloc, place), Ok(Value::Int(n)) if n == wanted)
+    matches!(&walk.load(alloc, place), Ok(Value::Int(n)) if *n == wanted)
 }
 
 /// Whether the variable is unset, then takes a number, and refuses a value of another type.

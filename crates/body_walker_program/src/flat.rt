@@ -15,10 +15,18 @@ use meaning_table::Table;
 use std::alloc::AllocError;
 
 /// The flat transitions of a body, and the block of each.
-#[derive(Drop)]
 pub struct BodyTransitions<'a> {
     pub transitions: Transitions<'a>,
     pub blocks: Items<Routine<'a>>,
+}
+
+impl Drop for BodyTransitions<'_> {
+    fn drop(self) {
+        let BodyTransitions {
+            transitions: _,
+            blocks: _,
+        } = self;
+    }
 }
 
 impl<'a> BodyTransitions<'a> {

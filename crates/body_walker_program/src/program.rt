@@ -28,7 +28,6 @@ pub struct Program<'a> {
     transitions: Items<BodyTransitions<'a>>,
 }
 
-// Written out, so that it is proved here alone, and not in each crate that drops a program.
 impl Drop for Program<'_> {
     fn drop(self) {
         let Program {

@@ -12,14 +12,18 @@ use estelle_tree::{Items, Names, Spec};
 use std::marker::Model;
 
 /// The initialization of a body: the state after it, and its block.
-#[derive(Drop)]
 pub struct Initialization<'t> {
     pub to: Option<u32>,
     pub block: Routine<'t>,
 }
 
+impl Drop for Initialization<'_> {
+    fn drop(self) {
+        let Initialization { to: _, block: _ } = self;
+    }
+}
+
 /// A body of a module (ISO/IEC 9074), without the bodies in it.
-#[derive(Drop)]
 pub struct ModuleBody<'t> {
     /// The place where its header is declared.
     pub header: u32,
@@ -41,12 +45,38 @@ pub struct ModuleBody<'t> {
     pub initialization: Option<Initialization<'t>>,
 }
 
+impl Drop for ModuleBody<'_> {
+    fn drop(self) {
+        let ModuleBody {
+            header: _,
+            attribute: _,
+            has_transitions: _,
+            parameters: _,
+            variables: _,
+            module_variables: _,
+            module_headers: _,
+            ips: _,
+            external: _,
+            initialization: _,
+        } = self;
+    }
+}
+
 /// The bodies of a specification in the order of their numbers, seen as the specification with what its names mean.
-#[derive(Drop)]
 pub struct ModuleBodies<'t> {
     spec: &'t Spec,
     names: &'t Names,
     bodies: Items<ModuleBody<'t>>,
+}
+
+impl Drop for ModuleBodies<'_> {
+    fn drop(self) {
+        let ModuleBodies {
+            spec: _,
+            names: _,
+            bodies: _,
+        } = self;
+    }
 }
 
 impl<'t> Model for ModuleBodies<'t> {

@@ -29,8 +29,8 @@ use crate::log::{Log, LogEntry};
 use crate::parts::child_of;
 use crate::view::View;
 use body_walker_values::{
-    Stop, below, below_frame, fits, loaded, may_store, part_in, pop_frame, push_frame,
-    put_in_frame, result_number, value_in, with_locals,
+    Stop, below, below_frame, fits, loaded, may_store, pop_frame, push_frame, put_in_frame,
+    result_number, value_in, with_locals,
 };
 use estelle_model::{Denoter, Effect, Image, Part, Place, Routine, host_of};
 use estelle_tree::{Items, Link, Path, Sequence};
@@ -263,7 +263,7 @@ impl<'a> Walk<'a> {
     {
         let number = result_number(routine);
         let frame = pop_frame(&mut self.frames);
-        Ok(part_in(frame, number))
+        Ok(frame.into_part(number))
     }
 
     /// Enters a frame with values alone, in place of all others.

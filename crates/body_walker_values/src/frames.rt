@@ -1,9 +1,8 @@
 //! The frames of blocks and routines (ISO 7185, 6.2.3).
 
-ghost use Rattle.std.specs.Prelude.{◌≡◌, ◌≤◌, [], ◌∷◌, ◌++◌, ◌-◌, map, take, length, slice_index_or, IfOk, OnOk, OnErr};
+ghost use Rattle.std.specs.Prelude.{◌≡◌, ◌≤◌, [], ◌∷◌, ◌++◌, ◌-◌, map, take, length, IfOk, OnOk, OnErr};
 ghost use Rattle.pascal_values.specs.declared.value.Value.TheVariants.{Unset, Fields};
 ghost use Rattle.pascal_values.specs.Shapes.{blank_of};
-ghost use Rattle.pascal_values.specs.Values.{parts_of};
 ghost use Rattle.estelle_model.specs.Types.{shape_of};
 ghost use Rattle.estelle_model.specs.Calls.{last_or};
 ghost use Rattle.estelle_model.specs.Meant.{value_types, result_types, result_number};
@@ -67,28 +66,6 @@ fn places(parameter: &Passing) -> usize
     match parameter {
         Passing::ByValue(_) => 1,
         Passing::ByPlace => 0,
-    }
-}
-
-/// The part of a frame with a number, unset where there is none.
-pub fn part_in(frame: Value, number: usize) -> Value
-    ensures { result ≡ slice_index_or (parts_of frame) number Unset }
-{
-    match frame {
-        Value::Array(parts) => exchanged(parts, number),
-        Value::Fields(parts) => exchanged(parts, number),
-        _ => Value::Unset,
-    }
-}
-
-fn exchanged(parts: Values, number: usize) -> Value
-    ensures { result ≡ slice_index_or parts number Unset }
-{
-    let mut parts = parts;
-    if number < parts.len() {
-        parts.exchange(number, Value::Unset)
-    } else {
-        Value::Unset
     }
 }
 

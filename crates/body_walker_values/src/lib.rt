@@ -31,7 +31,7 @@ pub use belonging::{are_values_of, may_store};
 pub use comparing::related;
 pub use copies::{copy_address, copy_links, copy_part_at, copy_values, into_vec};
 pub use fitting::fits;
-pub use frames::{add_blanks, part_in, pop_frame, push_frame, result_number, with_locals};
+pub use frames::{add_blanks, pop_frame, push_frame, result_number, with_locals};
 pub use members::{members_from, one_member};
 pub use ordinals::{bool_of, int_of, ordinal_of, set_value, value_in};
 pub use places::{copy_place, deeper};

@@ -47,7 +47,7 @@ pub fn ordinal_of(value: &Value) -> Result<i64, Stop>
 pub fn set_value(value: Value) -> Result<Value, Stop>
     ensures { Gives (set_value (Some value)) result }
 {
-    if matches!(value, Value::Unset) {
+    if matches!(&value, Value::Unset) {
         return Err(Stop::Fault(Fault::Unset));
     }
     Ok(value)

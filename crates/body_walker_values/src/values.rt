@@ -87,23 +87,6 @@ pub fn put_below(values: &mut Values, number: u32, way: &[u32], new: Value)
     }
 }
 
-/// The value with another one at a way below its part with a number.
-pub fn with_below(value: Value, number: u32, way: &[u32], new: Value) -> Value
-    ensures { result ≡ with_part value (number ∷ way.now) new }
-{
-    match value {
-        Value::Array(mut parts) => {
-            put_below(&mut parts, number, way, new);
-            Value::Array(parts)
-        }
-        Value::Fields(mut parts) => {
-            put_below(&mut parts, number, way, new);
-            Value::Fields(parts)
-        }
-        other => other,
-    }
-}
-
 /// Puts a value at a way below a part of one of the frames, if it leads to a part.
 pub fn put_in_frame(frames: &mut Vec<Value>, frame: u32, number: u32, way: &[u32], new: Value)
     ensures { frames.new.items ≡ changed_at frames.old.items frame (λ v. with_part v (number ∷ way.now) new) }
@@ -111,6 +94,6 @@ pub fn put_in_frame(frames: &mut Vec<Value>, frame: u32, number: u32, way: &[u32
     let place = frame as usize;
     if place < frames.len() {
         let old = mem::replace(&mut frames[place], Value::Unset);
-        frames[place] = with_below(old, number, way, new);
+        frames[place] = old.with_below(number, way, new);
     }
 }

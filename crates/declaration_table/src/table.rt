@@ -15,11 +15,20 @@ use type_rules::{
 };
 
 /// For each place of a name in use the name in its declaration, and for each place of a declaration what it says.
-#[derive(Drop)]
 pub struct Table {
     pub alloc: Global,
     uses: IndexMap<u32, Span>,
     places: IndexMap<u32, Entity>,
+}
+
+impl Drop for Table {
+    fn drop(self) {
+        let Table {
+            alloc: _,
+            uses: _,
+            places: _,
+        } = self;
+    }
 }
 
 impl Model for Table {

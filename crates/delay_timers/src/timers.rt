@@ -19,10 +19,15 @@ use std::marker::Model;
 
 /// The timers of all instances, seen as a finite map from (path, transition) to when the timer started and
 /// the bounds of its delay. Moments are counts of the clock; a sum above 2^64 - 1 counts as that moment.
-#[derive(Drop)]
 pub struct Timers {
     rows: Rows,
     dues: BTreeSet<Due>,
+}
+
+impl Drop for Timers {
+    fn drop(self) {
+        let Timers { rows: _, dues: _ } = self;
+    }
 }
 
 impl Model for Timers {

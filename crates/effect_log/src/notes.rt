@@ -6,7 +6,6 @@ use std::alloc::Global;
 
 /// What is noted of firings: the outputs in order, the numbers of the interactions that were dropped, and the paths at
 /// which outputs arrived. The rest is working space, empty after each firing.
-#[derive(Drop)]
 pub struct Notes {
     pub outs: Vec<Out>,
     pub drops: Vec<u64>,
@@ -17,6 +16,20 @@ pub struct Notes {
     pub log: Vec<Effect>,
     /// The interaction points of a new instance, the first one last.
     pub points: Vec<IpAddr>,
+}
+
+impl Drop for Notes {
+    fn drop(self) {
+        let Notes {
+            outs: _,
+            drops: _,
+            arrivals: _,
+            rooms: _,
+            dropped: _,
+            log: _,
+            points: _,
+        } = self;
+    }
 }
 
 impl Notes {

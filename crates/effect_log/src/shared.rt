@@ -12,7 +12,6 @@ pub struct Shared {
     pub outputs: u64,
 }
 
-// Written out, so that it is proved here alone.
 impl Drop for Shared {
     fn drop(self) {
         let Shared {

@@ -2,7 +2,10 @@
 //! its value, so that trees and values made of them are plain data.
 #![tactic(auto)]
 
+mod boxed;
+mod items;
 mod sequence;
 
+pub use boxed::Boxed;
+pub use items::Items;
 pub use sequence::{Sequence, SequenceMut};
-pub use sqlite_items::{Boxed, Items};

@@ -1,7 +1,7 @@
 ghost use Rattle.std.specs.Prelude.{◌≡◌, ◌<◌, List, [], length, slice_set};
 ghost use Rattle.std.specs.declared.alloc.Global.{Global};
 
-use sqlite_items::Items;
+use crate::items::Items;
 use std::alloc::Global;
 
 /// A list that is read.

@@ -14,7 +14,6 @@ pub enum Host {
 }
 
 /// A type denoter, with its bounds as ordinals (ISO 7185, 6.4).
-#[derive(Drop)]
 pub enum Denoter {
     Ordinal {
         host: Host,
@@ -35,6 +34,29 @@ pub enum Denoter {
     },
     /// A record, by the types of its fields in the order of their declaration.
     Fields(Items<Denoter>),
+}
+
+impl Drop for Denoter {
+    fn drop(self) {
+        match self {
+            Denoter::Ordinal {
+                host: _,
+                low: _,
+                high: _,
+            } => {}
+            Denoter::Set {
+                host: _,
+                low: _,
+                high: _,
+            } => {}
+            Denoter::Array {
+                low: _,
+                high: _,
+                item: _,
+            } => {}
+            Denoter::Fields(_) => {}
+        }
+    }
 }
 
 /// The host type of an ordinal type, or of a set's base. Another type counts as integer.

@@ -3,13 +3,25 @@ use estelle_tree::{IpAddr, Items, Path, Word};
 use pascal_values::Values;
 
 /// An output at an interaction point. A lost one had no connection to go over.
-#[derive(Debug, Drop)]
+#[derive(Debug)]
 pub struct Out {
     pub path: Path,
     pub ip: Word,
     pub name: Word,
     pub values: Values,
     pub lost: bool,
+}
+
+impl Drop for Out {
+    fn drop(self) {
+        let Out {
+            path: _,
+            ip: _,
+            name: _,
+            values: _,
+            lost: _,
+        } = self;
+    }
 }
 
 /// What a block did to the situation beside its own records.

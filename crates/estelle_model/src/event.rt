@@ -42,7 +42,13 @@ pub enum End {
 }
 
 /// The events of a run.
-#[derive(Debug, Drop)]
+#[derive(Debug)]
 pub struct Run {
     pub events: Items<Event>,
+}
+
+impl Drop for Run {
+    fn drop(self) {
+        let Run { events: _ } = self;
+    }
 }

@@ -2,7 +2,7 @@ use estelle_tree::{Items, Link, Path, Word};
 use pascal_values::Values;
 
 /// An instance of a module (ISO/IEC 9074).
-#[derive(Debug, Drop)]
+#[derive(Debug)]
 pub struct Part {
     pub path: Path,
     /// Its body's number; the specification has the number 0.
@@ -14,6 +14,19 @@ pub struct Part {
     pub modvars: Items<Option<Path>>,
     /// How many children it has had.
     pub births: u64,
+}
+
+impl Drop for Part {
+    fn drop(self) {
+        let Part {
+            path: _,
+            body: _,
+            state: _,
+            vars: _,
+            modvars: _,
+            births: _,
+        } = self;
+    }
 }
 
 /// An instance and all below it in path order, with the links that they made.

@@ -4,14 +4,21 @@ use estelle_tree::{Items, Required};
 use pascal_values::Value;
 
 /// How a parameter is passed (ISO 7185, 6.6.3).
-#[derive(Drop)]
 pub enum Passing {
     ByValue(Type),
     ByPlace,
 }
 
+impl Drop for Passing {
+    fn drop(self) {
+        match self {
+            Passing::ByValue(_) => {}
+            Passing::ByPlace => {}
+        }
+    }
+}
+
 /// A procedure or a function, or a block that is entered as one (ISO 7185, 6.6).
-#[derive(Drop)]
 pub struct Routine<'a> {
     pub parameters: Items<Passing>,
     /// The types of its own variables.
@@ -19,6 +26,17 @@ pub struct Routine<'a> {
     /// The type of a function's result.
     pub result: Option<Type>,
     pub body: Statements<'a>,
+}
+
+impl Drop for Routine<'_> {
+    fn drop(self) {
+        let Routine {
+            parameters: _,
+            locals: _,
+            result: _,
+            body: _,
+        } = self;
+    }
 }
 
 /// The attribute of a module (ISO/IEC 9074).
@@ -57,7 +75,6 @@ pub struct Senders {
 }
 
 /// An interaction as its channel declares it (ISO/IEC 9074).
-#[derive(Drop)]
 pub struct InteractionKind {
     pub channel: u32,
     pub senders: Senders,
@@ -65,8 +82,17 @@ pub struct InteractionKind {
     pub parameters: Items<Type>,
 }
 
+impl Drop for InteractionKind {
+    fn drop(self) {
+        let InteractionKind {
+            channel: _,
+            senders: _,
+            parameters: _,
+        } = self;
+    }
+}
+
 /// A module header (ISO/IEC 9074).
-#[derive(Drop)]
 pub struct Heading {
     /// The place where its name is declared.
     pub at: u32,
@@ -74,6 +100,18 @@ pub struct Heading {
     pub parameters: Items<Type>,
     pub exports: Items<Type>,
     pub ips: Items<InteractionPoint>,
+}
+
+impl Drop for Heading {
+    fn drop(self) {
+        let Heading {
+            at: _,
+            attribute: _,
+            parameters: _,
+            exports: _,
+            ips: _,
+        } = self;
+    }
 }
 
 /// What a name can mean.
@@ -113,7 +151,6 @@ pub enum Meaning<'a> {
     Other,
 }
 
-// Written out, so that it is proved here alone, and not in each crate that drops a meaning.
 impl Drop for Meaning<'_> {
     fn drop(self) {
         match self {

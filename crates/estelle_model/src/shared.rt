@@ -9,9 +9,14 @@ use std::marker::Model;
 use std::rc::Rc;
 
 /// A type denoter that is shared by all that have it.
-#[derive(Drop)]
 pub struct Type {
     denoter: Rc<Denoter>,
+}
+
+impl Drop for Type {
+    fn drop(self) {
+        let Type { denoter: _ } = self;
+    }
 }
 
 impl Model for Type {

@@ -5,9 +5,15 @@ use std::alloc::{AllocError, Global};
 use std::marker::Model;
 
 /// The birth numbers on the way from the root to an instance.
-#[derive(Debug, Drop)]
+#[derive(Debug)]
 pub struct Path {
     numbers: Vec<u64>,
+}
+
+impl Drop for Path {
+    fn drop(self) {
+        let Path { numbers: _ } = self;
+    }
 }
 
 impl Model for Path {
@@ -64,7 +70,8 @@ impl Path {
     pub fn into_numbers(self) -> Vec<u64>
         ensures { result.items ≡ self }
     {
-        self.numbers
+        let Path { numbers } = self;
+        numbers
     }
 
     /// Whether the other instance is this one or below it. It takes no memory.
@@ -83,9 +90,15 @@ impl Path {
 }
 
 /// Memory for one path of at most so many birth numbers, seen as their number.
-#[derive(Debug, Drop)]
+#[derive(Debug)]
 pub struct PathRoom {
     numbers: Vec<u64>,
+}
+
+impl Drop for PathRoom {
+    fn drop(self) {
+        let PathRoom { numbers: _ } = self;
+    }
 }
 
 impl Model for PathRoom {

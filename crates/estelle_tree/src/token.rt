@@ -45,7 +45,7 @@ pub enum Symbol {
 
 /// A token: an identifier or a reserved word, an unsigned number, a character string of length one,
 /// or a special symbol (ISO 7185, 6.1).
-#[derive(Debug, Drop)]
+#[derive(Debug)]
 pub enum Token {
     Word(Word),
     Number(i64),
@@ -53,9 +53,26 @@ pub enum Token {
     Symbol(Symbol),
 }
 
+impl Drop for Token {
+    fn drop(self) {
+        match self {
+            Token::Word(_) => {}
+            Token::Number(_) => {}
+            Token::Char(_) => {}
+            Token::Symbol(_) => {}
+        }
+    }
+}
+
 /// A token and its bytes' place in the input.
-#[derive(Debug, Drop)]
+#[derive(Debug)]
 pub struct Placed {
     pub token: Token,
     pub span: Span,
+}
+
+impl Drop for Placed {
+    fn drop(self) {
+        let Placed { token: _, span: _ } = self;
+    }
 }

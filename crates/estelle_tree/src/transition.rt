@@ -9,10 +9,21 @@ pub struct Pair {
 
 /// An enabled transition that has a delay, with the bounds of the delay. There is no greatest moment where
 /// `high` is none (ISO/IEC 9074: `delay` clauses).
-#[derive(Debug, Drop)]
+#[derive(Debug)]
 pub struct Wanted {
     pub path: Path,
     pub trans: u32,
     pub low: u32,
     pub high: Option<u32>,
+}
+
+impl Drop for Wanted {
+    fn drop(self) {
+        let Wanted {
+            path: _,
+            trans: _,
+            low: _,
+            high: _,
+        } = self;
+    }
 }

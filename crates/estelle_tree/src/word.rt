@@ -5,9 +5,15 @@ use std::alloc::{AllocError, Global};
 use std::marker::Model;
 
 /// An identifier or a reserved word in lower case, seen as its bytes.
-#[derive(Debug, Drop)]
+#[derive(Debug)]
 pub struct Word {
     bytes: Vec<u8>,
+}
+
+impl Drop for Word {
+    fn drop(self) {
+        let Word { bytes: _ } = self;
+    }
 }
 
 impl Model for Word {

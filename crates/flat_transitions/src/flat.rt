@@ -14,7 +14,6 @@ pub struct Flat {
     pub bodies: Items<Items<FlatTrans>>,
 }
 
-// Written out, so that it is proved here alone.
 impl Drop for Flat {
     fn drop(self) {
         let Flat { bodies: _ } = self;

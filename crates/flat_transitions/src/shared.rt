@@ -8,9 +8,14 @@ use std::marker::Model;
 use std::rc::Rc;
 
 /// Items that are shared by all that have them.
-#[derive(Drop)]
 pub struct Shared<T> {
     items: Rc<Items<T>>,
+}
+
+impl<T: Drop> Drop for Shared<T> {
+    fn drop(self) {
+        let Shared { items: _ } = self;
+    }
 }
 
 impl<T> Model for Shared<T> {

@@ -12,10 +12,15 @@ use std::marker::Model;
 use std::rc::Rc;
 
 /// The numbers of states in order, and as a set.
-#[derive(Drop)]
 pub struct Numbers {
     listed: Items<u32>,
     set: IndexSet<u32>,
+}
+
+impl Drop for Numbers {
+    fn drop(self) {
+        let Numbers { listed: _, set: _ } = self;
+    }
 }
 
 impl Model for Numbers {
@@ -64,9 +69,14 @@ impl Numbers {
 }
 
 /// States by their numbers. All that have them share one list and one set.
-#[derive(Drop)]
 pub struct StateSet {
     numbers: Rc<Numbers>,
+}
+
+impl Drop for StateSet {
+    fn drop(self) {
+        let StateSet { numbers: _ } = self;
+    }
 }
 
 impl Model for StateSet {
@@ -143,9 +153,14 @@ fn joined(alloc: Global, sets: &[StateSet]) -> Result<Items<u32>, AllocError>
 }
 
 /// The states of a `from` clause: each state set that it names, and those between them.
-#[derive(Drop)]
 pub struct States {
     sets: Shared<StateSet>,
+}
+
+impl Drop for States {
+    fn drop(self) {
+        let States { sets: _ } = self;
+    }
 }
 
 impl Model for States {

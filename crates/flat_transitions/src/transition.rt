@@ -129,7 +129,6 @@ pub struct Transitions<'a> {
     items: Items<Transition<'a>>,
 }
 
-// Written out, so that it is proved here alone.
 impl Drop for Transitions<'_> {
     fn drop(self) {
         let Transitions { items: _ } = self;

@@ -25,13 +25,23 @@ pub struct LinkAbsent;
 /// Connections and attachments in the order in which they were made, and for how many more there is memory.
 ///
 /// A look-up takes constant time for a path of a given length, and a way the time of a look-up and of its steps.
-#[derive(Drop)]
 pub struct Links {
     points: Points,
     /// In order, with gaps where links were removed.
     pairs: Vec<Option<Pairing>>,
     count: usize,
     spare: usize,
+}
+
+impl Drop for Links {
+    fn drop(self) {
+        let Links {
+            points: _,
+            pairs: _,
+            count: _,
+            spare: _,
+        } = self;
+    }
 }
 
 impl Model for Links {

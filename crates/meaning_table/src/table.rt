@@ -19,7 +19,6 @@ pub struct Table<'a> {
     declared: Layers<'a, Meaning<'a>>,
 }
 
-// Written out, so that it is proved here alone, and not in each crate that drops a table.
 impl Drop for Table<'_> {
     fn drop(self) {
         let Table {

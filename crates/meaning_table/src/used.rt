@@ -14,12 +14,21 @@ use std::alloc::{AllocError, Global};
 use std::marker::Model;
 
 /// For each name in use, the name in its declaration; and what the required identifiers mean.
-#[derive(Drop)]
 pub struct UsedNames<'a> {
     /// By the place of a name in use.
     names: Places<Use>,
     required: Words<'a>,
     other: Meaning<'a>,
+}
+
+impl Drop for UsedNames<'_> {
+    fn drop(self) {
+        let UsedNames {
+            names: _,
+            required: _,
+            other: _,
+        } = self;
+    }
 }
 
 impl<'a> Model for UsedNames<'a> {
@@ -90,10 +99,18 @@ impl<'a> UsedNames<'a> {
 }
 
 /// A table's own, or those of a table that it lies over.
-#[derive(Drop)]
 pub enum HeldNames<'a> {
     Own(UsedNames<'a>),
     Lent(&'a UsedNames<'a>),
+}
+
+impl Drop for HeldNames<'_> {
+    fn drop(self) {
+        match self {
+            HeldNames::Own(_) => {}
+            HeldNames::Lent(_) => {}
+        }
+    }
 }
 
 impl<'a> HeldNames<'a> {

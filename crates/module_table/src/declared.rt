@@ -20,7 +20,6 @@ pub struct InteractionPoint {
 }
 
 /// An interaction of a channel (ISO/IEC 9074), with the channel's two roles.
-#[derive(Drop)]
 pub struct Interaction {
     pub first: Sender,
     pub second: Sender,
@@ -28,11 +27,30 @@ pub struct Interaction {
     pub parameters: Items<Word>,
 }
 
+impl Drop for Interaction {
+    fn drop(self) {
+        let Interaction {
+            first: _,
+            second: _,
+            parameters: _,
+        } = self;
+    }
+}
+
 /// What is declared where a name stands.
-#[derive(Drop)]
 pub enum Declared {
     /// A module header, with its attribute.
     Header(Option<Attr>),
     Ip(InteractionPoint),
     Interaction(Interaction),
+}
+
+impl Drop for Declared {
+    fn drop(self) {
+        match self {
+            Declared::Header(_) => {}
+            Declared::Ip(_) => {}
+            Declared::Interaction(_) => {}
+        }
+    }
 }

@@ -15,10 +15,18 @@ use std::marker::Model;
 use tree_visits::{Node, Visitor, Within, walk};
 
 /// For each name in use the name in its declaration, and what is declared at each place.
-#[derive(Drop)]
 pub struct ModuleTable {
     names: Table,
     places: Places<Declared>,
+}
+
+impl Drop for ModuleTable {
+    fn drop(self) {
+        let ModuleTable {
+            names: _,
+            places: _,
+        } = self;
+    }
 }
 
 impl Model for ModuleTable {

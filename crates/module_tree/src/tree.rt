@@ -28,7 +28,6 @@ pub enum TreeError {
 pub struct Missing;
 
 /// Module instances by their paths, the root among them (ISO/IEC 9074: module instances, `init`, `release`).
-#[derive(Drop)]
 pub struct Tree<R> {
     nodes: Nodes<R>,
 
@@ -37,6 +36,16 @@ pub struct Tree<R> {
 
     // Memory for a path of that length, and for one longer for each instance that may still be placed.
     way: Vec<u64>,
+}
+
+impl<R: Drop> Drop for Tree<R> {
+    fn drop(self) {
+        let Tree {
+            nodes: _,
+            depth: _,
+            way: _,
+        } = self;
+    }
 }
 
 impl<R> Model for Tree<R> {

@@ -1,4 +1,3 @@
-pub mod formers
 pub mod Integers
 pub mod Sets
 pub mod Values

@@ -16,7 +16,6 @@ mod members;
 #[tactic(auto, using(crate::proofs::PlaceLemmas::stands_here))]
 mod nesting;
 mod ordinals;
-mod parts;
 mod reading;
 mod sets;
 mod value;
@@ -35,7 +34,6 @@ pub use fitting::{fits, position};
 pub use laws::{chosen_members, one_reading, read_again, remainder_law, told_by_members};
 pub use members::Members;
 pub use nesting::read_value;
-pub use parts::Parts;
 pub use sets::{has, meet, minus, span, unite};
 pub use value::{Relation, Shape, Value, Values};
 pub use way::{find, part, replace};

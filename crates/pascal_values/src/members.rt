@@ -5,9 +5,15 @@ use std::alloc::{AllocError, Global};
 use std::marker::Model;
 
 /// A set's members, seen as the rising list of their ordinals, each at most 255.
-#[derive(Debug, Drop)]
+#[derive(Debug)]
 pub struct Members {
     ordinals: Vec<u32>,
+}
+
+impl Drop for Members {
+    fn drop(self) {
+        let Members { ordinals: _ } = self;
+    }
 }
 
 impl Model for Members {

@@ -1,9 +1,13 @@
+ghost use Rattle.std.specs.Prelude.{◌≡◌, ◌∷◌, slice_index_or};
+ghost use Rattle.pascal_values.specs.declared.value.Value.TheVariants.{Unset};
+ghost use Rattle.pascal_values.specs.Values.{parts_of, with_part};
+
 use crate::members::Members;
-use crate::parts::Parts;
+use crate::way::{exchanged, replace_in};
 use estelle_lists::{Boxed, Items};
 
 /// A value of Pascal, in which parts may be unset.
-#[derive(Debug, Drop)]
+#[derive(Debug)]
 pub enum Value {
     Unset,
     Int(i64),
@@ -19,8 +23,65 @@ pub enum Value {
     Fields(Values),
 }
 
+impl Drop for Value {
+    fn drop(self) {
+        match self {
+            Value::Unset => {}
+            Value::Int(_) => {}
+            Value::Bool(_) => {}
+            Value::Char(_) => {}
+            Value::Enum(_) => {}
+            Value::Set(_) => {}
+            Value::Array(_) => {}
+            Value::Fields(_) => {}
+        }
+    }
+}
+
+impl Value {
+    /// The value with another part at the way, or as it is where the way leads nowhere.
+    #[cycle(replaced)]
+    pub(crate) fn with_part(self, way: &[u32], new: Value) -> Value
+        ensures { result ≡ with_part self way.now new }
+    {
+        match way {
+            [] => new,
+            [number, rest @ ..] => self.with_below(*number, rest, new),
+        }
+    }
+
+    /// The value with another part at a way below its part with a number, or as it is where the way leads nowhere.
+    #[cycle(replaced)]
+    pub fn with_below(self, number: u32, way: &[u32], new: Value) -> Value
+        ensures { result ≡ with_part self (number ∷ way.now) new }
+    {
+        match self {
+            Value::Array(mut parts) => {
+                replace_in(&mut parts, number as usize, way, new);
+                Value::Array(parts)
+            }
+            Value::Fields(mut parts) => {
+                replace_in(&mut parts, number as usize, way, new);
+                Value::Fields(parts)
+            }
+            other => other,
+        }
+    }
+
+    /// The part with a number, unset where there is none.
+    pub fn into_part(self, number: usize) -> Value
+        ensures { result ≡ slice_index_or (parts_of self) number Unset }
+    {
+        match self {
+            Value::Array(parts) => exchanged(parts, number),
+            Value::Fields(parts) => exchanged(parts, number),
+            _ => Value::Unset,
+        }
+    }
+}
+
 /// Values in order.
-pub type Values = Parts<Value>;
+pub type Values = Items<Value>;
 
 /// A type as far as its values go: the bounds are ordinals, and belong to it.
 #[derive(Debug, Drop)]

@@ -1,8 +1,9 @@
 //! The part of a value at a way. No call takes memory.
 
-ghost use Rattle.std.specs.Prelude.{◌≡◌, IsSome, Some, slice_get};
+ghost use Rattle.std.specs.Prelude.{◌≡◌, ◌∷◌, IsSome, Some, slice_get, slice_index_or};
 ghost use Rattle.std.specs.Option.{option_copied};
-ghost use Rattle.pascal_values.specs.Values.{part_of, with_part, changed_at};
+ghost use Rattle.pascal_values.specs.declared.value.Value.TheVariants.{Unset};
+ghost use Rattle.pascal_values.specs.Values.{part_of, parts_of, with_part, changed_at};
 
 use crate::value::{Value, Values};
 use estelle_lists::{Sequence, SequenceMut};
@@ -44,36 +45,25 @@ pub fn replace(value: &mut Value, way: &[u32], new: Value)
     ensures { value.new ≡ with_part value.old way.now new }
 {
     let old = mem::replace(value, Value::Unset);
-    *value = replaced(old, way, new);
+    *value = old.with_part(way, new);
 }
 
-/// The value with another part at the way, or as it is where the way leads nowhere.
-#[cycle(replaced)]
-fn replaced(value: Value, way: &[u32], new: Value) -> Value
-    ensures { result ≡ with_part value way.now new }
+pub(crate) fn exchanged(mut parts: Values, number: usize) -> Value
+    ensures { result ≡ slice_index_or parts number Unset }
 {
-    match way {
-        [] => new,
-        [first, rest @ ..] => match value {
-            Value::Array(mut parts) => {
-                replace_in(&mut parts, *first as usize, rest, new);
-                Value::Array(parts)
-            }
-            Value::Fields(mut parts) => {
-                replace_in(&mut parts, *first as usize, rest, new);
-                Value::Fields(parts)
-            }
-            other => other,
-        },
+    if number < parts.len() {
+        parts.exchange(number, Value::Unset)
+    } else {
+        Value::Unset
     }
 }
 
 #[cycle(replaced)]
-fn replace_in(parts: &mut Values, place: usize, way: &[u32], new: Value)
+pub(crate) fn replace_in(parts: &mut Values, place: usize, way: &[u32], new: Value)
     ensures { parts.new ≡ changed_at parts.old place (λ p. with_part p way.now new) }
 {
     if place < parts.len() {
         let old = parts.exchange(place, Value::Unset);
-        parts.put_at(place, replaced(old, way, new));
+        parts.put_at(place, old.with_part(way, new));
     }
 }

@@ -10,11 +10,19 @@ use std::alloc::{AllocError, Global};
 use std::marker::Model;
 
 /// What is declared at places, seen as a list in order. A place may have several.
-#[derive(Drop)]
 pub struct Places<V> {
     declared: Items<(u32, V)>,
     /// For each place the number of the latest.
     numbers: IndexMap<u32, usize>,
+}
+
+impl<V: Drop> Drop for Places<V> {
+    fn drop(self) {
+        let Places {
+            declared: _,
+            numbers: _,
+        } = self;
+    }
 }
 
 impl<V> Model for Places<V> {

@@ -1,11 +1,10 @@
 //! Calls on devices that fail, and on devices that move few bytes at a time.
 
 use crate::calls::{ALL_STEADY, Answer, Device, Devices, call, run};
-use crate::traces::{COUNTER_TRACE, OVERFLOW_TRACE, OVERFLOWING};
 use estelle_cli::Status;
 use std::alloc::{AllocError, Global};
 use std::test::Fail;
-use test_texts::COUNTER;
+use test_texts::{COUNTER, COUNTER_TRACE, OVERFLOW_TRACE, OVERFLOWING};
 
 /// A device's piece and its failing call.
 type Moves = (usize, u64);

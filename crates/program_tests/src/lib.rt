@@ -1,8 +1,8 @@
 //! Tests alone, of the top call `estelle_plain`: all that whole calls write and answer, on worked specifications, on spoiled
-//! ones and on devices that fail; and of traces that are read again.
+//! ones and on devices that fail.
 //!
-//! It stands on `estelle_cli`, `trace_text`, `outside` and the worked texts. The wanted texts are written by hand, or told by a
-//! loop of the test's own.
+//! It stands on `estelle_cli`, `outside` and the worked texts. The wanted texts are written by hand, or told by a loop of the
+//! test's own.
 #![tactic(auto)]
 
 #[cfg(test)]
@@ -25,8 +25,6 @@ mod rows;
 mod systems;
 #[cfg(test)]
 mod time;
-#[cfg(test)]
-mod trace_reading;
 #[cfg(test)]
 mod traces;
 #[cfg(test)]

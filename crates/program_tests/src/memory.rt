@@ -1,9 +1,8 @@
 //! For runs in which one request for memory is refused, which are tried outside the gate.
 
 use crate::calls::{ALL_STEADY, Answer, run};
-use crate::traces::COUNTER_TRACE;
 use estelle_cli::Status;
-use test_texts::COUNTER;
+use test_texts::{COUNTER, COUNTER_TRACE};
 
 // With ample memory the counter runs to its end. Where a request is refused the devices can't be made,
 // or the answer says so and nothing is written to out, or it is as ever.

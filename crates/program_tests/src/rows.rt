@@ -3,14 +3,14 @@
 use crate::calls::{ALL_STEADY, Answer, Device, Devices, STEADY, call, run};
 use crate::pascal::answer_of;
 use crate::systems::text_of;
-use crate::traces::{
-    COUNTER_TRACE, DEADLOCK, OVERFLOW_TRACE, OVERFLOWING, TURNS, filled, is_trace,
-};
+use crate::traces::{filled, is_trace};
 use estelle_cli::{Status, Task, asked};
 use situation::Limits;
 use std::alloc::{AllocError, Global};
 use std::test::Fail;
-use test_texts::{COUNTER, counter_with};
+use test_texts::{
+    COUNTER, COUNTER_TRACE, DEADLOCK, OVERFLOW_TRACE, OVERFLOWING, TURNS, counter_with,
+};
 
 /// It reads its variable before there is a value.
 const UNSET: &str = "specification count systemprocess;

@@ -11,16 +11,29 @@ use estelle_tree::{IpAddr, Path};
 use std::hash::{Hash, Hasher};
 use std::marker::Model;
 
-#[derive(Drop)]
 enum Held<'a> {
     Kept(IpAddr),
     Asked(&'a Path, u32),
 }
 
+impl Drop for Held<'_> {
+    fn drop(self) {
+        match self {
+            Held::Kept(_) => {}
+            Held::Asked(_, _) => {}
+        }
+    }
+}
+
 /// A key of a table keeps its interaction point; one that is asked for borrows its path.
-#[derive(Drop)]
 pub(crate) struct Key<'a> {
     held: Held<'a>,
+}
+
+impl Drop for Key<'_> {
+    fn drop(self) {
+        let Key { held: _ } = self;
+    }
 }
 
 impl<'a> Model for Key<'a> {

@@ -16,11 +16,19 @@ use std::marker::Model;
 /// The queues of a situation, seen as their list in the order in which they were declared: each with whether it is
 /// a common one (ISO/IEC 9074: `common queue`), its interaction points, and what waits there, first in first out.
 /// `spare` tells for how many more items, and `room` for how many more interaction points, there is memory.
-#[derive(Drop)]
 pub struct Queues<T> {
     table: Table<T>,
     /// Above the number of each declared interaction point.
     numbers: u64,
+}
+
+impl<T: Drop> Drop for Queues<T> {
+    fn drop(self) {
+        let Queues {
+            table: _,
+            numbers: _,
+        } = self;
+    }
 }
 
 impl<T> Model for Queues<T> {

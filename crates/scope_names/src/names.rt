@@ -13,9 +13,14 @@ use std::alloc::{AllocError, Global};
 use std::marker::Model;
 
 /// The names of a scope, each with its declaration, seen as that list.
-#[derive(Drop)]
 pub struct NameTable {
     names: IndexMap<Vec<u8>, Declared>,
+}
+
+impl Drop for NameTable {
+    fn drop(self) {
+        let NameTable { names: _ } = self;
+    }
 }
 
 impl Model for NameTable {

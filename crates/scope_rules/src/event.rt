@@ -26,7 +26,6 @@ pub enum Step {
 }
 
 /// One thing that a tree says of names.
-#[derive(Drop)]
 pub enum Event {
     /// A scope opens.
     Open(ScopeForm),
@@ -75,4 +74,42 @@ pub enum Event {
         initial: bool,
         transitions: bool,
     },
+}
+
+impl Drop for Event {
+    fn drop(self) {
+        match self {
+            Event::Open(_) => {}
+            Event::Close => {}
+            Event::Keep(_) => {}
+            Event::Import(_) => {}
+            Event::Receive {
+                ip: _,
+                interaction: _,
+                listed: _,
+            } => {}
+            Event::Array {
+                at: _,
+                components: _,
+            } => {}
+            Event::Declare {
+                names: _,
+                denotes: _,
+                inside: _,
+            } => {}
+            Event::Use {
+                name: _,
+                need: _,
+                steps: _,
+            } => {}
+            Event::By(_) => {}
+            Event::Init { modvar: _, body: _ } => {}
+            Event::States {
+                at: _,
+                declared: _,
+                initial: _,
+                transitions: _,
+            } => {}
+        }
+    }
 }

@@ -3,13 +3,23 @@
 use estelle_tree::Path;
 
 /// A system, as it stands between two events (ISO/IEC 9074: systemprocess, systemactivity).
-#[derive(Debug, Drop)]
+#[derive(Debug)]
 pub struct System {
     pub path: Path,
     /// Whether it awaits a selection.
     pub awaits: bool,
     /// How many of its selected firings are pending.
     pub pending: usize,
+}
+
+impl Drop for System {
+    fn drop(self) {
+        let System {
+            path: _,
+            awaits: _,
+            pending: _,
+        } = self;
+    }
 }
 
 /// What is kept of the clock.

@@ -10,7 +10,6 @@ use estelle_tree::{Names, Spec};
 use flat_transitions::Flat;
 
 /// A specification of which none of the rules is broken, with what its names mean.
-#[derive(Drop)]
 pub struct Checked {
     pub spec: Spec,
     pub names: Names,
@@ -19,4 +18,14 @@ pub struct Checked {
     pub ghost named: { names.uses ≡ names_of spec },
     pub ghost kept: { (b : Breach) → ¬ (RuleBroken spec b) },
     pub ghost listed: { flat ≡ flat_list (record { specification = spec; names = names.uses }) },
+}
+
+impl Drop for Checked {
+    fn drop(self) {
+        let Checked {
+            spec: _,
+            names: _,
+            flat: _,
+        } = self;
+    }
 }

@@ -23,12 +23,22 @@ pub struct Countable {
 }
 
 /// Of an instance all transitions that may be selected now.
-#[derive(Debug, Drop)]
+#[derive(Debug)]
 pub struct Counting {
     pub path: Path,
     /// Whether what its children select is taken together. Of others that of one child is taken.
     pub of_process: bool,
     pub transitions: Vec<Countable>,
+}
+
+impl Drop for Counting {
+    fn drop(self) {
+        let Counting {
+            path: _,
+            of_process: _,
+            transitions: _,
+        } = self;
+    }
 }
 
 /// Whether one priority is higher than another.

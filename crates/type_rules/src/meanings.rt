@@ -53,10 +53,18 @@ pub enum Meaning {
 }
 
 /// What is declared: what its name means, and the parameters of a routine, an interaction or a header.
-#[derive(Drop)]
 pub struct Entity {
     pub meaning: Meaning,
     pub parameters: Items<Parameter>,
+}
+
+impl Drop for Entity {
+    fn drop(self) {
+        let Entity {
+            meaning: _,
+            parameters: _,
+        } = self;
+    }
 }
 
 pub fn type_denoted(meaning: Meaning) -> Denoted

@@ -5,11 +5,17 @@ use crate::{Boxed, Items, Span};
 ///
 /// `Stmts = Stmt {";" Stmt}`
 #[cycle(statements)]
-#[derive(Drop)]
 pub struct Stmts {
     pub stmts: Items<Stmt>,
     /// 0..0 where the only statement is empty.
     pub span: Span,
+}
+
+impl Drop for Stmts {
+    #[cycle(drop_statements)]
+    fn drop(self) {
+        let Stmts { stmts: _, span: _ } = self;
+    }
 }
 
 /// A statement (ISO 7185, 6.8; from `Init` on, ISO/IEC 9074).
@@ -21,7 +27,6 @@ pub struct Stmts {
 ///       | init NAME with NAME ["(" Args ")"] | release NAME | connect Ip to Ip | disconnect Ip
 ///       | attach NAME to NAME "." NAME | detach NAME | output NAME "." NAME ["(" Args ")"]`
 #[cycle(statements)]
-#[derive(Drop)]
 pub enum Stmt {
     /// No token, and so the span 0..0 (ISO 7185, 6.8.2.1).
     Empty,
@@ -122,6 +127,82 @@ pub enum Stmt {
     },
 }
 
+impl Drop for Stmt {
+    #[cycle(drop_statements)]
+    fn drop(self) {
+        match self {
+            Stmt::Empty => {}
+            Stmt::Assign {
+                variable: _,
+                value: _,
+                span: _,
+            } => {}
+            Stmt::Call {
+                name: _,
+                args: _,
+                span: _,
+            } => {}
+            Stmt::Begin { stmts: _, span: _ } => {}
+            Stmt::If {
+                condition: _,
+                then_part: _,
+                else_part: _,
+                span: _,
+            } => {}
+            Stmt::While {
+                condition: _,
+                body: _,
+                span: _,
+            } => {}
+            Stmt::Repeat {
+                stmts: _,
+                condition: _,
+                span: _,
+            } => {}
+            Stmt::Count {
+                variable: _,
+                first: _,
+                direction: _,
+                last: _,
+                body: _,
+                span: _,
+            } => {}
+            Stmt::Case {
+                selector: _,
+                cases: _,
+                semicolon: _,
+                span: _,
+            } => {}
+            Stmt::Init {
+                modvar: _,
+                body: _,
+                args: _,
+                span: _,
+            } => {}
+            Stmt::Release { modvar: _, span: _ } => {}
+            Stmt::Connect {
+                first: _,
+                second: _,
+                span: _,
+            } => {}
+            Stmt::Disconnect { ip: _, span: _ } => {}
+            Stmt::Attach {
+                own: _,
+                modvar: _,
+                ip: _,
+                span: _,
+            } => {}
+            Stmt::Detach { own: _, span: _ } => {}
+            Stmt::Output {
+                ip: _,
+                interaction: _,
+                args: _,
+                span: _,
+            } => {}
+        }
+    }
+}
+
 /// Which way a `for` counts (ISO 7185, 6.8.3.9).
 ///
 /// `to | downto`
@@ -135,21 +216,40 @@ pub enum Direction {
 ///
 /// `Case = Const {"," Const} ":" Stmt`
 #[cycle(statements)]
-#[derive(Drop)]
 pub struct Case {
     pub labels: Items<Const>,
     pub body: Stmt,
     pub span: Span,
 }
 
+impl Drop for Case {
+    #[cycle(drop_statements)]
+    fn drop(self) {
+        let Case {
+            labels: _,
+            body: _,
+            span: _,
+        } = self;
+    }
+}
+
 /// An interaction point, of the instance itself or of a child; for `disconnect` also a child alone
 /// (ISO/IEC 9074).
 ///
 /// `Ip = NAME ["." NAME]`
-#[derive(Drop)]
 pub struct Ip {
     /// An ip, or where there is a second name, a module variable.
     pub name: Name,
     pub part: Option<Name>,
     pub span: Span,
+}
+
+impl Drop for Ip {
+    fn drop(self) {
+        let Ip {
+            name: _,
+            part: _,
+            span: _,
+        } = self;
+    }
 }

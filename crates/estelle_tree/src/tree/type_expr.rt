@@ -13,7 +13,6 @@ pub enum Sign {
 /// A constant (ISO 7185, 6.3).
 ///
 /// `Const = ["+" | "-"] (NUMBER | NAME) | CHAR`
-#[derive(Drop)]
 pub enum Const {
     /// `["+" | "-"] NUMBER`
     Number {
@@ -34,10 +33,27 @@ pub enum Const {
     },
 }
 
+impl Drop for Const {
+    fn drop(self) {
+        match self {
+            Const::Number {
+                sign: _,
+                value: _,
+                span: _,
+            } => {}
+            Const::Name {
+                sign: _,
+                name: _,
+                span: _,
+            } => {}
+            Const::Char { value: _, span: _ } => {}
+        }
+    }
+}
+
 /// An ordinal type (ISO 7185, 6.4.2).
 ///
 /// `Ord = NAME | "(" Names ")" | Const ".." Const`
-#[derive(Drop)]
 pub enum Ordinal {
     /// `NAME`, with the span of its name.
     Name(Name),
@@ -47,11 +63,24 @@ pub enum Ordinal {
     Subrange { low: Const, high: Const, span: Span },
 }
 
+impl Drop for Ordinal {
+    fn drop(self) {
+        match self {
+            Ordinal::Name(_) => {}
+            Ordinal::Enumeration { names: _, span: _ } => {}
+            Ordinal::Subrange {
+                low: _,
+                high: _,
+                span: _,
+            } => {}
+        }
+    }
+}
+
 /// A type denoter (ISO 7185, 6.4.1).
 ///
 /// `Type = Ord | [packed] (array "[" Ord {"," Ord} "]" of Type | record Fields end | set of Ord)`
 #[cycle(types)]
-#[derive(Drop)]
 pub enum TypeExpr {
     /// `Ord`, with the span of its ordinal type.
     Ordinal(Ordinal),
@@ -76,11 +105,35 @@ pub enum TypeExpr {
     },
 }
 
+impl Drop for TypeExpr {
+    #[cycle(drop_types)]
+    fn drop(self) {
+        match self {
+            TypeExpr::Ordinal(_) => {}
+            TypeExpr::Array {
+                packed: _,
+                indices: _,
+                component: _,
+                span: _,
+            } => {}
+            TypeExpr::Fields {
+                packed: _,
+                fields: _,
+                span: _,
+            } => {}
+            TypeExpr::Set {
+                packed: _,
+                base: _,
+                span: _,
+            } => {}
+        }
+    }
+}
+
 /// The field list of a record (ISO 7185, 6.4.3.3).
 ///
 /// `Fields = Names ":" Type {";" Names ":" Type} [";"]`
 #[cycle(types)]
-#[derive(Drop)]
 pub struct Fields {
     pub sections: Items<TypedNames>,
     /// Whether a semicolon stands after the last section.
@@ -88,12 +141,32 @@ pub struct Fields {
     pub span: Span,
 }
 
+impl Drop for Fields {
+    #[cycle(drop_types)]
+    fn drop(self) {
+        let Fields {
+            sections: _,
+            semicolon: _,
+            span: _,
+        } = self;
+    }
+}
+
 /// The names of one type in a variable declaration, an export or a record (ISO 7185, 6.5.1).
 ///
 /// `Names ":" Type`
 #[cycle(types)]
-#[derive(Drop)]
 pub struct TypedNames {
     pub names: NameList,
     pub type_expr: TypeExpr,
+}
+
+impl Drop for TypedNames {
+    #[cycle(drop_types)]
+    fn drop(self) {
+        let TypedNames {
+            names: _,
+            type_expr: _,
+        } = self;
+    }
 }

@@ -1,11 +1,9 @@
 //! Traces that are read back, and texts that are refused at a line, by hand from the trace format.
 
-use crate::calls::{ALL_STEADY, call};
-use crate::traces::{COUNTER_TRACE, OVERFLOW_TRACE, OVERFLOWING};
 use estelle_model::{End, Event};
 use std::alloc::{AllocError, Global};
 use std::test::Fail;
-use test_texts::COUNTER;
+use test_texts::{COUNTER_TRACE, OVERFLOW_TRACE};
 use trace_text::{TraceError, read, write};
 
 /// The trace of two systems that share a queue.
@@ -239,19 +237,6 @@ fn events_of_a_worked_run(rt: HostRuntime) {
         told(rt.alloc(), OVERFLOW_TRACE.as_bytes()),
         Some((3, 0, false))
     );
-}
-
-// What the program writes has the form.
-#[test]
-fn traces_of_the_program_are_read_back(rt: HostRuntime) -> Result<(), Fail> {
-    for specification in &[COUNTER, OVERFLOWING] {
-        let answer = call(rt.alloc(), &["run"], ALL_STEADY, specification.as_bytes())?;
-        assert!(rt;
-            is_read_back(rt.alloc(), answer.out.as_slice())?,
-            "{specification}"
-        );
-    }
-    Ok(())
 }
 
 // The first line, and the last one of a worked run.
