@@ -15,3 +15,12 @@ pub enum What {
     Take { ticket: u64, path: Path, trans: u32 },
     Ended(End),
 }
+
+/// A firing that was taken under a ticket, with who took it.
+#[derive(Drop)]
+pub struct Taken {
+    pub ticket: u64,
+    pub path: Path,
+    pub trans: u32,
+    pub by: u32,
+}

@@ -32,7 +32,7 @@ use Rattle.situation.specs.Worlds.{Holds, AddsEnd, IsOpenCourse, IsEndedCourse, 
 use Rattle.situation.specs.Steps.{GoesOn, IsDueAt, IsIdle, MayWaitFor, IsFaultAt}
 use Rattle.situation.proofs.Adding.{adds_on, all_taken}
 use Rattle.situation.proofs.Steps.{project_end, fires_same, reached_end, ended_closes, guard_faults_now}
-use Rattle.situation.proofs.Tickets.{tickets_same}
+use Rattle.run_history.proofs.OpenTickets.{tickets_same}
 
 -- what holds anyway holds at an error
 pub on_err : {A E : Type 0} (r : Result A E) (P : Type 0) → P → OnErr r P

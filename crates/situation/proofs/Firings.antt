@@ -54,7 +54,8 @@ use Rattle.situation_units.proofs.Weighing.{firings_are_within}
 use Rattle.estelle_model_legality.proofs.Lists.{path_is, number_is, both_and}
 use Rattle.situation.specs.Runs.{noted, ending, take_of, IsWithin, IsGoing, IsClosed, AreReached, IsJobFor}
 use Rattle.situation_images.specs.Putting.{arrivals_of}
-use Rattle.situation.proofs.Tickets.{tickets_same, fired_tickets, fired_settled, fired_count}
+use Rattle.run_history.proofs.OpenTickets.{tickets_same}
+use Rattle.situation.proofs.Tickets.{fired_tickets, fired_settled, fired_count}
 use Rattle.situation.proofs.Steps.{project_push, project_end, reached_end, within_same, closed_on, fault_stays, counted_event, counted_take}
 
 -- ---- numbers

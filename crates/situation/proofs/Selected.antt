@@ -30,7 +30,8 @@ use Rattle.situation.specs.declared.course.Course.{Course}
 use Rattle.situation.specs.Runs.{noted, IsWithin, IsGoing, AreReached}
 use Rattle.situation.specs.Worlds.{Holds, IsOpenCourse, IsKept, HasStepped, IsUnchanged, now, work, left_to_do}
 use Rattle.situation.specs.Steps.{GoesOn, IsDueAt, MayBeNow}
-use Rattle.situation.proofs.Tickets.{still_settled, still_tickets, tickets_same}
+use Rattle.run_history.proofs.OpenTickets.{tickets_same}
+use Rattle.situation.proofs.Tickets.{still_settled, still_tickets}
 use Rattle.situation.proofs.Steps.{project_push, fires_same, counted_event, reached_on, moment_by}
 use Rattle.situation.proofs.Adding.{adds_on}
 use Rattle.situation.proofs.Less.{less_selected, left_open}

@@ -47,7 +47,8 @@ use Rattle.situation_units.specs.Counting.{births_of, births_at, IsWithinUnits}
 use Rattle.situation_units.proofs.Weighing.{starts_are_within}
 use Rattle.situation.specs.Runs.{noted, ending, AllSettled, IsWithin, IsGoing, IsClosed, IsTold, AreReached}
 use Rattle.situation.specs.Worlds.{HasOnlyStarted}
-use Rattle.situation.proofs.Tickets.{too_short, still_settled, still_tickets}
+use Rattle.run_history.proofs.Lists.{too_short}
+use Rattle.situation.proofs.Tickets.{still_settled, still_tickets}
 use Rattle.situation.proofs.Steps.{counted_event}
 use Rattle.situation.proofs.Firings.{once_more, made_all}
 

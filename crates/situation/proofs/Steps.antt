@@ -32,7 +32,8 @@ use Rattle.situation_steps.specs.Systems.{IsFirstDueAt}
 use Rattle.situation_steps.proofs.Ends.{faults_end, guard_faults_are_planned}
 use Rattle.situation_steps.proofs.Going.{situation-push}
 use Rattle.situation.specs.Runs.{noted, ending, take_of, AllSettled, AreCounted, IsWithin, IsGoing, IsClosed, IsTold, AreReached}
-use Rattle.situation.proofs.Tickets.{still_settled, still_tickets, tickets_same}
+use Rattle.run_history.proofs.OpenTickets.{tickets_same}
+use Rattle.situation.proofs.Tickets.{still_settled, still_tickets}
 
 -- the events with one more entry
 pub project_push : (es : List Entry) (e : Entry) → project (es ++ e ∷ []) ≡ project es ++ project (e ∷ [])

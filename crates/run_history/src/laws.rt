@@ -1,0 +1,20 @@
+//! Laws on tickets: their contracts are the laws, and they do nothing.
+
+ghost use Rattle.run_history.specs.OpenTickets.{OpenTicketsAreListed, OpenTicketsRise, TicketsGoOn, TicketsStayOpen, JobsStay};
+
+/// The open tickets of any entries are those of the list `open_in`, in order.
+pub fn open_tickets_are_listed()
+    ensures listed { OpenTicketsAreListed }
+    ensures rise { OpenTicketsRise }
+{}
+
+/// Tickets stay in order, each settled by who took it, with each entry that may be noted.
+pub fn tickets_go_on()
+    ensures { TicketsGoOn }
+{}
+
+/// What a writer took stays its own until it notes what settles it, and its job stays the same.
+pub fn still_open()
+    ensures open { TicketsStayOpen }
+    ensures job_carries { JobsStay }
+{}
