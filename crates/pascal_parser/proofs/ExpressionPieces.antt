@@ -27,9 +27,9 @@ use Rattle.token_reader.proofs.Complete.{Anything, Complete, Advances, name_comp
 use Rattle.expression_parser.specs.Expression.{relation_of, sign_of, adding_of, multiplying_of, term_over, simple_over, expr_over, args_over, elem_over, elems_over, number_factor, char_factor, field, nest, where_room, index_over, selector_by, selector_over, variable_after, variable_over, call_after, plain_after, named_by, named, paren_over, not_over, set_over, factor_by, factor_over, factor_below, factor, expr, args, variable}
 use Rattle.expression_parser.proofs.Places.{Begins, begins_factor, term_over_advances, simple_over_advances, selector_advances, factor_below_advances, factor_below_begins}
 use Rattle.expression_parser.proofs.Complete.{binds, Looser, multiplying_forth, multiplying_binds, multiplying_stops, adding_forth, adding_binds, adding_stops, sign_forth, factor_unsigned, relation_forth, relation_binds, relation_stops, operand_advances, one, again, term_complete, simple_complete, selector_complete, selector_opens, closed_complete, nest_complete, with_room, factor_complete, factor_below_complete}
-use Rattle.syntax_places.specs.Onward.{Below, IsOnward}
-use Rattle.syntax_places.proofs.Steps.{step, stays, takes, takes_one, refuses, expects, names_one, numbers_one, chars_one, Reached, Reaches, reached_from, exact, exact_below, last, either}
-use Rattle.syntax_places.proofs.Lists.{mark_onward, marked_onward, marked_nothing, behind_onward, repeated_onward, repeated_first, separated_onward, repeated_reached}
+use Rattle.syntax_forms.specs.Onward.{Below, IsOnward}
+use Rattle.syntax_forms.proofs.Steps.{step, stays, takes, takes_one, refuses, expects, names_one, numbers_one, chars_one, Reached, Reaches, reached_from, exact, exact_below, last, either}
+use Rattle.syntax_forms.proofs.Lists.{mark_onward, marked_onward, marked_nothing, behind_onward, repeated_onward, repeated_first, separated_onward, repeated_reached}
 
 -- ---- no parser goes back
 

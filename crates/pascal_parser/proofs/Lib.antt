@@ -1,5 +1,4 @@
 pub mod Numbers
-pub mod TypePieces
 pub mod ExpressionPieces
 pub mod StatementPieces
 pub mod RoutinePieces

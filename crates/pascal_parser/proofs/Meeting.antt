@@ -11,15 +11,15 @@ use Rattle.token_reader.proofs.Complete.{After, Complete}
 use Rattle.pascal_parser.specs.declared.error.SyntaxError.{SyntaxError}
 use Rattle.pascal_parser.specs.declared.error.SyntaxError.TheVariants.{At, Memory}
 use Rattle.estelle_tree.specs.Beginning.{Beginning}
-use Rattle.syntax_places.specs.Places.{Reach}
-use Rattle.syntax_places.specs.Placed.{stop}
+use Rattle.syntax_forms.specs.Places.{Reach}
+use Rattle.syntax_forms.specs.Placed.{stop}
 use Rattle.syntax_places.specs.Laws.{Stops, IsBegun}
 use Rattle.pascal_parser.specs.Places.{place}
-use Rattle.syntax_places.specs.Onward.{Below, IsOnward}
+use Rattle.syntax_forms.specs.Onward.{Below, IsOnward}
 use Rattle.pascal_parser.specs.Answers.{IsSpelled, IsAnswered, Answers}
 use Rattle.pascal_parser.specs.Longest.{IsLongest, IsExact, IsRefused}
 use Rattle.pascal_parser.proofs.Numbers.{skip_left, place_of}
-use Rattle.syntax_places.proofs.Steps.{Reached, Reaches}
+use Rattle.syntax_forms.proofs.Steps.{Reached, Reaches}
 
 -- ---- what a parser that never goes back answers
 

@@ -5,9 +5,9 @@ use Rattle.estelle_tree.specs.Input.{Input, input, next, left, skip}
 use Rattle.token_reader.specs.declared.error.ReadError.{ReadError}
 use Rattle.token_reader.specs.declared.error.ReadError.TheVariants as read
 use Rattle.token_reader.specs.Reader.{ReadResult, Reads}
-use Rattle.syntax_places.specs.Places.{Reach}
+use Rattle.syntax_forms.specs.Places.{Reach}
 use Rattle.pascal_parser.specs.Places.{place}
-use Rattle.syntax_places.specs.Onward.{Below}
+use Rattle.syntax_forms.specs.Onward.{Below}
 use Rattle.pascal_parser.specs.Answers.{Leaves}
 
 -- a place further on has as many tokens left as are not skipped

@@ -30,10 +30,10 @@ use Rattle.type_parser.specs.Types.{begins_constant, constant}
 use Rattle.statement_parser.specs.Statement.{goes_on_whole, goes_on_stmt, goes_on_stmts, begins_args, ip, given_args, may_be_args, assignment, call, named_by, init, release, connect, disconnect, attach, detach, output, opens, expr_below, direction_by, direction_word, start_bound, end_bound, bounds, stmts_over, else_over, case_over, begin_over, if_over, while_over, repeat_over, for_over, case_stmt_over, nested_by, nested, stmt_by, stmt_over, stmt_below, stmts, EndsStmt}
 use Rattle.statement_parser.proofs.Begin.{stmt_below_shrinks}
 use Rattle.statement_parser.proofs.Complete.{CompleteStmt, ip_complete, given_args_complete, opens_complete, expr_below_complete, bounds_complete, named_assigns, selectors_assign, release_complete, attach_complete, detach_complete, stmts_over_complete, begin_complete, case_stmt_complete, choice_kind, stmt_below_complete}
-use Rattle.syntax_places.specs.Onward.{Below, IsOnward}
-use Rattle.syntax_places.proofs.Steps.{step, stays, takes, refuses, expects, expects_one, eats, names_one, names_first, Reached, Reaches, exact, exact_below, last}
-use Rattle.syntax_places.proofs.Lists.{optional_onward, behind_onward, behind_nothing, behind_reached, separated_onward, separated_if_onward, separated_reached}
-use Rattle.pascal_parser.proofs.TypePieces.{constant_onward}
+use Rattle.syntax_forms.specs.Onward.{Below, IsOnward}
+use Rattle.syntax_forms.proofs.Steps.{step, stays, takes, refuses, expects, expects_one, eats, names_one, names_first, Reached, Reaches, exact, exact_below, last}
+use Rattle.syntax_forms.proofs.Lists.{optional_onward, behind_onward, behind_nothing, behind_reached, separated_onward, separated_if_onward, separated_reached}
+use Rattle.type_parser.proofs.TypeForms.{constant_lawful}
 use Rattle.pascal_parser.proofs.ExpressionPieces.{some_room, where_room_onward, expr_onward, args_onward, variable_onward, variable_takes, variable_more, expr_reached}
 
 -- ---- no parser goes back. Where it is told how many tokens the first step leaves, the whole form leaves fewer.
@@ -175,7 +175,7 @@ module _ (item : Parser Stmt) (on : IsOnward item) where
   case_over_onward : IsOnward (case_over item)
   unfolding case_over
   case_over_onward i =
-      step i _ (separated k.Comma constant i) _ (separated_onward constant constant_onward k.Comma i) (λ labels a.
+      step i _ (separated k.Comma constant i) _ (separated_onward constant (λ i. (constant_lawful.placed i).on) k.Comma i) (λ labels a.
       step a _ (expect k.Colon a) _ (expects k.Colon a) (λ u b.
       step b _ (item b) _ (on b) (λ s c. stays _ c)))
 

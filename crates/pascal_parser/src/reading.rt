@@ -2,7 +2,7 @@
 
 ghost use Rattle.std.specs.Prelude.{◌≡◌, ◌+◌, ◌≤◌, ◌<◌, ◌^◌, length};
 ghost use Rattle.pascal_parser.specs.Places.{place};
-ghost use Rattle.syntax_places.specs.Onward.{IsOnward};
+ghost use Rattle.syntax_forms.specs.Onward.{IsOnward};
 ghost use Rattle.pascal_parser.specs.Answers.{Leaves, IsPlaced, Answers};
 
 use crate::error::SyntaxError;

@@ -23,12 +23,12 @@ use Rattle.token_reader.proofs.Complete.{Anything, Advances}
 use Rattle.expression_parser.specs.Expression.{expr_over, args_over, number_factor, char_factor, field, nest, index_over, selector_by, selector_over, variable_after, variable_over, call_after, plain_after, named_by, named, paren_over, not_over, set_over, factor_by, factor_over, factor_below, expr, args, variable, EndsVariable}
 use Rattle.expression_parser.proofs.Places.{Begins, token_kind, begins_factor, selector_advances, factor_below_advances, factor_below_begins}
 use Rattle.expression_parser.proofs.Complete.{binds, Looser, one, selector_complete, selector_opens, no_selector, variable_over_complete, factor_over_complete, factor_below_complete}
-use Rattle.syntax_places.specs.Onward.{Below, IsOnward}
-use Rattle.syntax_places.specs.Placed.{stop, Begun, Placed}
-use Rattle.syntax_places.proofs.Steps.{refuses}
-use Rattle.syntax_places.proofs.Placing.{carry, begun_here, First, first_nothing, first_or, first_after, first_one, first_opens, first_many, Piece, same, left_of, right_of, pick, ends, done, refusal_left, refused, kept, followed, taken, untaken, after_either, last_token, opened, unopened, no_room}
-use Rattle.syntax_places.proofs.Listing.{Step, repeated_placed, separated_whole}
-use Rattle.syntax_places.proofs.Tokens.{name_placed, name_then, number_placed, char_placed}
+use Rattle.syntax_forms.specs.Onward.{Below, IsOnward}
+use Rattle.syntax_forms.specs.Placed.{stop, Begun, Placed}
+use Rattle.syntax_forms.proofs.Steps.{refuses}
+use Rattle.syntax_forms.proofs.Placing.{carry, begun_here, First, first_nothing, first_or, first_after, first_one, first_opens, first_many, Piece, same, left_of, right_of, pick, ends, done, refusal_left, refused, kept, followed, taken, untaken, after_either, last_token, opened, unopened, no_room}
+use Rattle.syntax_forms.proofs.Listing.{Step, repeated_placed, separated_whole}
+use Rattle.syntax_forms.proofs.Tokens.{name_placed, name_then, number_placed, char_placed}
 use Rattle.syntax_places.proofs.ExpressionSound.{selector_sound, variable_over_sound, factor_over_sound, factor_below_sound}
 use Rattle.syntax_places.proofs.TermPlaces.{Starting, expr_placed, expr_piece, exprs_placed, args_piece, elems_placed}
 

@@ -1,17 +1,8 @@
-pub mod Steps
-pub mod Lists
-pub mod Firsts
-pub mod Placing
-pub mod Listing
-pub mod Following
-pub mod Tokens
 pub mod ExpressionSound
 pub mod TermPlaces
 pub mod ExpressionPlaces
-pub mod OrdinalPlaces
 pub mod TypePlaces
 pub mod SimplePlaces
 pub mod NestedPlaces
 pub mod StatementPlaces
-pub mod BlockPlaces
 pub mod RoutinePlaces

@@ -30,12 +30,12 @@ use Rattle.statement_parser.specs.Statement.{goes_on_whole, goes_on_stmt, goes_o
 use Rattle.statement_parser.proofs.Begin.{case_over_begins, case_over_shrinks}
 use Rattle.statement_parser.proofs.Sound.{SoundStmt, plain, stmts_over_sound}
 use Rattle.statement_parser.proofs.Complete.{CompleteStmt, direction_ends, stmts_over_complete, case_over_complete}
-use Rattle.syntax_places.specs.Placed.{Placed}
-use Rattle.syntax_places.proofs.Placing.{followed_where, First, first_nothing, first_or, first_after, first_one, first_of, first_then, Piece, done, refused, kept, followed, expected, one_token, may_be, behind_placed, taken_one, unmarked}
-use Rattle.syntax_places.proofs.Listing.{separated_placed, separated_if_placed, separated_whole}
-use Rattle.syntax_places.proofs.Tokens.{name_then}
-use Rattle.syntax_places.proofs.OrdinalPlaces.{constant_piece, constant_first}
-use Rattle.syntax_places.proofs.Following.{regrouped}
+use Rattle.syntax_forms.specs.Placed.{Placed}
+use Rattle.syntax_forms.proofs.Placing.{followed_where, First, first_nothing, first_or, first_after, first_one, first_of, first_then, Piece, done, refused, kept, followed, expected, one_token, may_be, behind_placed, taken_one, unmarked}
+use Rattle.syntax_forms.proofs.Listing.{separated_placed, separated_if_placed, separated_whole}
+use Rattle.syntax_forms.proofs.Tokens.{name_then}
+use Rattle.syntax_places.proofs.TypePlaces.{constant_piece, constant_first}
+use Rattle.syntax_forms.proofs.Following.{regrouped}
 use Rattle.syntax_places.proofs.SimplePlaces.{expr_below_piece, AfterExpr, below_placed}
 
 -- a word that opens a level and what comes next, where one may open

@@ -27,14 +27,14 @@ use Rattle.type_parser.proofs.Definitions.{formals_begins, block_decl_begins, bl
 use Rattle.statement_parser.specs.Statement.{goes_on_stmts, opens, stmts_over, stmt_below, EndsStmts}
 use Rattle.statement_parser.specs.Routine.{begins_routine, statement_part, word_by, routine_word, function_result, result, block_decls, routine}
 use Rattle.statement_parser.proofs.Routines.{statement_part_sound, statement_part_complete, routine_sound, routine_complete}
-use Rattle.syntax_places.specs.Placed.{Placed}
-use Rattle.syntax_places.proofs.Placing.{First, first_after, first_or, first_opens, Piece, left_of, right_of, untaken, done, refused, kept, followed, taken, expected, one_token, opened, no_room}
-use Rattle.syntax_places.proofs.Listing.{Step, optional_step, repeated_placed}
-use Rattle.syntax_places.proofs.Tokens.{name_then}
-use Rattle.syntax_places.proofs.Following.{named_whole, regrouped, may_placed}
+use Rattle.syntax_forms.specs.Placed.{Placed}
+use Rattle.syntax_forms.proofs.Placing.{First, first_after, first_or, first_opens, Piece, left_of, right_of, untaken, done, refused, kept, followed, taken, expected, one_token, opened, no_room}
+use Rattle.syntax_forms.proofs.Listing.{Step, optional_step, repeated_placed}
+use Rattle.syntax_forms.proofs.Tokens.{name_then}
+use Rattle.syntax_forms.proofs.Following.{named_whole, regrouped, may_placed}
 use Rattle.syntax_places.proofs.NestedPlaces.{word_placed}
 use Rattle.syntax_places.proofs.StatementPlaces.{stmts_below_piece}
-use Rattle.syntax_places.proofs.BlockPlaces.{formals_piece, block_decl_piece}
+use Rattle.syntax_places.proofs.TypePlaces.{formals_piece, block_decl_piece}
 
 -- a routine behind its word, which begins there
 headed : ℕ → ℕ → Bool → Parser Routine

@@ -25,10 +25,10 @@ use Rattle.expression_parser.specs.Expression.{goes_on_args, goes_on_variable, e
 use Rattle.expression_parser.proofs.Complete.{expr_complete, args_complete}
 use Rattle.statement_parser.specs.Statement.{begins_args, ip, given_args, may_be_args, assignment, call, named_by, init, release, connect, disconnect, attach, detach, output, expr_below}
 use Rattle.statement_parser.proofs.Complete.{ip_complete}
-use Rattle.syntax_places.specs.Placed.{Placed}
-use Rattle.syntax_places.proofs.Placing.{First, first_after, first_one, Piece, same, done, kept, followed, expected, one_token, behind_placed, optional_placed}
-use Rattle.syntax_places.proofs.Tokens.{name_placed, name_then}
-use Rattle.syntax_places.proofs.Following.{name_word, one_name, named_whole}
+use Rattle.syntax_forms.specs.Placed.{Placed}
+use Rattle.syntax_forms.proofs.Placing.{First, first_after, first_one, Piece, same, done, kept, followed, expected, one_token, behind_placed, optional_placed}
+use Rattle.syntax_forms.proofs.Tokens.{name_placed, name_then}
+use Rattle.syntax_forms.proofs.Following.{name_word, one_name, named_whole}
 use Rattle.syntax_places.proofs.ExpressionPlaces.{no_levels, expr_piece_at, args_piece_at, variable_piece_at}
 
 -- ---- expressions

@@ -26,11 +26,11 @@ use Rattle.token_reader.proofs.Complete.{Advances}
 use Rattle.expression_parser.specs.Expression.{relation_of, sign_of, adding_of, multiplying_of, begins_expr, term_over, simple_over, expr_over, args_over, elem_over, elems_over}
 use Rattle.expression_parser.proofs.Places.{Begins, begins_factor, factor_begins_expr, simple_over_begins, at_most, term_over_advances, expr_over_advances, elem_over_shrinks, expr_over_begins}
 use Rattle.expression_parser.proofs.Complete.{binds, Looser, multiplying_forth, multiplying_binds, multiplying_stops, adding_forth, adding_binds, adding_stops, sign_forth, factor_unsigned, relation_forth, relation_binds, operand_advances, one, again, none, last, term_complete, simple_complete, expr_over_complete, args_over_complete, elem_complete}
-use Rattle.syntax_places.specs.Onward.{IsOnward}
-use Rattle.syntax_places.specs.Placed.{Placed}
-use Rattle.syntax_places.proofs.Lists.{marked_onward}
-use Rattle.syntax_places.proofs.Placing.{First, first_so, first_nothing, first_or, first_after, first_one, first_of, first_then, first_many, Piece, left_of, right_of, done, kept, followed, unseen_is, behind_placed, mark_placed, marked_placed}
-use Rattle.syntax_places.proofs.Listing.{Step, repeated_placed, separated_placed, separated_whole}
+use Rattle.syntax_forms.specs.Onward.{IsOnward}
+use Rattle.syntax_forms.specs.Placed.{Placed}
+use Rattle.syntax_forms.proofs.Lists.{marked_onward}
+use Rattle.syntax_forms.proofs.Placing.{First, first_so, first_nothing, first_or, first_after, first_one, first_of, first_then, first_many, Piece, left_of, right_of, done, kept, followed, unseen_is, behind_placed, mark_placed, marked_placed}
+use Rattle.syntax_forms.proofs.Listing.{Step, repeated_placed, separated_placed, separated_whole}
 use Rattle.syntax_places.proofs.ExpressionSound.{multiplying_back, adding_back, sign_back, relation_back, term_sound, simple_sound, expr_over_sound, args_over_sound, elem_sound}
 
 -- with these a factor begins

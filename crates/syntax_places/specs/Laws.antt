@@ -10,7 +10,7 @@ use Rattle.estelle_tree.specs.BeginsExpressions.{BeginsExpr, BeginsArgs, BeginsV
 use Rattle.token_reader.specs.Reader.{Parser}
 use Rattle.expression_parser.specs.Expression.{expr, args, variable}
 use Rattle.type_parser.specs.Types.{type_expr}
-use Rattle.syntax_places.specs.Placed.{Placed}
+use Rattle.syntax_forms.specs.Placed.{Placed}
 
 -- wherever it begins, it takes at least the longest piece that begins the form, and refuses only behind such a piece
 abbrev pub Stops : {A : Type 0} → Parser A → Beginning → Type 0

@@ -1,10 +1,9 @@
 -- Names, constants and types, read from left to right.
-use Rattle.std.specs.Prelude.{ℕ, zero, suc, ◌==◌, Bool, if◌then◌else◌, true, false, Option, Some, None}
+use Rattle.std.specs.Prelude.{ℕ, zero, suc, ◌==◌, Bool, if◌then◌else◌, true, false, Option, None}
 use Rattle.estelle_tree.specs.declared.kind.Kind.{Kind}
 use Rattle.estelle_tree.specs.declared.kind.Kind.TheVariants as k
 use Rattle.estelle_tree.specs.declared.tree.name.NameList.{NameList}
 use Rattle.estelle_tree.specs.declared.tree.type_expr.Sign.{Sign}
-use Rattle.estelle_tree.specs.declared.tree.type_expr.Sign.TheVariants as sign
 use Rattle.estelle_tree.specs.declared.tree.type_expr.Const.{Const}
 use Rattle.estelle_tree.specs.declared.tree.type_expr.Const.TheVariants as const
 use Rattle.estelle_tree.specs.declared.tree.type_expr.Ordinal.{Ordinal}
@@ -13,6 +12,7 @@ use Rattle.estelle_tree.specs.declared.tree.type_expr.TypeExpr.{TypeExpr}
 use Rattle.estelle_tree.specs.declared.tree.type_expr.TypeExpr.TheVariants as a_type
 use Rattle.estelle_tree.specs.declared.tree.type_expr.Fields.{Fields, roll-Fields}
 use Rattle.estelle_tree.specs.declared.tree.type_expr.TypedNames.{TypedNames, roll-TypedNames}
+pub use Rattle.syntax_forms.specs.Types.{sign_of}
 use Rattle.token_reader.specs.Reader.{Parser, ◌>>=◌, ◌>>◌, pure, refuse, peek, peek_second, here, since, eat, expect, name, number, char}
 use Rattle.token_reader.specs.Lists.{mark, separated, separated_if}
 
@@ -61,11 +61,6 @@ names = do
   found ← separated k.Comma name
   span ← since from
   pure (record { names = found; span = span })
-
-abbrev pub sign_of : Kind → Option Sign
-sign_of k.Plus = Some sign.Plus
-sign_of k.Minus = Some sign.Minus
-sign_of _ = None
 
 -- NUMBER, NAME and CHAR behind what was read from there on
 unfoldable pub number_from : ℕ → Option Sign → Parser Const

@@ -1,8 +1,8 @@
-use Rattle.syntax_places.proofs.BlockPlaces.{formals_piece}
+use Rattle.type_parser.proofs.DefinitionForms.{formals_lawful}
 use Rattle.syntax_places.proofs.statement_laws.formals_places.Goals as goal
 
 pub returns-clause-stops : goal.returns-clause-stops
-returns-clause-stops c = formals_piece.placed
+returns-clause-stops c = formals_lawful.placed
 
 pub returns-clause-begun : goal.returns-clause-begun
-returns-clause-begun c = formals_piece.whole
+returns-clause-begun c = formals_lawful.form.whole

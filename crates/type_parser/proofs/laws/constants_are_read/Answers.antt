@@ -1,6 +1,8 @@
+use Rattle.std.proofs.Common.{refl}
 use Rattle.type_parser.proofs.Sound.{constant_sound}
 use Rattle.type_parser.proofs.Complete.{constant_complete}
-use Rattle.type_parser.proofs.AtMostOne.{one_constant}
+use Rattle.syntax_forms.proofs.Rules.{at_most_one}
+use Rattle.type_parser.proofs.TypeForms.{constant_lawful}
 use Rattle.type_parser.proofs.laws.constants_are_read.Goals as goal
 
 pub returns-clause-only : goal.returns-clause-only
@@ -10,4 +12,4 @@ pub returns-clause-all : goal.returns-clause-all
 returns-clause-all c = constant_complete
 
 pub returns-clause-one : goal.returns-clause-one
-returns-clause-one c = one_constant
+returns-clause-one c = at_most_one constant_lawful refl

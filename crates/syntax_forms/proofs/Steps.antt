@@ -15,8 +15,8 @@ use Rattle.estelle_tree.specs.Spelling.{Spelling}
 use Rattle.token_reader.specs.declared.error.ReadError.TheVariants.{Refused, Memory}
 use Rattle.token_reader.specs.Reader.{Parser, ReadResult, and_then, pure, refusal, refuse, sees, after, eat, expect, name, name_in, number, number_in, char, char_in}
 use Rattle.token_reader.proofs.Complete.{next_left, next_left_more, sees_takes, expect_complete}
-use Rattle.syntax_places.specs.Places.{Reach}
-use Rattle.syntax_places.specs.Onward.{Below, IsOnward}
+use Rattle.syntax_forms.specs.Places.{Reach}
+use Rattle.syntax_forms.specs.Onward.{Below, IsOnward}
 
 -- ---- places
 

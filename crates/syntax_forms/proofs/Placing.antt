@@ -11,10 +11,10 @@ use Rattle.token_reader.specs.Lists.{optional, optional_if, behind, taking, mark
 use Rattle.token_reader.proofs.Sound.{Sound, seen_is}
 use Rattle.token_reader.proofs.Complete as reader
 use Rattle.token_reader.proofs.Complete.{Complete, next_left, sees_takes}
-use Rattle.syntax_places.specs.Onward.{Below}
-use Rattle.syntax_places.specs.Placed.{stop, Begun, Placed}
-use Rattle.syntax_places.proofs.Steps.{below_more, below_from, stays, refuses, reads_on}
-pub use Rattle.syntax_places.proofs.Firsts.{First, below_stop, on_more, stop_more, refused_by, in_a_row, carry, begun_here, stays_short, first_nothing, first_or, first_after, first_one, first_of, first_opens, first_then, first_so, first_many, empty_at}
+use Rattle.syntax_forms.specs.Onward.{Below}
+use Rattle.syntax_forms.specs.Placed.{stop, Begun, Placed}
+use Rattle.syntax_forms.proofs.Steps.{below_more, below_from, stays, refuses, reads_on}
+pub use Rattle.syntax_forms.proofs.Firsts.{First, below_stop, on_more, stop_more, refused_by, in_a_row, carry, begun_here, stays_short, first_nothing, first_or, first_after, first_one, first_of, first_opens, first_then, first_so, first_many, empty_at}
 
 -- ---- a parser of one form
 

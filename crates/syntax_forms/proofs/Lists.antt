@@ -11,8 +11,8 @@ use Rattle.token_reader.specs.Reader.{Parser, ReadResult, pure, sees, take, ◌>
 use Rattle.token_reader.specs.Lists.{optional_if, optional, behind, behind_if, taking, mark, marked_by, marked, ended, turn, repeated_from, repeated, first_and, separated, separated_if, several}
 use Rattle.token_reader.proofs.Sound.{seen_is}
 use Rattle.token_reader.proofs.Complete.{After, Advances, Shrinks, Complete, sees_takes, behind_advances}
-use Rattle.syntax_places.specs.Onward.{Below, IsOnward}
-use Rattle.syntax_places.proofs.Steps.{step, stays, takes, takes_one, expects, Reached, Reaches, reached_from, exact, last, either}
+use Rattle.syntax_forms.specs.Onward.{Below, IsOnward}
+use Rattle.syntax_forms.proofs.Steps.{step, stays, takes, takes_one, expects, Reached, Reaches, reached_from, exact, last, either}
 
 -- ---- parts that may be missing
 

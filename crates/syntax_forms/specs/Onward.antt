@@ -3,7 +3,7 @@ use Rattle.std.specs.Prelude.{ℕ, suc, ◌<◌, Ok, Err}
 use Rattle.estelle_tree.specs.Input.{Input, left}
 use Rattle.token_reader.specs.declared.error.ReadError.TheVariants.{Refused, Memory}
 use Rattle.token_reader.specs.Reader.{ReadResult, Parser}
-use Rattle.syntax_places.specs.Places.{Reach}
+use Rattle.syntax_forms.specs.Places.{Reach}
 
 abbrev pub StopsBelow : {A : Type 0} → Input → ℕ → ReadResult A → Type 0
 StopsBelow i n (Ok p) = Reach i p.1 × (left p.1 < n)

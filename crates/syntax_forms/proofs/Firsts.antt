@@ -6,10 +6,10 @@ use Rattle.estelle_tree.specs.Spelling.{Spelling, Chain}
 use Rattle.estelle_tree.specs.Beginning.{Beginning, Nothing, ◌or◌, Then, After, AfterOne, OneToken, Opens, Many}
 use Rattle.token_reader.specs.declared.error.ReadError.TheVariants.{Refused, Memory}
 use Rattle.token_reader.specs.Reader.{Parser, ReadResult, and_then}
-use Rattle.syntax_places.specs.Places.{Reach}
-use Rattle.syntax_places.specs.Onward.{Below}
-use Rattle.syntax_places.specs.Placed.{stop, Begun}
-use Rattle.syntax_places.proofs.Steps.{reach_on, below_more, below_from}
+use Rattle.syntax_forms.specs.Places.{Reach}
+use Rattle.syntax_forms.specs.Onward.{Below}
+use Rattle.syntax_forms.specs.Placed.{stop, Begun}
+use Rattle.syntax_forms.proofs.Steps.{reach_on, below_more, below_from}
 
 -- ---- where a parser stops
 

@@ -12,8 +12,8 @@ use Rattle.token_reader.specs.Reader.{Parser, ReadResult, and_then}
 use Rattle.token_reader.specs.Lists.{optional, optional_if}
 use Rattle.token_reader.proofs.Complete as reader
 use Rattle.token_reader.proofs.Complete.{Complete}
-use Rattle.syntax_places.specs.Placed.{Placed}
-use Rattle.syntax_places.proofs.Placing.{in_a_row, First, Piece, left_of, right_of, followed}
+use Rattle.syntax_forms.specs.Placed.{Placed}
+use Rattle.syntax_forms.proofs.Placing.{in_a_row, First, Piece, left_of, right_of, followed}
 
 -- ---- a NAME that is spelled
 

@@ -5,8 +5,8 @@ use Rattle.estelle_tree.specs.Input.{Input, left}
 use Rattle.estelle_tree.specs.Beginning.{Beginning}
 use Rattle.token_reader.specs.declared.error.ReadError.TheVariants.{Refused, Memory}
 use Rattle.token_reader.specs.Reader.{ReadResult}
-use Rattle.syntax_places.specs.Places.{Reach}
-use Rattle.syntax_places.specs.Onward.{Below}
+use Rattle.syntax_forms.specs.Places.{Reach}
+use Rattle.syntax_forms.specs.Onward.{Below}
 
 -- how many tokens are left where it stops
 abbrev pub stop : {A : Type 0} → ReadResult A → ℕ

@@ -13,11 +13,11 @@ use Rattle.token_reader.specs.Lists.{optional, optional_if, behind, behind_if, e
 use Rattle.token_reader.proofs.Sound.{Sound, seen_is, optional_sound, behind_sound, behind_if_sound, ended_sound}
 use Rattle.token_reader.proofs.Complete as reader
 use Rattle.token_reader.proofs.Complete.{Complete, Advances, Shrinks, Anything, sees_takes, unseen, behind_advances, optional_complete, behind_complete, behind_if_complete, ended_complete}
-use Rattle.syntax_places.specs.Onward.{Below, IsOnward}
-use Rattle.syntax_places.specs.Placed.{stop, Begun, Placed}
-use Rattle.syntax_places.proofs.Steps.{reads_on}
-use Rattle.syntax_places.proofs.Lists.{from_onward, turns, behind_onward, behind_if_onward, optional_onward}
-use Rattle.syntax_places.proofs.Placing.{below_stop, on_more, stop_more, refused_by, in_a_row, carry, stays_short, First, first_after, first_one, Piece, same, done, kept, followed, taken, expected, one_token, behind_placed, optional_placed}
+use Rattle.syntax_forms.specs.Onward.{Below, IsOnward}
+use Rattle.syntax_forms.specs.Placed.{stop, Begun, Placed}
+use Rattle.syntax_forms.proofs.Steps.{reads_on}
+use Rattle.syntax_forms.proofs.Lists.{from_onward, turns, behind_onward, behind_if_onward, optional_onward}
+use Rattle.syntax_forms.proofs.Placing.{below_stop, on_more, stop_more, refused_by, in_a_row, carry, stays_short, First, first_after, first_one, Piece, same, done, kept, followed, taken, expected, one_token, behind_placed, optional_placed}
 
 -- ---- `{x}` and what comes next. The step reads an item where another one comes behind it, or the rest; and
 -- where it reads nothing of what could begin an item, that begins the rest.

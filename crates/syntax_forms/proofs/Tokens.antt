@@ -18,10 +18,17 @@ use Rattle.estelle_tree.specs.Beginning.{Beginning, Nothing, After, OneToken}
 use Rattle.token_reader.specs.Reader.{Parser, and_then, refuse, sees, name, name_in, number, number_in, char, char_in}
 use Rattle.token_reader.proofs.Sound.{seen_is, name_sound, number_sound, char_sound}
 use Rattle.token_reader.proofs.Complete.{Anything, name_complete, number_complete, char_complete}
-use Rattle.expression_parser.proofs.Places.{token_kind}
-use Rattle.syntax_places.specs.Placed.{Placed}
-use Rattle.syntax_places.proofs.Steps.{named_token}
-use Rattle.syntax_places.proofs.Placing.{Piece, done, refused, taken, untaken, one_token, unseen_is}
+use Rattle.syntax_forms.specs.Placed.{Placed}
+use Rattle.syntax_forms.proofs.Steps.{named_token}
+use Rattle.syntax_forms.proofs.Placing.{Piece, done, refused, taken, untaken, one_token, unseen_is}
+
+pub token_kind : (i : Input) (t : Token) → token_at i ≡ Some t → kind i ≡ kind_of t
+unfolding token_at kind
+token_kind i t e = go i.tokens e
+  where
+    go : (ps : List PlacedToken) → first_token ps ≡ Some t → first_kind ps ≡ kind_of t
+    go [] e = absurd (cc)
+    go (p ∷ ps) e = let same : p.token ≡ t = cc in ap kind_of same
 
 -- ---- only a number is a token of that kind, and only a character one of that
 
@@ -69,7 +76,7 @@ token_lettered (token.Word w) e = absurd ((no_word (kind_of_word w) (word_kind w
 token_lettered (token.Number n) e = absurd (cc)
 token_lettered (token.Symbol s) e = absurd ((no_word (kind_of_symbol s) (symbol_kind s)).1 e)
 
-number_token : (i : Input) → kind i ≡ k.Number → (n : ℤ) × (token_at i ≡ Some (token.Number n))
+pub number_token : (i : Input) → kind i ≡ k.Number → (n : ℤ) × (token_at i ≡ Some (token.Number n))
 unfolding kind token_at
 number_token i e = go i.tokens e
   where
@@ -77,7 +84,7 @@ number_token i e = go i.tokens e
     go [] e = absurd (cc)
     go (p ∷ ps) e = let t = token_numbered p.token e in (t.0, ap Some t.1)
 
-char_token : (i : Input) → kind i ≡ k.Char → (c : ℕ) × (token_at i ≡ Some (token.Char c))
+pub char_token : (i : Input) → kind i ≡ k.Char → (c : ℕ) × (token_at i ≡ Some (token.Char c))
 unfolding kind token_at
 char_token i e = go i.tokens e
   where

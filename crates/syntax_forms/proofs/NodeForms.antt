@@ -1,0 +1,233 @@
+-- Nodes, which are made of their parts and their span, and nodes as parts.
+use Rattle.std.proofs.Common.{◌≡◌, Bool, true, false, Ok, Err, sym, refl, ap, ◌∙◌, subst, inl, inr, ◌⊎◌, arith}
+use Rattle.std.specs.Prelude.{not, ◌||◌}
+use Rattle.estelle_tree.specs.declared.kind.Kind.{Kind}
+use Rattle.estelle_tree.specs.declared.span.Span.{Span}
+use Rattle.estelle_tree.specs.Input.{Input, kind, next, between}
+use Rattle.estelle_tree.specs.Spelling.{Spelling}
+use Rattle.estelle_tree.specs.Beginning.{Beginning, Nothing, Then}
+use Rattle.token_reader.specs.Reader.{Parser, ReadResult, and_then, refuse, refusal}
+use Rattle.token_reader.proofs.Sound.{Sound, through, answered}
+use Rattle.token_reader.proofs.Complete.{Complete}
+use Rattle.syntax_forms.specs.Form.{Form, part, node, begun, hole}
+use Rattle.syntax_forms.specs.Kinds.{of_all}
+use Rattle.syntax_forms.specs.Reading.{Reading, one}
+use Rattle.syntax_forms.specs.Onward.{IsOnward}
+use Rattle.syntax_forms.specs.Placed.{Placed}
+use Rattle.syntax_forms.proofs.KindLaws.{when, within}
+use Rattle.syntax_forms.proofs.Local.{upto, reach_left, upto_span}
+use Rattle.syntax_forms.proofs.Steps.{Reached, Reaches, step, stays, either}
+use Rattle.syntax_forms.proofs.Placing.{Piece, kept, followed, refused, same as same_pieces}
+use Rattle.syntax_forms.proofs.Lawful.{begins_so, IsForm, IsLast, IsRead, IsLawful, Ends, Starts}
+
+-- ---- a part that a parser of its own reads
+
+module _ {A : Type 0} (F : Form A) (form : IsForm F) where
+  pub part_form : IsForm (part F)
+  part_form = record {
+    whole = form.whole;
+    whole_onto = λ next i m j x h n. inr (x, m, h, n);
+    nothing = form.nothing;
+    nothing_onto = λ next i n. inl (form.nothing i);
+    starts = form.starts;
+    first = form.first;
+    first_onto = first_onto;
+    reach = form.reach;
+    advances = form.advances;
+    local = form.local;
+  }
+    where
+      first_onto : (next : Beginning) (i m : Input) → Then F.begins F.spells next i m → (i ≡ m) ⊎ (Starts F i ⊎ ((F.empty ≡ true) × next i m))
+      first_onto next i m (inl b) = by (form.first i m b)
+        where
+          by : (i ≡ m) ⊎ Starts F i → (i ≡ m) ⊎ (Starts F i ⊎ ((F.empty ≡ true) × next i m))
+          by (inl e) = inl e
+          by (inr s) = inr (inl s)
+      first_onto next i m (inr h) = by (form.starts i h.1 h.0 h.2)
+        where
+          by : ((i ≡ h.1) × (F.empty ≡ true)) ⊎ Starts F i → (i ≡ m) ⊎ (Starts F i ⊎ ((F.empty ≡ true) × next i m))
+          by (inl e) = inr (inr (e.1, subst (λ a. next a m) (sym e.0) h.3))
+          by (inr s) = inr (inl s)
+
+module _ {A : Type 0} (F : Form A) (p : Parser A) (law : IsLawful F p) where
+  pub lawful_piece : Piece p F.spells F.begins (Ends F)
+  lawful_piece = record { placed = law.placed; sound = law.sound; complete = law.complete; whole = law.form.whole }
+
+  pub lawful_onward : IsOnward p
+  lawful_onward i = (law.placed i).on
+
+  pub part_read : IsRead (part F) (one p)
+  part_read = record {
+    rest = record {
+      form = part_form F law.form;
+      onward = λ C f on i. step i _ (p i) f (lawful_onward i) on;
+      sound = λ C f i j y h. through (p i) f (y, j) h (λ x m e h. (x, m, law.sound i m x e, h));
+      complete = λ C f i m x h end. ap (λ o. and_then o f) (law.complete i m x h end);
+      reached = λ C f on i m n x y h end r. either p f i m n x y lawful_onward on (law.reaches i m x h) (known i m n x h end) r;
+      last = λ C f keeps i. kept F.begins i (p i) f (law.placed i) keeps;
+    };
+    goes = λ C f next ends more i. followed p F.spells F.begins next (Ends F) i f lawful_piece ends (λ x a h. more x a);
+  }
+    where
+      known : (i m n : Input) (x : A) → F.spells x i m → (m ≡ n) ⊎ Ends F m → (m ≡ n) ⊎ (p i ≡ Ok (x, m))
+      known i m n x h (inl e) = inl e
+      known i m n x h (inr end) = inr (law.complete i m x h end)
+
+-- ---- nodes
+
+-- the parts spell so, and the node is made of them and of the span
+pub record IsNode {P N : Type 0} (outer : Spelling N) (inner : Spelling P) (make : P → Span → N) : Type 0 where
+  pub opened : (i m : Input) (n : N) → outer n i m → (p : P) × inner p i m × (make p (between i m) ≡ n)
+  pub made : (i m : Input) (p : P) → inner p i m → outer (make p (between i m)) i m
+
+module _ {P N : Type 0} (outer : Spelling N) (F : Form P) (make : P → Span → N) (is : IsNode outer F.spells make) where
+  pub node_form : F.empty ≡ false → IsForm F → IsForm (node outer F)
+  node_form some form = part_form (record { spells = outer; begins = F.begins; onto = F.onto; first = F.first; empty = F.empty; on = F.on }) (record {
+    whole = λ i j n h. let o = is.opened i j n h in form.whole i j o.0 o.1;
+    whole_onto = λ next i m j n h rest. let o = is.opened i m n h in form.whole_onto next i m j o.0 o.1 rest;
+    nothing = form.nothing;
+    nothing_onto = form.nothing_onto;
+    starts = λ i m n h. let o = is.opened i m n h in form.starts i m o.0 o.1;
+    first = form.first;
+    first_onto = form.first_onto;
+    reach = λ i m n h. let o = is.opened i m n h in form.reach i m o.0 o.1;
+    advances = λ e i m n h. let o = is.opened i m n h in form.advances e i m o.0 o.1;
+    local = λ c i m n h r.
+        let o = is.opened i m n h in
+        let less = form.advances some i m o.0 o.1 in
+        let rest = reach_left m c r in
+        let span : between (upto c i) (upto c m) ≡ between i m = upto_span c i m (omega arith) in
+        subst (λ n. outer n (upto c i) (upto c m)) (ap (make o.0) span ∙ o.2) (is.made (upto c i) (upto c m) o.0 (form.local c i m o.0 o.1 r));
+  })
+
+  module _ (some : F.empty ≡ false) (s : Reading P) (read : IsLast F s) (p : Parser N) (f : Input → P → Parser N) (same : (i : Input) → p i ≡ s N (f i) i) (makes : (i m : Input) (x : P) → f i x m ≡ Ok (make x (between i m), m)) where
+    pub node_lawful : IsLawful (node outer F) p
+    node_lawful = record { form = node_form some read.form; placed = placed; sound = sound; complete = complete; reaches = reaches }
+      where
+        placed : (i : Input) → Placed F.begins i (p i)
+        placed i = subst (λ (o : ReadResult N). Placed F.begins i o) (sym (same i)) (read.last N (f i) (λ x a. (make x (between i a), makes i a x)) i)
+
+        sound : Sound p outer
+        sound i j n h = let g = read.sound N (f i) i j n (sym (same i) ∙ h) in answered outer i j g.1 (make g.0 (between i g.1)) n (is.made i g.1 g.0 g.2) (sym (makes i g.1 g.0) ∙ g.3)
+
+        complete : Complete p outer (Ends F)
+        complete i j n h end = let o = is.opened i j n h in same i ∙ read.complete N (f i) i j o.0 o.1 end ∙ makes i j o.0 ∙ ap (λ n. Ok (n, j)) o.2
+
+        reaches : Reaches p outer
+        reaches i m n h =
+            let o = is.opened i m n h in
+            subst (λ (r : ReadResult N). Reached i n m r) (sym (same i)) (read.reached N (f i) on i m m o.0 n o.1 (inl refl) (inl (makes i m o.0 ∙ ap (λ n. Ok (n, m)) o.2)))
+          where
+            on : (x : P) → IsOnward (f i x)
+            on x a = rw (makes i a x) (stays (make x (between i a)) a)
+
+-- ---- what begins a form, in other words
+
+module _ {A : Type 0} (B : Beginning) (F : Form A) (p : Parser A) (law : IsLawful F p) (to : (i m : Input) → F.begins i m → B i m) (back : (i m : Input) → B i m → F.begins i m) where
+  pub begun_lawful : IsLawful (begun B F) p
+  begun_lawful = record {
+    form = part_form (record { spells = F.spells; begins = B; onto = F.onto; first = F.first; empty = F.empty; on = F.on }) (record {
+      whole = λ i j x h. to i j (law.form.whole i j x h);
+      whole_onto = law.form.whole_onto;
+      nothing = λ i. to i i (law.form.nothing i);
+      nothing_onto = law.form.nothing_onto;
+      starts = law.form.starts;
+      first = λ i m b. law.form.first i m (back i m b);
+      first_onto = law.form.first_onto;
+      reach = law.form.reach;
+      advances = law.form.advances;
+      local = law.form.local;
+    });
+    placed = λ i. same_pieces F.begins B i (p i) (to i) (back i) (law.placed i);
+    sound = law.sound;
+    complete = law.complete;
+    reaches = law.reaches;
+  }
+
+-- ---- a parser by itself
+
+pure_same : {A : Type 0} (o : ReadResult A) → and_then o (λ x a. Ok (x, a)) ≡ o
+pure_same (Ok p) = refl
+pure_same (Err e) = refl
+
+pub one_lawful : {A : Type 0} {F : Form A} {p : Parser A} → IsLast F (one p) → IsLawful F p
+one_lawful {A} {F} {p} read = record { form = read.form; placed = placed; sound = sound; complete = complete; reaches = reaches }
+  where
+    same : (i : Input) → one p A (λ x a. Ok (x, a)) i ≡ p i
+    same i = pure_same (p i)
+
+    placed : (i : Input) → Placed F.begins i (p i)
+    placed i = subst (λ (o : ReadResult A). Placed F.begins i o) (same i) (read.last A (λ x a. Ok (x, a)) (λ x a. (x, refl)) i)
+
+    sound : Sound p F.spells
+    sound i j x h = let g = read.sound A (λ x a. Ok (x, a)) i j x (same i ∙ h) in answered F.spells i j g.1 g.0 x g.2 g.3
+
+    complete : Complete p F.spells (Ends F)
+    complete i j x h end = sym (same i) ∙ read.complete A (λ x a. Ok (x, a)) i j x h end
+
+    reaches : Reaches p F.spells
+    reaches i m x h = subst (λ (o : ReadResult A). Reached i x m o) (same i) (read.reached A (λ x a. Ok (x, a)) (λ x a. stays x a) i m m x x h (inl refl) (inl refl))
+
+-- ---- a form of which less is known
+
+module _ {A : Type 0} (F : Form A) (p : Parser A) (law : IsLawful F p) (first on : Kind → Bool) (some : F.empty ≡ false) (begins : of_all (λ x. not (F.first x) || first x) ≡ true) (goes : of_all (λ x. not (F.on x) || on x) ≡ true) where
+  pub known_lawful : IsLawful (hole F.spells F.begins first on) p
+  known_lawful = record { form = form; placed = law.placed; sound = law.sound; complete = λ i j x h end. law.complete i j x h (ends j end); reaches = law.reaches }
+    where
+      starts : (i : Input) → Starts F i → first (kind i) ≡ true
+      starts i s = within F.first first begins (kind i) s
+
+      ends : (j : Input) → on (kind j) ≡ false → Ends F j
+      ends j end = when (F.on (kind j)) (λ e. let no : true ≡ false = sym (within F.on on goes (kind j) e) ∙ end in cc)
+
+      begun_first : (i m : Input) → (i ≡ m) ⊎ Starts F i → (i ≡ m) ⊎ (first (kind i) ≡ true)
+      begun_first i m (inl e) = inl e
+      begun_first i m (inr s) = inr (starts i s)
+
+      form : IsForm (hole F.spells F.begins first on)
+      form = part_form (record { spells = F.spells; begins = F.begins; onto = Then F.begins F.spells; first = first; empty = false; on = on }) (record {
+        whole = law.form.whole;
+        whole_onto = λ next i m j x h n. inr (x, m, h, n);
+        nothing = law.form.nothing;
+        nothing_onto = λ next i n. inl (law.form.nothing i);
+        starts = λ i m x h. inr (starts i (begins_so F law.form some i m x h));
+        first = λ i m b. begun_first i m (law.form.first i m b);
+        first_onto = onto;
+        reach = law.form.reach;
+        advances = λ e. law.form.advances some;
+        local = law.form.local;
+      })
+        where
+          onto : (next : Beginning) (i m : Input) → Then F.begins F.spells next i m → (i ≡ m) ⊎ ((first (kind i) ≡ true) ⊎ ((false ≡ true) × next i m))
+          onto next i m (inr h) = inr (inl (starts i (begins_so F law.form some i h.1 h.0 h.2)))
+          onto next i m (inl b) = by (law.form.first i m b)
+            where
+              by : (i ≡ m) ⊎ Starts F i → (i ≡ m) ⊎ ((first (kind i) ≡ true) ⊎ ((false ≡ true) × next i m))
+              by (inl e) = inl e
+              by (inr s) = inr (inl (starts i s))
+
+-- a form that nothing spells
+pub never_lawful : {A : Type 0} (P : Spelling A) (first on : Kind → Bool) → ((i j : Input) (x : A) → P x i j → ⊥) → IsLawful (hole P Nothing first on) refuse
+unfolding refusal
+never_lawful {A} P first on never = record {
+  form = record {
+    whole = λ i j x h. absurd (never i j x h);
+    whole_onto = λ next i m j x h n. inr (x, m, h, n);
+    nothing = λ i. refl;
+    nothing_onto = λ next i n. inl refl;
+    starts = λ i m x h. absurd (never i m x h);
+    first = λ i m e. inl e;
+    first_onto = onto;
+    reach = λ i j x h. absurd (never i j x h);
+    advances = λ e i j x h. absurd (never i j x h);
+    local = λ c i m x h r. absurd (never i m x h);
+  };
+  placed = λ i. refused Nothing i refl (λ m e. e);
+  sound = λ i j x h. absurd (cc);
+  complete = λ i j x h end. absurd (never i j x h);
+  reaches = λ i m x h. absurd (never i m x h);
+}
+  where
+    onto : (next : Beginning) (i m : Input) → Then Nothing P next i m → (i ≡ m) ⊎ ((first (kind i) ≡ true) ⊎ ((false ≡ true) × next i m))
+    onto next i m (inl e) = inl e
+    onto next i m (inr h) = absurd (never i h.1 h.0 h.2)

@@ -1,0 +1,89 @@
+-- The laws of each way of putting parts together, in the order in which a production has them.
+use Rattle.std.proofs.Common.{◌≡◌, ℕ, Bool, true, false, refl, sym, ap, ◌∙◌}
+use Rattle.std.specs.Prelude.{◌||◌, not}
+use Rattle.estelle_tree.specs.declared.kind.Kind.{Kind}
+use Rattle.estelle_tree.specs.declared.kind.Kind.TheVariants as k
+use Rattle.estelle_tree.specs.declared.span.Span.{Span}
+use Rattle.estelle_tree.specs.Input.{Input, kind, next, start, between}
+use Rattle.estelle_tree.specs.Spelling.{Spelling, Ended}
+use Rattle.token_reader.specs.Reader.{Parser, pure}
+use Rattle.token_reader.specs.Lists as lists
+use Rattle.token_reader.specs.Lists.{ended}
+use Rattle.token_reader.proofs.Sound.{ok_pair}
+use Rattle.syntax_forms.specs.Kinds.{is, of_all, Apart}
+use Rattle.syntax_forms.specs.Form as form
+use Rattle.syntax_forms.specs.Form.{Form, ◌▸◌, ◌⊕◌}
+use Rattle.syntax_forms.specs.Reading.{Reading, one, ◌then◌, choose, levelled, closed}
+use Rattle.syntax_forms.proofs.Lawful.{begins_so, IsForm, IsLast, IsRead, IsLawful, Follows, Starts}
+use Rattle.syntax_forms.proofs.RowForms.{then_last, then_read}
+use Rattle.syntax_forms.proofs.ChoiceForms.{choice_last, choice_read, level_read}
+use Rattle.syntax_forms.proofs.ListForms.{separated_read}
+use Rattle.syntax_forms.proofs.SeveralForms.{several_read}
+use Rattle.syntax_forms.proofs.KindLaws.{within}
+use Rattle.syntax_forms.proofs.Local.{upto, upto_end}
+use Rattle.syntax_forms.proofs.NodeForms.{IsNode, node_lawful, part_read}
+pub use Rattle.syntax_forms.proofs.TokenForms.{word_read as word, name_read as name, number_read as number, char_read as char}
+pub use Rattle.syntax_forms.proofs.MarkForms.{flag_read as flag, mark_read as mark}
+
+-- the one and then the other; the last is followed by nothing
+module _ {A B : Type 0} {F : Form A} {G : Form B} {s : Reading A} {t : Reading B} where
+  pub and : IsRead F s → IsRead G t → Follows F G → IsRead (F ▸ G) (s then t)
+  and first second follows = then_read F G first.form second.form s t first follows second
+
+  pub and_last : IsRead F s → IsLast G t → Follows F G → IsLast (F ▸ G) (s then t)
+  and_last first second follows = then_last F G first.form second.form s t first follows second
+
+  -- the one or the other
+  pub or : IsRead F s → IsRead G t → (F.empty || G.empty) ≡ false → Apart F.first G.first → IsRead (F ⊕ G) (choose F.first s t)
+  or first second some differ = choice_read F G first.form second.form s t some differ first second
+
+  pub or_last : IsLast F s → IsLast G t → (F.empty || G.empty) ≡ false → Apart F.first G.first → IsLast (F ⊕ G) (choose F.first s t)
+  or_last first second some differ = choice_last F G first.form second.form s t some differ first second
+
+-- a part that a parser of its own reads
+pub part : {A : Type 0} {F : Form A} {p : Parser A} → IsLawful F p → IsRead (form.part F) (one p)
+part {F = F} {p = p} law = part_read F p law
+
+-- `x {k x}`
+pub separated : {A : Type 0} {F : Form A} {p : Parser A} (k' : Kind) → IsLawful F p → is k' k.Nothing ≡ false → F.empty ≡ false → F.on k' ≡ false → IsRead (form.separated k' F) (one (lists.separated k' p))
+separated {F = F} {p = p} k' law = separated_read k' F p law
+
+-- a node of its parts and its span
+pub spanned : {P N : Type 0} {outer : Spelling N} {F : Form P} {make : P → Span → N} {s : Reading P} (p : Parser N)
+    → IsNode outer F.spells make → F.empty ≡ false → IsLast F s → ((i : Input) → p i ≡ s N (closed make (start i)) i) → IsLawful (form.node outer F) p
+unfolding between
+spanned {outer = outer} {F = F} {make = make} {s = s} p told some read same = node_lawful outer F make told some s read p (λ i. closed make (start i)) same (λ i m x. refl)
+
+-- a node of its parts alone
+pub made : {P N : Type 0} {outer : Spelling N} {F : Form P} {make : P → N} {s : Reading P} (p : Parser N)
+    → IsNode outer F.spells (λ x span. make x) → F.empty ≡ false → IsLast F s → ((i : Input) → p i ≡ s N (λ x. pure (make x)) i) → IsLawful (form.node outer F) p
+made {outer = outer} {F = F} {make = make} {s = s} p told some read same = node_lawful outer F (λ x span. make x) told some s read p (λ i x. pure (make x)) same (λ i m x. refl)
+
+-- `k x`, where k opens a level of nesting
+pub level : {A : Type 0} {F : Form A} {s : Reading A} (room : ℕ) (k' : Kind) → is k' k.Nothing ≡ false → IsRead F s → IsRead (form.level room k' F) (levelled room k' s)
+level {F = F} {s = s} room k' is_token read = level_read room k' F read.form s is_token read
+
+-- `x ";"`
+pub line : {A : Type 0} {F : Form A} {p : Parser A} → IsLawful F p → F.empty ≡ false → Follows F (form.word k.Semicolon) → IsLawful (form.line F) (ended k.Semicolon p)
+unfolding ended
+line {A} {F} {p} law some follows = made (ended k.Semicolon p) told (rw some refl) (and (part law) (word k.Semicolon refl) follows).rest (λ i. refl)
+  where
+    told : IsNode (Ended k.Semicolon F.spells) (form.part F ▸ form.word k.Semicolon).spells (λ x span. x.0)
+    told = record { opened = λ i m x h. ((x, tt), (h.mid, h.item, h.mark), refl); made = λ i m x h. record { mid = h.0; item = h.1; mark = h.2 } }
+
+-- `{x}+`
+pub several : {A : Type 0} {F : Form A} {p : Parser A} (begins : Kind → Bool) → IsLawful F p → F.empty ≡ false → Follows F F → F.first k.Nothing ≡ false → ((x : Kind) → begins x ≡ F.first x) → ((i : Input) → Starts F i → F.begins i (next i))
+    → IsRead (form.several F) (one (lists.several begins p))
+several {F = F} {p = p} begins law some follows none tells takes = several_read F p law some follows none begins tells takes
+
+-- at most one thing is spelled by the tokens between two places
+pub at_most_one : {A : Type 0} {F : Form A} {p : Parser A} → IsLawful F p → F.on k.Nothing ≡ false → (x y : A) (i j : Input) → F.spells x i j → F.spells y i j → x ≡ y
+at_most_one {F = F} {p = p} law ends x y i j a b =
+    let c = law.form.local j i j x a (0, refl) in
+    let d = law.form.local j i j y b (0, refl) in
+    let end : F.on (kind (upto j j)) ≡ false = rw (upto_end j) ends in
+    ap (λ p. p.0) (ok_pair x y (upto j j) (upto j j) (sym (law.complete (upto j i) (upto j j) x c end) ∙ law.complete (upto j i) (upto j j) y d end))
+
+-- with these terminals it begins
+pub begins_with : {A : Type 0} {F : Form A} (begins : Kind → Bool) → IsForm F → F.empty ≡ false → of_all (λ x. not (F.first x) || begins x) ≡ true → (i j : Input) (x : A) → F.spells x i j → begins (kind i) ≡ true
+begins_with {F = F} begins form some all i j x h = within F.first begins all (kind i) (begins_so F form some i j x h)
