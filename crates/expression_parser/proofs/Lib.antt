@@ -1,3 +1,6 @@
+pub mod TermForms
+pub mod VariableForms
+pub mod FactorForms
 pub mod Sound
-pub mod Places
 pub mod Complete
+pub mod Places

@@ -1,2 +1,3 @@
 pub mod Expression
 pub mod Laws
+pub mod Forms

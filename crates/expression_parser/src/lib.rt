@@ -1,5 +1,5 @@
 //! The parser of expressions, of lists of them, and of variables, as a recursive descent over one level
-//! of nesting at a time. It stands on the steps of `token_reader` and on the trees of `estelle_tree`.
+//! of nesting at a time. It stands on the steps of `token_reader`, on forms and on trees.
 //! What it reads is spelled so, what is spelled so is read, and at most one tree is spelled so: the laws
 //! in `laws` say it, for each room that is left for nesting.
 #![tactic(auto)]

@@ -77,15 +77,15 @@ pub apart : (p q : Kind → Bool) → Apart p q → (x : Kind) → p x ≡ true 
 apart p q all x = not_both (p x) (q x) (each (λ k. not (p k && q k)) all x)
 
 -- what meets the one meets the other
-pub within : (p q : Kind → Bool) → of_all (λ k. not (p k) || q k) ≡ true → (x : Kind) → p x ≡ true → q x ≡ true
-within p q all x e = by (p x) (each (λ k. not (p k) || q k) all x) e
+pub within : (p q : Kind → Bool) → of_all (λ k. q k || not (p k)) ≡ true → (x : Kind) → p x ≡ true → q x ≡ true
+within p q all x e = by (q x) (each (λ k. q k || not (p k)) all x)
   where
-    by : (b : Bool) → (not b || q x) ≡ true → b ≡ true → q x ≡ true
-    by true h e = h
-    by false h e = absurd (cc)
+    by : (b : Bool) → (b || not (p x)) ≡ true → b ≡ true
+    by true h = refl
+    by false h = absurd (let no : not true ≡ true = ap not (sym e) ∙ h in cc)
 
 -- a form goes on with this terminal alone
-pub ends_but : (on : Kind → Bool) (last : Kind) → of_all (λ x. not (on x) || is last x) ≡ true → (x : Kind) → (x ≡ last → ⊥) → on x ≡ false
+pub ends_but : (on : Kind → Bool) (last : Kind) → of_all (λ x. is last x || not (on x)) ≡ true → (x : Kind) → (x ≡ last → ⊥) → on x ≡ false
 ends_but on last all x other = when (on x) (λ e. other (is_it last x (within on (is last) all x e)))
 
 -- nothing goes on with it
@@ -95,3 +95,7 @@ ends_always on all x = when (on x) (λ e. go (on x) (each (λ x. not (on x)) all
     go : (b : Bool) → not b ≡ true → b ≡ true → ⊥
     go true h e = cc
     go false h e = cc
+
+-- it goes on with these terminals alone
+pub ends_by : (on goes : Kind → Bool) → of_all (λ x. goes x || not (on x)) ≡ true → (x : Kind) → goes x ≡ false → on x ≡ false
+ends_by on goes all x end = when (on x) (λ e. let no : true ≡ false = sym (within on goes all x e) ∙ end in cc)

@@ -15,5 +15,7 @@ pub mod NodeForms
 pub mod ListForms
 pub mod AheadForms
 pub mod SeveralForms
+pub mod StepForms
+pub mod BehindForms
 pub mod Rules
 pub mod Local

@@ -170,7 +170,7 @@ one_lawful {A} {F} {p} read = record { form = read.form; placed = placed; sound 
 
 -- ---- a form of which less is known
 
-module _ {A : Type 0} (F : Form A) (p : Parser A) (law : IsLawful F p) (first on : Kind → Bool) (some : F.empty ≡ false) (begins : of_all (λ x. not (F.first x) || first x) ≡ true) (goes : of_all (λ x. not (F.on x) || on x) ≡ true) where
+module _ {A : Type 0} (F : Form A) (p : Parser A) (law : IsLawful F p) (first on : Kind → Bool) (some : F.empty ≡ false) (begins : of_all (λ x. first x || not (F.first x)) ≡ true) (goes : of_all (λ x. on x || not (F.on x)) ≡ true) where
   pub known_lawful : IsLawful (hole F.spells F.begins first on) p
   known_lawful = record { form = form; placed = law.placed; sound = law.sound; complete = λ i j x h end. law.complete i j x h (ends j end); reaches = law.reaches }
     where

@@ -1,5 +1,6 @@
 -- The laws of each way of putting parts together, in the order in which a production has them.
-use Rattle.std.proofs.Common.{◌≡◌, ℕ, Bool, true, false, refl, sym, ap, ◌∙◌}
+use Rattle.std.proofs.Common.{◌≡◌, ℕ, Bool, true, false, [], Option, Some, refl, sym, ap, ◌∙◌}
+use Rattle.std.specs.Option.{is_some}
 use Rattle.std.specs.Prelude.{◌||◌, not}
 use Rattle.estelle_tree.specs.declared.kind.Kind.{Kind}
 use Rattle.estelle_tree.specs.declared.kind.Kind.TheVariants as k
@@ -12,12 +13,15 @@ use Rattle.token_reader.specs.Lists.{ended}
 use Rattle.token_reader.proofs.Sound.{ok_pair}
 use Rattle.syntax_forms.specs.Kinds.{is, of_all, Apart}
 use Rattle.syntax_forms.specs.Form as form
+use Rattle.syntax_forms.specs.Repeats as repeats
 use Rattle.syntax_forms.specs.Form.{Form, ◌▸◌, ◌⊕◌}
 use Rattle.syntax_forms.specs.Reading.{Reading, one, ◌then◌, choose, levelled, closed}
 use Rattle.syntax_forms.proofs.Lawful.{begins_so, IsForm, IsLast, IsRead, IsLawful, Follows, Starts}
 use Rattle.syntax_forms.proofs.RowForms.{then_last, then_read}
 use Rattle.syntax_forms.proofs.ChoiceForms.{choice_last, choice_read, level_read}
 use Rattle.syntax_forms.proofs.ListForms.{separated_read}
+use Rattle.syntax_forms.proofs.StepForms.{may_last, many_read}
+use Rattle.syntax_forms.proofs.BehindForms.{marked_step, behind_step}
 use Rattle.syntax_forms.proofs.SeveralForms.{several_read}
 use Rattle.syntax_forms.proofs.KindLaws.{within}
 use Rattle.syntax_forms.proofs.Local.{upto, upto_end}
@@ -85,5 +89,17 @@ at_most_one {F = F} {p = p} law ends x y i j a b =
     ap (λ p. p.0) (ok_pair x y (upto j j) (upto j j) (sym (law.complete (upto j i) (upto j j) x c end) ∙ law.complete (upto j i) (upto j j) y d end))
 
 -- with these terminals it begins
-pub begins_with : {A : Type 0} {F : Form A} (begins : Kind → Bool) → IsForm F → F.empty ≡ false → of_all (λ x. not (F.first x) || begins x) ≡ true → (i j : Input) (x : A) → F.spells x i j → begins (kind i) ≡ true
+pub begins_with : {A : Type 0} {F : Form A} (begins : Kind → Bool) → IsForm F → F.empty ≡ false → of_all (λ x. begins x || not (F.first x)) ≡ true → (i j : Input) (x : A) → F.spells x i j → begins (kind i) ≡ true
 begins_with {F = F} begins form some all i j x h = within F.first begins all (kind i) (begins_so F form some i j x h)
+
+-- `[o x]` and `{o x}`, where several terminals can stand
+module _ {O A : Type 0} {F : Form A} {p : Parser A} (of : Kind → Option O) (kinds : O → Kind) (forth : (o : O) → of (kinds o) ≡ Some o) (back : (kind' : Kind) (o : O) → of kind' ≡ Some o → kind' ≡ kinds o) where
+  pub may_marked : is_some (of k.Nothing) ≡ false → IsLawful F p → IsLast (repeats.may (repeats.marked of kinds F)) (one (lists.marked of p))
+  may_marked is_token law = may_last (repeats.marked of kinds F) (lists.marked of p) (marked_step of kinds forth back is_token F p law) refl
+
+  pub many_marked : is_some (of k.Nothing) ≡ false → IsLawful F p → Follows (repeats.marked of kinds F) (repeats.marked of kinds F) → IsRead (repeats.many (repeats.marked of kinds F)) (one (lists.repeated (lists.marked of p) []))
+  many_marked is_token law follows = many_read (repeats.marked of kinds F) (lists.marked of p) (marked_step of kinds forth back is_token F p law) refl follows
+
+-- `[k x]`
+pub may_behind : {A : Type 0} {F : Form A} {p : Parser A} (k' : Kind) → is k' k.Nothing ≡ false → IsLawful F p → IsLast (repeats.may (repeats.behind k' F)) (one (lists.behind k' p))
+may_behind {F = F} {p = p} k' is_token law = may_last (repeats.behind k' F) (lists.behind k' p) (behind_step k' is_token F p law) refl

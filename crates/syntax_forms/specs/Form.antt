@@ -34,13 +34,15 @@ token k P = record { spells = P; begins = OneToken k; onto = After k; first = is
 abbrev pub word : Kind → Form (Unit {0})
 word k = token k (λ x. Takes k)
 
--- NAME, NUMBER, CHAR
+-- NAME
 abbrev pub name : Form Name
 name = token k.Name IsName
 
+-- NUMBER
 abbrev pub number : Form ℤ
 number = token k.Number IsNumber
 
+-- CHAR
 abbrev pub char : Form ℕ
 char = token k.Char IsChar
 
@@ -71,6 +73,7 @@ mark of kinds = record {
   on = λ k. is_some (of k);
 }
 
+-- what the one or the other spells
 abbrev pub Either : {A B : Type 0} → Spelling A → Spelling B → Spelling (A ⊎ B)
 Either P Q (inl x) i j = P x i j
 Either P Q (inr y) i j = Q y i j

@@ -6,3 +6,4 @@ pub mod Form
 pub mod Reading
 pub mod Types
 pub mod Definitions
+pub mod Repeats

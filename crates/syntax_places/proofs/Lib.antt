@@ -1,5 +1,3 @@
-pub mod ExpressionSound
-pub mod TermPlaces
 pub mod ExpressionPlaces
 pub mod TypePlaces
 pub mod SimplePlaces

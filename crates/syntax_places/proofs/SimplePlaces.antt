@@ -12,7 +12,7 @@ use Rattle.estelle_tree.specs.Input.{Input, kind, next, between}
 use Rattle.estelle_tree.specs.Spans.{SelectorLayer}
 use Rattle.estelle_tree.specs.Spelling.{Takes, Optional, Chain, Behind}
 use Rattle.estelle_tree.specs.Types.{IsName}
-use Rattle.estelle_tree.specs.Expressions.{IsExpr, IsArgs, IsVariable, ExprBelow, FactorBelow, SelectorLayerOf, SelectorOf}
+use Rattle.estelle_tree.specs.Expressions.{IsArgs, IsVariable, ExprBelow, FactorBelow, SelectorLayerOf, SelectorOf}
 use Rattle.estelle_tree.specs.Statements.{IsIp}
 use Rattle.estelle_tree.specs.Beginning.{Beginning, Nothing, ◌or◌, Then, After, OneToken}
 use Rattle.estelle_tree.specs.BeginsTypes.{BeginsName}
@@ -22,23 +22,15 @@ use Rattle.token_reader.specs.Reader.{Parser, and_then, name}
 use Rattle.token_reader.specs.Lists.{behind}
 use Rattle.token_reader.proofs.Sound.{Sound, through, answered, name_sound, behind_sound}
 use Rattle.expression_parser.specs.Expression.{goes_on_args, goes_on_variable, expr, args, variable, EndsExpr, EndsArgs, EndsVariable}
-use Rattle.expression_parser.proofs.Complete.{expr_complete, args_complete}
 use Rattle.statement_parser.specs.Statement.{begins_args, ip, given_args, may_be_args, assignment, call, named_by, init, release, connect, disconnect, attach, detach, output, expr_below}
 use Rattle.statement_parser.proofs.Complete.{ip_complete}
 use Rattle.syntax_forms.specs.Placed.{Placed}
 use Rattle.syntax_forms.proofs.Placing.{First, first_after, first_one, Piece, same, done, kept, followed, expected, one_token, behind_placed, optional_placed}
 use Rattle.syntax_forms.proofs.Tokens.{name_placed, name_then}
 use Rattle.syntax_forms.proofs.Following.{name_word, one_name, named_whole}
-use Rattle.syntax_places.proofs.ExpressionPlaces.{no_levels, expr_piece_at, args_piece_at, variable_piece_at}
+use Rattle.syntax_places.proofs.ExpressionPlaces.{no_levels, expr_piece, args_piece, variable_piece}
 
 -- ---- expressions
-
--- by the kinds that go on with them
-pub expr_piece : (room : ℕ) → Piece (expr room) (IsExpr room) (BeginsExpr room) EndsExpr
-expr_piece room = let piece = expr_piece_at room in record { placed = piece.placed; sound = piece.sound; complete = expr_complete room; whole = piece.whole }
-
-args_piece : (room : ℕ) → Piece (args room) (IsArgs room) (BeginsArgs room) EndsArgs
-args_piece room = let piece = args_piece_at room in record { placed = piece.placed; sound = piece.sound; complete = args_complete room; whole = piece.whole }
 
 -- one level down, where a level may open
 pub expr_below_piece : (room : ℕ) → 0 < room → Piece (expr_below room) (ExprBelow room) (BeginsExprBelow room) EndsExpr
@@ -106,7 +98,7 @@ module _ (room : ℕ) where
   assignment_placed : (i : Input) → Placed BeginsAssignment i (assignment room i)
   unfolding assignment
   assignment_placed i =
-      followed (variable room) (IsVariable room) (BeginsVariable room) (After k.Becomes (BeginsExpr room)) EndsVariable i _ (variable_piece_at room) (first_after EndsVariable k.Becomes _ (λ j e. ap goes_on_variable e)) (λ v a is.
+      followed (variable room) (IsVariable room) (BeginsVariable room) (After k.Becomes (BeginsExpr room)) EndsVariable i _ (variable_piece room) (first_after EndsVariable k.Becomes _ (λ j e. ap goes_on_variable e)) (λ v a is.
       expected k.Becomes (BeginsExpr room) a _ (λ b t.
       kept (BeginsExpr room) b (expr room b) _ ((expr_piece room).placed b) (λ e c. (_, refl))))
 

@@ -26,8 +26,8 @@ use Rattle.syntax_forms.specs.Placed.{Placed}
 use Rattle.syntax_forms.proofs.Placing.{Piece, same, ends, done, refused, opened, unopened}
 use Rattle.syntax_forms.proofs.Listing.{separated_whole}
 use Rattle.syntax_forms.proofs.Following.{name_word, one_name}
-use Rattle.syntax_places.proofs.ExpressionPlaces.{no_levels, some_levels}
-use Rattle.syntax_places.proofs.SimplePlaces.{expr_piece, expr_below_piece, AfterExpr, BeginsAssignment, BeginsCall, named_placed, init_placed, output_placed, release_placed, detach_placed, connect_placed, disconnect_placed, attach_placed, ip_piece}
+use Rattle.syntax_places.proofs.ExpressionPlaces.{no_levels, some_levels, expr_piece}
+use Rattle.syntax_places.proofs.SimplePlaces.{expr_below_piece, AfterExpr, BeginsAssignment, BeginsCall, named_placed, init_placed, output_placed, release_placed, detach_placed, connect_placed, disconnect_placed, attach_placed, ip_piece}
 use Rattle.syntax_places.proofs.NestedPlaces.{LevelBelow, stmt_piece, stmts_over_piece, case_over_piece, begin_placed, if_placed, while_placed, repeat_placed, for_placed, case_placed}
 
 -- ---- the first token tells which statement comes

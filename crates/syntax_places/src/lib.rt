@@ -1,8 +1,7 @@
 //! Where the parsers of Pascal's parts refuse: what they have taken then is the longest piece that begins
 //! the form. It stands on those parsers and on the definitions in `estelle_tree` of which pieces begin
 //! a form. The laws in `laws` and `statement_laws` say it, for each room that is left for nesting; what
-//! they follow from is proved once for each way of putting parts together, so that parsers above use it
-//! too.
+//! they follow from is proved in `syntax_forms`, once for each way of putting parts together.
 #![tactic(auto)]
 
 mod laws;

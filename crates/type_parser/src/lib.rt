@@ -1,6 +1,6 @@
 //! The parsers of names, constants, types, definitions and formal parameters (ISO 7185). It stands on
-//! the steps of `token_reader`. Each function reads what its parser in `specs/` reads; `proofs/` show
-//! that what those read is spelled so, and that what is spelled so is read.
+//! the steps of `token_reader` and on the forms of `syntax_forms`. Each function reads what its parser in
+//! `specs/` reads; `proofs/` show that those parsers read the forms.
 #![tactic(auto)]
 
 mod definition;
