@@ -198,7 +198,7 @@ own_tellable spec tokens rest spells follow few kept readable =
     }
 
 pub runs_have_form : RunsHaveForm
-runs_have_form spec uses tokens rest spells follow top is kept budget events e run closes most =
+runs_have_form spec uses tokens rest spells follow top is kept budget events e run closes fits =
     let readable = parameters_are_readable spec uses tokens rest spells follow top is kept in
     let tellable = own_tellable spec tokens rest spells follow (few_in tokens rest follow top) kept (subst (λ us. HasReadableParameters (record { specification = spec; names = us })) is readable) in
-    run_form (record { specification = spec; names = uses }) (subst (λ us. IsTellable (record { specification = spec; names = us })) (sym is) tellable) budget events run e closes most
+    run_form (record { specification = spec; names = uses }) (subst (λ us. IsTellable (record { specification = spec; names = us })) (sym is) tellable) budget events run e closes fits

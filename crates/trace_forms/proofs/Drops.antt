@@ -1,5 +1,5 @@
--- The numbers of what an event drops rise, and are those of outputs that there have been.
-use Rattle.std.proofs.Common.{length-append, ◌≡◌, ℕ, suc, ◌+◌, ◌≤◌, ◌<◌, Bool, true, false, List, [], ◌∷◌, ◌++◌, length, map as each, Ok, Err, Option, Some, None, cond, arith, refl}
+-- The numbers of what an event drops rise.
+use Rattle.std.proofs.Common.{length-append, ◌≡◌, ℕ, suc, ◌+◌, ◌^◌, ◌≤◌, Bool, true, false, List, [], ◌∷◌, ◌++◌, length, map as each, Ok, Err, Option, Some, None, cond, arith, refl}
 use Rattle.std.specs.Prelude.{filter, fold, nat_lt, nat_eq}
 use Rattle.std.specs.List.{AllByRecursion}
 use Rattle.std.specs.FinMap as map
@@ -20,6 +20,7 @@ use Rattle.estelle_model.specs.Situation.{Situation, Acting, on_situation, actin
 use Rattle.estelle_model.specs.Queues.{Found, NotNeeded, Head, Absent, received}
 use Rattle.estelle_model.specs.Firing.{Firing, Ran, Failed, Undefined, begun, done, untimed, taken, fire_with, fire_found, fire_of, fire, transition_at, start, bare}
 use Rattle.estelle_model.specs.Runs.{next, IsRun, started, situation}
+use Rattle.trace_text.specs.Forms.{IsNumber}
 use Rattle.estelle_model_fates.specs.Fates.{Fate, outs_of, dropped_by, lost_after, consumed_by, times, numbers, fates_by, fates_from, fates}
 use Rattle.estelle_model_fates.specs.Fates as fates
 use Rattle.estelle_model_fates.proofs.EveryBlock.{IsInvariant, Ends, fire_step_ends, start_step_ends}
@@ -143,9 +144,6 @@ none_first d (n ∷ ns) h e = (by (nat_eq d n) refl e, h.1)
     by true is z = absurd (omega (arith, z))
     by false is z = let low = h.0 in grind (arith, nat_tests, is, low)
 
-below_of : (d made : ℕ) → 1 ≤ one_below d made → d ≤ made
-below_of d made h = grind (arith, nat_tests)
-
 itself : (d : ℕ) → one_if d d ≡ 1
 itself d = grind (arith, nat_tests)
 
@@ -155,11 +153,11 @@ at_most_one d made = grind (arith, nat_tests)
 later_less : (d made : ℕ) (ds : List ℕ) → AreOnce made (d ∷ ds) → AreOnce made ds
 later_less d made ds h i = let x = h i in omega (arith, x)
 
-pub rise : (low made high : ℕ) (ds : List ℕ) → SortedFrom low ds → AreOnce made ds → low ≤ high → made < high → IsRising low ds high
-rise low made high [] h once within below = within
-rise low made high (d ∷ ds) h once within below =
+pub rise : (low made : ℕ) (ds : List ℕ) → SortedFrom low ds → AreOnce made ds → AllByRecursion IsNumber ds → low ≤ 2 ^ 64 → IsRising low ds (2 ^ 64)
+rise low made [] h once fits within = within
+rise low made (d ∷ ds) h once fits within =
     let x = once d in
     let y = itself d in
     let z = at_most_one d made in
-    let last : d ≤ made = below_of d made (omega (arith, x, y)) in
-    (h.0, rise (d + 1) made high ds (none_first d ds h.1 (omega (arith, x, y, z))) (later_less d made ds once) (omega (arith, last, below)) below)
+    let last = fits.0.1 in
+    (h.0, rise (d + 1) made ds (none_first d ds h.1 (omega (arith, x, y, z))) (later_less d made ds once) fits.1 (omega (arith, last)))

@@ -35,9 +35,9 @@ module _ {A : Type 0} (P : A → Type 0) where
   all_at (y ∷ ys) zero x h e = let is : y ≡ x = cc in subst P is h.0
   all_at (y ∷ ys) (suc n) x h e = all_at ys n x h.1 e
 
-  pub all_has : (xs : List A) → ((x : A) → Has xs x → P x) → AllByRecursion P xs
-  all_has [] h = tt
-  all_has (x ∷ xs) h = (h x (inl refl), all_has xs (λ y k. h y (inr k)))
+  pub all_has : (Q : A → Type 0) (xs : List A) → ((x : A) → Has xs x → Q x → P x) → AllByRecursion Q xs → AllByRecursion P xs
+  all_has Q [] h q = tt
+  all_has Q (x ∷ xs) h q = (h x (inl refl) q.0, all_has Q xs (λ y k. h y (inr k)) q.1)
 
 pub all_map : {A B : Type 0} (Q : A → Type 0) (P : B → Type 0) (f : A → B) → ((a : A) → Q a → P (f a)) → (xs : List A) → AllByRecursion Q xs → AllByRecursion P (map f xs)
 all_map Q P f h [] k = tt

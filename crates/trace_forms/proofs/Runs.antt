@@ -1,6 +1,5 @@
 -- The events and the end of every run have the form that a trace can tell.
-use Rattle.std.proofs.Common.{◌≡◌, ℕ, zero, suc, ◌+◌, ◌*◌, ◌^◌, ◌<◌, ◌≤◌, true, List, [], ◌∷◌, length, Option, Some, None, refl, arith, sym, subst, ◌∙◌, inl, inr}
-use Rattle.std.specs.Prelude.{◌-◌}
+use Rattle.std.proofs.Common.{◌≡◌, ℕ, zero, suc, ◌+◌, ◌≤◌, true, List, [], ◌∷◌, Option, Some, None, refl, arith, sym, subst, ◌∙◌, inl, inr}
 use Rattle.std.specs.List.{AllByRecursion}
 use Rattle.std.specs.FinMap as fin
 use Rattle.std.proofs.lemmas.Option.{slice_get_within}
@@ -21,15 +20,15 @@ use Rattle.estelle_model.specs.Subject.{Subject, transitions, transition}
 use Rattle.estelle_model.specs.Situation.{Situation}
 use Rattle.estelle_model.specs.Firing.{Firing, Ran, Failed, Undefined, transition_at, fire_of, fire, start, untimed, guard_of, guard_at, guard}
 use Rattle.estelle_model.specs.Delays.{is_on, renew}
-use Rattle.estelle_model.specs.Runs.{MaySelect, HasRun, HasFailed, Applies, IsLastIfFault, fired, next, Goes, Begins, IsRun, started, after_events, situation}
+use Rattle.estelle_model.specs.Runs.{MaySelect, HasRun, HasFailed, Applies, IsLastIfFault, fired, next, Goes, Begins, IsRun, situation}
 use Rattle.estelle_model.specs.Ends.{last_event, IsNoFault, IsFault, Closes}
 use Rattle.estelle_model_legality.proofs.Lists.{and_both}
 use Rattle.estelle_model_legality.proofs.Selected.{selected as legal_selected}
 use Rattle.estelle_model_legality.proofs.Systems.{system_there}
 use Rattle.estelle_model_fates.specs.Fates.{dropped_by}
-use Rattle.situation_units.proofs.Weighing.{firings_are_within, starts_are_within}
 use Rattle.trace_text.specs.Forms.{IsPath, IsTransition, IsPair, IsOut, AreOutcome, IsLater, EndsBehind, GoOn, HasForm}
-use Rattle.trace_forms.proofs.Instances.{PathWithin, path_more}
+use Rattle.trace_forms.specs.Numbers.{PathFits, OutFits, OutcomeFits, PairFits, EventFits, NumbersFit}
+use Rattle.trace_forms.proofs.Instances.{PathWithin}
 use Rattle.trace_forms.proofs.Selections.{takes_in_order}
 use Rattle.trace_forms.proofs.Drops.{AreOnce, HasSorted, SortedFrom, start_sorted, fire_sorted, drops_once, rise}
 use Rattle.trace_forms.proofs.Acts.{OutWithin}
@@ -38,15 +37,16 @@ use Rattle.trace_forms.proofs.Lists.{all_has}
 
 -- ---- fields
 
-path_form : (n : ℕ) (p : Path) → n < 2 ^ 64 → PathWithin n p → IsPath p
-path_form n p h k = path_more n (2 ^ 64 - 1) p (omega (arith, h)) k
+path_form : (n : ℕ) (p : Path) → PathWithin n p → PathFits p → IsPath p
+path_form n [] h k = tt
+path_form n (x ∷ p) h k = ((h.0.0, k.0.1), path_form n p h.1 k.1)
 
-outs_form : (n : ℕ) (outs : List Out) → n < 2 ^ 64 → AllByRecursion (OutWithin n) outs → AllByRecursion IsOut outs
+outs_form : (n : ℕ) (outs : List Out) → AllByRecursion (OutWithin n) outs → AllByRecursion OutFits outs → AllByRecursion IsOut outs
 outs_form n [] h k = tt
-outs_form n (o ∷ outs) h k = (record { path = path_form n o.path h k.0.path; ip = k.0.ip; name = k.0.name; values = k.0.values }, outs_form n outs h k.1)
+outs_form n (o ∷ outs) h k = (record { path = path_form n o.path h.0.path k.0; ip = h.0.ip; name = h.0.name; values = h.0.values }, outs_form n outs h.1 k.1)
 
-outcome_form : (n made : ℕ) (outs : List Out) (drops : List ℕ) → n < 2 ^ 64 → made < 2 ^ 64 → AllByRecursion (OutWithin n) outs → SortedFrom 0 drops → AreOnce made drops → AreOutcome outs drops
-outcome_form n made outs drops h top k sorted once = (outs_form n outs h k, rise 0 made (2 ^ 64) drops sorted once (omega arith) top)
+outcome_form : (n made : ℕ) (outs : List Out) (drops : List ℕ) → AllByRecursion (OutWithin n) outs → SortedFrom 0 drops → AreOnce made drops → OutcomeFits outs drops → AreOutcome outs drops
+outcome_form n made outs drops h sorted once fits = (outs_form n outs h fits.0, rise 0 made drops sorted once fits.1 (omega arith))
 
 -- ---- the end
 
@@ -71,32 +71,6 @@ no_fault (Start outs drops) f es h = tt
 no_fault (Select system now takes) f es h = tt
 no_fault (Fire m n outs drops) f es h = tt
 no_fault (Fault m n kind) f es h = absurd (cc)
-
--- ---- how many outputs there can be
-
-module _ (s : Subject) (budget : ℕ) where
-  fired_made : (g : Situation) (m : Path) (n : ℕ) (f : Firing) → fire s budget g m n ≡ f → (fired (pair m n) g f).made ≤ g.made + budget
-  fired_made g m n (Ran after outs drops left) e = (firings_are_within s budget g m n after outs drops left e).made
-  fired_made g m n (Failed kind left) e = omega arith
-  fired_made g m n Undefined e = omega arith
-
-  next_made : (g : Situation) (e : Event) → (next s budget g e).made ≤ g.made + budget
-  next_made g (Start outs drops) = omega arith
-  next_made g (Select system now takes) = omega arith
-  next_made g (Fire m n outs drops) = fired_made g m n (fire s budget g m n) refl
-  next_made g (Fault m n kind) = omega arith
-
-  all_made : (es : List Event) (g : Situation) → (after_events s budget g es).made ≤ g.made + budget * length es
-  all_made [] g = omega arith
-  all_made (e ∷ es) g = let x = next_made g e in let y = all_made es (next s budget g e) in omega (arith, x, y)
-
-  started_made : (f : Firing) → start s budget ≡ f → (started s f).made ≤ budget
-  started_made (Ran after outs drops left) e = let h = (starts_are_within s budget after outs drops left e).made in omega (arith, h)
-  started_made (Failed kind left) e = omega arith
-  started_made Undefined e = omega arith
-
-  run_made : (e : Event) (es : List Event) → (situation s budget (e ∷ es)).made ≤ budget * length (e ∷ es)
-  run_made e es = let x = started_made (start s budget) refl in let y = all_made es (started s (start s budget)) in omega (arith, x, y)
 
 -- ---- later events
 
@@ -133,8 +107,8 @@ module _ (s : Subject) (tellable : IsTellable s) (budget : ℕ) where
       by None there k = absurd (never k)
       by (Some i) there k = of_instance i there (transition s i.body n) refl k
 
-  told_path : (n : ℕ) (g : Situation) → n < 2 ^ 64 → IsWithin n g → (p : Path) (k : ℕ) → IsTold g p k → IsPath p
-  told_path n g top h p k t = path_form n p top (h.instances.each p t.instance t.there).path
+  told_path : (n : ℕ) (g : Situation) → IsWithin n g → (p : Path) (k : ℕ) → IsTold g p k → PathFits p → IsPath p
+  told_path n g h p k t fits = path_form n p (h.instances.each p t.instance t.there).path fits
 
   on_not_off : (x : Guard) → is_on x ≡ true → x ≡ Off → ⊥
   on_not_off (On low high) e f = absurd (cc)
@@ -145,18 +119,18 @@ module _ (s : Subject) (tellable : IsTellable s) (budget : ℕ) where
   failed_not_off kind x e f = let wrong : Faulted kind ≡ Off = sym e ∙ f in absurd (cc)
 
   -- a selection
-  select_form : (n : ℕ) (g : Situation) → n < 2 ^ 64 → IsWithin n g → (system : Path) (now : ℕ) (takes : List Pair) → MaySelect s budget g system now takes → IsLater (Select system now takes)
-  select_form n g top h system now takes m =
+  select_form : (n : ℕ) (g : Situation) → IsWithin n g → (system : Path) (now : ℕ) (takes : List Pair) → EventFits (Select system now takes) → MaySelect s budget g system now takes → IsLater (Select system now takes)
+  select_form n g h system now takes fits m =
       let there = system_there s g system m.is_system in
       let last = m.moment in
       let all = legal_selected s budget (renew s budget g system now) m.selects in (
-        path_form n system top (h.instances.each system there.0 there.1).path,
+        path_form n system (h.instances.each system there.0 there.1).path fits.0,
         (omega arith, omega (arith, last)),
         (
-          all_has IsPair takes (λ p k.
+          all_has IsPair PairFits takes (λ p k f.
               let on = and_both (is_on (guard s budget (renew s budget g system now) p.path p.trans)) _ (all.may p k) in
               let t = guard_told (renew s budget g system now) p.path p.trans (on_not_off (guard s budget (renew s budget g system now) p.path p.trans) on.0) in
-              (path_form n p.path top (h.instances.each p.path t.instance t.there).path, t.number)),
+              (path_form n p.path (h.instances.each p.path t.instance t.there).path f, t.number)) fits.1,
           takes_in_order s budget (renew s budget g system now) system takes m.selects,
         ),
       )
@@ -178,46 +152,45 @@ module _ (s : Subject) (tellable : IsTellable s) (budget : ℕ) where
   next_within n g (Fire m k outs drops) h = fired_within n (n + budget) g (pair m k) (fire s budget g m k) (omega arith) h (fire_within s tellable budget n (n + budget) (omega arith) g h m k)
   next_within n g (Fault m k kind) h = later_within n (n + budget) g (omega arith) h
 
-  module _ (made : ℕ) (made_top : made < 2 ^ 64) where
-    later_form : (n : ℕ) (g : Situation) → n + budget < 2 ^ 64 → IsWithin n g → (e : Event) → AreOnce made (dropped_by e) → Applies s budget g e → IsLater e
-    later_form n g top h (Start outs drops) once a = absurd a
-    later_form n g top h (Select system now takes) once a = select_form n g (omega (arith, top)) h system now takes a
-    later_form n g top h (Fire m k outs drops) once a =
+  module _ (made : ℕ) where
+    later_form : (n : ℕ) (g : Situation) → IsWithin n g → (e : Event) → EventFits e → AreOnce made (dropped_by e) → Applies s budget g e → IsLater e
+    later_form n g h (Start outs drops) fits once a = absurd a
+    later_form n g h (Select system now takes) fits once a = select_form n g h system now takes fits a
+    later_form n g h (Fire m k outs drops) fits once a =
         let t = fire_told (HasRun outs drops) (λ none. none) g m k a.ran in
         let r = run_outs (n + budget) (fire s budget g m k) (fire_within s tellable budget n (n + budget) (omega arith) g h m k) (fire_sorted s budget g m k) outs drops a.ran in
-        (told_path n g (omega (arith, top)) h m k t, t.number, outcome_form (n + budget) made outs drops top made_top r.0 r.1 once)
-    later_form n g top h (Fault m k kind) once (inl a) = let t = fire_told (HasFailed kind) (λ none. none) g m k a.failed in (told_path n g (omega (arith, top)) h m k t, t.number)
-    later_form n g top h (Fault m k kind) once (inr a) = let t = guard_told g m k (failed_not_off kind (guard s budget g m k) a.first.faults) in (told_path n g (omega (arith, top)) h m k t, t.number)
+        (told_path n g h m k t fits.0, t.number, outcome_form (n + budget) made outs drops r.0 r.1 once fits.1)
+    later_form n g h (Fault m k kind) fits once (inl a) = let t = fire_told (HasFailed kind) (λ none. none) g m k a.failed in (told_path n g h m k t fits, t.number)
+    later_form n g h (Fault m k kind) fits once (inr a) = let t = guard_told g m k (failed_not_off kind (guard s budget g m k) a.first.faults) in (told_path n g h m k t fits, t.number)
 
-    goes_form : (es : List Event) (n : ℕ) (g : Situation) → n + budget * length es < 2 ^ 64 → IsWithin n g → Goes s budget g es → AllByRecursion (λ (e : Event). AreOnce made (dropped_by e)) es
+    goes_form : (es : List Event) (n : ℕ) (g : Situation) → IsWithin n g → Goes s budget g es → AllByRecursion EventFits es → AllByRecursion (λ (e : Event). AreOnce made (dropped_by e)) es
         → (last : Event) → IsLastIfFault last es → (e : End) → EndsAt (last_event (last ∷ es)) e → GoOn last es e
-    goes_form [] n g top h goes once last is e ends = ends_behind last e ends
-    goes_form (f ∷ es) n g top h goes once last is e ends = (
+    goes_form [] n g h goes fits once last is e ends = ends_behind last e ends
+    goes_form (f ∷ es) n g h goes fits once last is e ends = (
       no_fault last f es is,
-      later_form n g (omega (arith, top)) h f once.0 goes.0,
-      goes_form es (n + budget) (next s budget g f) (omega (arith, top)) (next_within n g f h) goes.2 once.1 f goes.1 e ends,
+      later_form n g h f fits.0 once.0 goes.0,
+      goes_form es (n + budget) (next s budget g f) (next_within n g f h) goes.2 fits.1 once.1 f goes.1 e ends,
     )
 
     -- ---- from the start on
 
-    start_form : (first : Firing) → FiredWithin budget first → HasSorted first → (f : Event) (es : List Event) → Begins s budget first f es → budget * length (f ∷ es) < 2 ^ 64 → AllByRecursion (λ (e : Event). AreOnce made (dropped_by e)) (f ∷ es)
+    start_form : (first : Firing) → FiredWithin budget first → HasSorted first → (f : Event) (es : List Event) → Begins s budget first f es → AllByRecursion EventFits (f ∷ es) → AllByRecursion (λ (e : Event). AreOnce made (dropped_by e)) (f ∷ es)
         → (e : End) → EndsAt (last_event (f ∷ es)) e → HasForm (f ∷ es) e
-    start_form (Ran g outs drops left) h sorted (Start outs' drops') es begins top once e ends = (
-      outcome_form budget made outs' drops' (omega (arith, top)) made_top (subst (AllByRecursion (OutWithin budget)) (sym begins.0) h.1) (subst (SortedFrom 0) (sym begins.1) sorted) once.0,
-      goes_form es budget g (omega (arith, top)) h.0 begins.2 once.1 (Start outs' drops') tt e ends,
+    start_form (Ran g outs drops left) h sorted (Start outs' drops') es begins fits once e ends = (
+      outcome_form budget made outs' drops' (subst (AllByRecursion (OutWithin budget)) (sym begins.0) h.1) (subst (SortedFrom 0) (sym begins.1) sorted) once.0 fits.0,
+      goes_form es budget g h.0 begins.2 fits.1 once.1 (Start outs' drops') tt e ends,
     )
-    start_form (Ran g outs drops left) h sorted (Select system now takes) es begins top once e ends = absurd begins
-    start_form (Ran g outs drops left) h sorted (Fire m n outs' drops') es begins top once e ends = absurd begins
-    start_form (Ran g outs drops left) h sorted (Fault m n kind) es begins top once e ends = absurd begins
-    start_form (Failed kind left) h sorted (Fault m n kind') [] begins top once e ends = ((begins.0, begins.1), ends_behind (Fault m n kind') e ends)
-    start_form (Failed kind left) h sorted (Fault m n kind') (f ∷ es) begins top once e ends = absurd (let wrong = begins.3 in cc)
-    start_form (Failed kind left) h sorted (Start outs drops) es begins top once e ends = absurd begins
-    start_form (Failed kind left) h sorted (Select system now takes) es begins top once e ends = absurd begins
-    start_form (Failed kind left) h sorted (Fire m n outs drops) es begins top once e ends = absurd begins
-    start_form Undefined h sorted f es begins top once e ends = absurd begins
+    start_form (Ran g outs drops left) h sorted (Select system now takes) es begins fits once e ends = absurd begins
+    start_form (Ran g outs drops left) h sorted (Fire m n outs' drops') es begins fits once e ends = absurd begins
+    start_form (Ran g outs drops left) h sorted (Fault m n kind) es begins fits once e ends = absurd begins
+    start_form (Failed kind left) h sorted (Fault m n kind') [] begins fits once e ends = ((begins.0, begins.1), ends_behind (Fault m n kind') e ends)
+    start_form (Failed kind left) h sorted (Fault m n kind') (f ∷ es) begins fits once e ends = absurd (let wrong = begins.3 in cc)
+    start_form (Failed kind left) h sorted (Start outs drops) es begins fits once e ends = absurd begins
+    start_form (Failed kind left) h sorted (Select system now takes) es begins fits once e ends = absurd begins
+    start_form (Failed kind left) h sorted (Fire m n outs drops) es begins fits once e ends = absurd begins
+    start_form Undefined h sorted f es begins fits once e ends = absurd begins
 
-  pub run_form : (events : List Event) → IsRun s budget events → (e : End) → Closes s budget events e → budget * length events < 2 ^ 64 → HasForm events e
-  run_form [] run e closes top = absurd run
-  run_form (f ∷ es) run e closes top =
-      let most = run_made s budget f es in
-      start_form (situation s budget (f ∷ es)).made (omega (arith, most, top)) (start s budget) (start_within s tellable budget) (start_sorted s budget) f es run top (drops_once s budget (f ∷ es) run) e (closes_at s budget (f ∷ es) e closes)
+  pub run_form : (events : List Event) → IsRun s budget events → (e : End) → Closes s budget events e → NumbersFit events → HasForm events e
+  run_form [] run e closes fits = absurd run
+  run_form (f ∷ es) run e closes fits =
+      start_form (situation s budget (f ∷ es)).made (start s budget) (start_within s tellable budget) (start_sorted s budget) f es run fits (drops_once s budget (f ∷ es) run) e (closes_at s budget (f ∷ es) e closes)

@@ -1,5 +1,5 @@
 -- The events and the end of every run of an accepted specification have the form that a trace can tell.
-use Rattle.std.specs.Prelude.{◌≡◌, ℕ, ◌*◌, ◌^◌, ◌<◌, ◌≤◌, List, length}
+use Rattle.std.specs.Prelude.{◌≡◌, ℕ, ◌^◌, ◌≤◌, List}
 use Rattle.std.specs.List.{AllByRecursion}
 use Rattle.estelle_tree.specs.declared.names.Use.{Use}
 use Rattle.estelle_tree.specs.declared.token.Placed.{Placed}
@@ -18,6 +18,7 @@ use Rattle.scope_rules.specs.NameRules.{names_of}
 use Rattle.accepted_states.specs.Laws.{KeepsRules}
 use Rattle.trace_text.specs.Forms.{HasForm}
 use Rattle.trace_forms.specs.Types.{IsReadableType}
+use Rattle.trace_forms.specs.Numbers.{NumbersFit}
 
 -- the values of the parameters of each interaction can be read
 abbrev pub HasReadableParameters : Subject → Type 0
@@ -28,7 +29,7 @@ abbrev pub ParametersAreReadable : Type 0
 ParametersAreReadable = (spec : Spec) (names : List Use) (tokens : List Placed) (rest : ℕ) → Spells spec tokens → FollowOneAnother 0 tokens rest → rest ≤ 2 ^ 32 → names ≡ names_of spec → KeepsRules spec
     → HasReadableParameters (record { specification = spec; names = names })
 
--- In every run of a specification that spells tokens whose spans follow one another within 2^32 bytes, and that breaks no rule, with the names that the rules say, where births and outputs can be numbered with 64 bits, the events and the end have this form.
+-- In every run of a specification that spells tokens whose spans follow one another within 2^32 bytes, and that breaks no rule, with the names that the rules say, where the numbers of births and outputs that the events name fit in 64 bits, the events and the end have this form.
 abbrev pub RunsHaveForm : Type 0
 RunsHaveForm = (spec : Spec) (names : List Use) (tokens : List Placed) (rest : ℕ) → Spells spec tokens → FollowOneAnother 0 tokens rest → rest ≤ 2 ^ 32 → names ≡ names_of spec → KeepsRules spec
-    → (budget : ℕ) (events : List Event) (e : End) → IsRun (record { specification = spec; names = names }) budget events → Closes (record { specification = spec; names = names }) budget events e → budget * length events < 2 ^ 64 → HasForm events e
+    → (budget : ℕ) (events : List Event) (e : End) → IsRun (record { specification = spec; names = names }) budget events → Closes (record { specification = spec; names = names }) budget events e → NumbersFit events → HasForm events e

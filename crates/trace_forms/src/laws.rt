@@ -7,8 +7,8 @@ pub fn parameters_are_readable()
     ensures { ParametersAreReadable }
 {}
 
-/// The events and the end of every run of an accepted specification have the form that a trace can tell, where births and
-/// outputs can be numbered with 64 bits.
+/// The events and the end of every run of an accepted specification have the form that a trace can tell, where the numbers
+/// of births and outputs that the events name fit in 64 bits.
 pub fn runs_have_form()
     ensures { RunsHaveForm }
 {}
