@@ -1,6 +1,6 @@
 //! Turns in which lines are written.
 ghost use Rattle.std.specs.Prelude.{◌≡◌, ◌≤◌, List, [], ◌∷◌, map, vec_capacity};
-ghost use Rattle.turn_board.specs.Passes.{own, board_of, passes_of, number_of, IsOf, IsIdle, AreAllOf, Turned};
+ghost use Rattle.turn_board.specs.Passes.{own, board_of, passes_of, first_of, number_of, IsOf, IsIdle, AreAllOf, Turned};
 ghost use Rattle.board_tests.specs.declared.log.Line.{Line};
 
 use crate::log::Log;
@@ -83,6 +83,7 @@ pub fn close_two<'a>(
     requires board { IsOf board first × IsOf board second × IsIdle first × IsIdle second }
     requires all { (number_of first ≡ 1) × (number_of second ≡ 2) × (passes_of board ≡ 2) }
     requires rest { (passes.items ≡ []) × (2 ≤ vec_capacity passes) }
+    ensures title { result.title.now ≡ (first_of board.entry).title.now }
 {
     passes.push_reserved(first);
     passes.push_reserved(second);
