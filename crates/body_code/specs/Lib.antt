@@ -1,0 +1,4 @@
+pub mod Shared
+pub mod Listing
+pub mod Units
+pub mod Firsts
