@@ -14,7 +14,7 @@ pub enum Table {
     BelowThree,
     /// The block of the counter, but for its end.
     OneMore,
-    /// Each opcode, and each form of an operand but for sets, in the order of the format.
+    /// Each opcode, and each form of an operand but for sets, in the order of `Instr`.
     All,
 }
 
