@@ -25,7 +25,7 @@ use Rattle.body_table.specs.Standings as stand
 use Rattle.body_table.proofs.BodyEquations as bodies
 use Rattle.scope_rules.specs.declared.declaration.Denotes.TheVariants as d
 use Rattle.scope_rules.specs.declared.declaration.Need.TheVariants as need
-use Rattle.scope_rules.specs.declared.declaration.Inside.TheVariants.{Nothing, Named}
+use Rattle.scope_rules.specs.declared.declaration.Inside.TheVariants.{Nothing, At}
 use Rattle.scope_rules.specs.declared.event.ScopeForm.TheVariants as scope
 use Rattle.scope_rules.specs.declared.event.Event.TheVariants.{Open, Close, Import, Declare, Use, States}
 use Rattle.scope_rules.specs.TypeEvents.{Events, typed_names}
@@ -33,7 +33,8 @@ use Rattle.scope_rules.specs.ExpressionEvents.{optional}
 use Rattle.scope_rules.specs.DeclarationEvents.{const_def, type_def, routine_kind}
 use Rattle.scope_rules.specs.ClauseEvents.{any_of}
 use Rattle.scope_rules.specs.SpecificationEvents.{Declaring, Saying, has_to, init, trans, decl_layer, decl, body, parts}
-use Rattle.scope_rules.specs.Scopes.{Scopes, Level, after, after_one}
+use Rattle.scope_rules.specs.Visible.{Scopes, Level}
+use Rattle.scope_rules.specs.Scopes.{after, after_one}
 use Rattle.scope_rules.specs.NameRules.{IsOne}
 use Rattle.scope_names_events.proofs.SpecificationEquations.{decl_is, body_is, declared_is, initial_is, parts_is}
 use Rattle.accepted_states.proofs.Lists.{Each, each_append, each_front, each_back, each_other, count, one_if, count-append, flat-append}
@@ -169,9 +170,9 @@ module _ (by_default : Bool) (room : ℕ) (P : Spelling Parts) (all : (p : Parts
       let start = less_more (less_takes h.word) (less_more (name_less h.names.first) (less_takes h.names.mark)) in
       let last = less_more (less_takes h.ends) (less_takes h.last) in
       let at = States o.span (parts p).declared (parts p).initial (parts p).transitions in
-      let named_so = Declare (o.name ∷ []) d.Body (Named o.header need.Header) in
+      let named_so = Declare (o.name ∷ []) d.Body (At o.header.span) in
       let used = Use o.header need.Header [] in
-      let head = plain_declare (o.name ∷ []) d.Body (Named o.header need.Header) (λ e. cc) in
+      let head = plain_declare (o.name ∷ []) d.Body (At o.header.span) (λ e. cc) in
       record {
         first = λ m. fine_nil (less_same refl);
         going = record {
@@ -194,12 +195,14 @@ module _ (by_default : Bool) (room : ℕ) (P : Spelling Parts) (all : (p : Parts
             let said = subst (Say names s) (body_is b) say in
             let s1 = after_one s named_so in
             let st1 = head ys scope.Body outer s st in
-            let s2 = after_one s1 (Open scope.Body) in
-            let st2 = opened ys [] scope.Body scope.Body outer s1 st1 in
-            let s3 = after_one s2 (Import o.header) in
-            let st3 = plain_import o.header [] scope.Body s1.levels s2 st2 in
+            let s2 = after_one s1 used in
+            let st2 = plain_use o.header need.Header [] ys scope.Body outer s1 st1 in
+            let s3 = after_one s2 (Open scope.Body) in
+            let st3 = opened ys [] scope.Body scope.Body outer s2 st2 in
+            let s4 = after_one s3 (Import o.header) in
+            let st4 = plain_import o.header [] scope.Body s2.levels s3 st3 in
             subst (Each (BodyKnown names)) (sym (append-nil (stand.body by_default b) ∙ bodies.body_is by_default b))
-            (in_parts.known names (Some o.header) (Some o.name) s1.levels s3 st3 said.1.1.0 (say_front names s3 E (Close ∷ []) said.1.1.1.1.1));
+            (in_parts.known names (Some o.header) (Some o.name) s2.levels s4 st4 said.1.1.0 (say_front names s4 E (Close ∷ []) said.1.1.1.1.1));
         own_ended = λ e. tt;
         ended = λ e.
             let a = start.most nowhere in

@@ -22,7 +22,7 @@ use Rattle.estelle_tree.specs.Clauses.{way_of, MoreGroups, AreGroups, TransBodyL
 use Rattle.estelle_tree.specs.Specification.{IsSysAttr, IsAttr, IsQueue, AreParams, IsParams, MayBeParams, IsInter, AreInters, IsChannel, IsIpDecl, AreModvars, IsStateset, IsHeader, IsInit, IsTrans}
 use Rattle.scope_rules.specs.declared.declaration.Denotes.TheVariants as d
 use Rattle.scope_rules.specs.declared.declaration.Need.TheVariants as need
-use Rattle.scope_rules.specs.declared.declaration.Inside.TheVariants.{Nothing, At, Named}
+use Rattle.scope_rules.specs.declared.declaration.Inside.TheVariants.{Nothing, At, Brought}
 use Rattle.scope_rules.specs.declared.event.ScopeForm.TheVariants as scope
 use Rattle.scope_rules.specs.declared.event.Step.TheVariants as step
 use Rattle.scope_rules.specs.declared.event.Event.TheVariants.{Open, Close, Keep, Use, By}
@@ -85,10 +85,10 @@ ip_fine p i j h =
           let e = (less_more (less_takes h.role.closes) (queue_less p.disc h.after_role j h.disc)).most t in
           omega (arith, a, b, c, e);
     }))
-    (fine_declared p.names.names d.Ip (Named p.channel need.Channel) (λ e. cc) (less_same {i = j} refl))
+    (fine_declared p.names.names d.Ip (Brought p.channel.span) (λ e. cc) (less_same {i = j} refl))
 
 pub modvar_fine : AllFine modvar_decl AreModvars
-modvar_fine m i j h = fine_less (less_more (less_names h.first) (less_takes h.mark)) (fine_append (fine_name need.Header h.second) (fine_declared m.names.names d.ModuleVariable (Named m.header need.Header) (λ e. cc) (less_same {i = j} refl)))
+modvar_fine m i j h = fine_less (less_more (less_names h.first) (less_takes h.mark)) (fine_append (fine_name need.Header h.second) (fine_declared m.names.names d.ModuleVariable (Brought m.header.span) (λ e. cc) (less_same {i = j} refl)))
 
 pub stateset_fine : AllFine stateset_def IsStateset
 stateset_fine s i j h =

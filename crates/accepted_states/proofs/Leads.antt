@@ -35,6 +35,7 @@ use Rattle.scope_rules.specs.declared.event.Event.TheVariants.{Open, Close}
 use Rattle.scope_rules.specs.declared.refusal.Breach.{Breach}
 use Rattle.scope_rules.specs.TypeEvents.{Events}
 use Rattle.scope_rules.specs.SpecificationEvents.{events, required, denotes_required, required_event, required_events, states_of, parts}
+use Rattle.scope_rules.specs.declared.declaration.Members.TheVariants as members
 use Rattle.scope_rules.specs.Scopes.{start, after, after_one}
 use Rattle.scope_rules.specs.NameRules.{NameRuleBroken, names_of}
 use Rattle.accepted_states.proofs.Lists.{Each, each_at, count, one_if, count-append, flat-append}
@@ -160,7 +161,7 @@ module _ (spec : Spec) (tokens : List Placed) (rest : ℕ) (spells : Spells spec
     all_known =
         let say = subst (Say names start) (events_are spec) said in
         let s1 = after_one start (Open scope.Inner) in
-        let st1 : Stands [] scope.Inner [] s1 = record { top = record { form = scope.Inner; names = []; within = 0 }; levels = refl; form = refl; own = tt; kept = tt } in
+        let st1 : Stands [] scope.Inner [] s1 = record { top = record { form = scope.Inner; names = []; within = members.Nothing }; levels = refl; form = refl; own = tt; kept = tt } in
         let st2 = required_stand scope.Inner [] s1 st1 in
         let s2 = after s1 required_events in
         let s3 = after_one s2 (Open scope.Body) in

@@ -1,5 +1,5 @@
 -- Which declarations of states the open scopes hold: in a body those of its own states, and nowhere else any.
-use Rattle.std.proofs.Common.{◌≡◌, ◌∙◌, ℕ, Bool, true, false, nat_eq, nat_lt, if◌then◌else◌, List, [], ◌∷◌, ◌++◌, Option, Some, None, refl, ap, sym, subst}
+use Rattle.std.proofs.Common.{◌≡◌, ◌∙◌, ℕ, Bool, true, false, nat_eq, nat_lt, if◌then◌else◌, List, [], ◌∷◌, ◌++◌, Option, Some, None, ◌⊎◌, inl, inr, refl, ap, sym, subst}
 use Rattle.std.specs.Prelude.{cond}
 use Rattle.std.specs.Option.{option_or, unwrap_or}
 use Rattle.std.specs.Map.{lookup}
@@ -11,6 +11,8 @@ use Rattle.scope_rules.specs.declared.declaration.Denotes.TheVariants as d
 use Rattle.scope_rules.specs.declared.declaration.Need.{Need}
 use Rattle.scope_rules.specs.declared.declaration.Need.TheVariants as need
 use Rattle.scope_rules.specs.declared.declaration.Inside.{Inside}
+use Rattle.scope_rules.specs.declared.declaration.Members.{Members}
+use Rattle.scope_rules.specs.declared.declaration.Members.TheVariants as members
 use Rattle.scope_rules.specs.declared.declaration.Declared.{Declared}
 use Rattle.scope_rules.specs.declared.event.ScopeForm.{ScopeForm}
 use Rattle.scope_rules.specs.declared.event.ScopeForm.TheVariants as form
@@ -19,7 +21,8 @@ use Rattle.scope_rules.specs.declared.event.Event.{Event}
 use Rattle.scope_rules.specs.declared.event.Event.TheVariants.{Open, Close, Keep, Import, Receive, Array, Declare, Use, By, Init, States}
 use Rattle.scope_rules.specs.Kinds.{is_private, is_of_channel, may_be}
 use Rattle.scope_rules.specs.TypeEvents.{Events}
-use Rattle.scope_rules.specs.Scopes.{Word, Scope, Level, Scopes, after, after_one, in_names, kept_at, in_level, is_body, hiding, alone, meaning_of, earlier, declared, declaration, innermost, declare_level, declare_one, declare_all, inside_of, inside_named, received, join_level, put, names_of_top, below}
+use Rattle.scope_rules.specs.Visible.{Word, Scope, Level, Scopes, in_names, kept_at, member_names, earliest, in_level, is_body, hiding, alone, meaning_of, earlier, inside_of, inside_named, received}
+use Rattle.scope_rules.specs.Scopes.{after, after_one, declared, declaration, innermost, declare_level, declare_one, declare_all, join_level, put, names_of_top, below}
 use Rattle.scope_rules.specs.NameRules.{IsOne}
 use Rattle.accepted_states.proofs.Lists.{Each, each_other}
 use Rattle.accepted_states.proofs.Uses.{after-append}
@@ -73,6 +76,11 @@ kept_of at (x ∷ xs) h = by (kept_of at xs h.1) (nat_eq at x.0)
     by more true = h.0
     by more false = more
 
+members_of : (m : Members) (kept : List (ℕ × Scope)) → AreKept kept → AreOf [] (member_names kept m)
+members_of members.Nothing kept h = tt
+members_of (members.KeptAt at) kept h = kept_of at kept h
+members_of members.AtFault kept h = tt
+
 put_of : (at : ℕ) (s : Scope) (kept : List (ℕ × Scope)) → AreKept kept → AreOf [] s → AreKept (put at s kept)
 put_of at s [] h k = (k, tt)
 put_of at s (x ∷ xs) h k = by (put_of at s xs h.1 k) (nat_eq at x.0)
@@ -118,7 +126,7 @@ pub plain_next : (e : Event) (es : Events) → Plain (e ∷ []) → Plain es →
 plain_next e es h k = plain_append (e ∷ []) es h k
 
 pub plain_use : (x : Name) (n : Need) (steps : List Step) → Plain (Use x n steps ∷ [])
-plain_use x n steps ys f outer s h = h
+plain_use x n steps ys f outer s h = record { top = h.top; levels = h.levels; form = h.form; own = h.own; kept = h.kept }
 
 pub plain_by : (x : Name) → Plain (By x ∷ [])
 plain_by x ys f outer s h = h
@@ -129,19 +137,19 @@ plain_init x y ys f outer s h = h
 pub plain_states : (at : Span) (a b c : Bool) → Plain (States at a b c ∷ [])
 plain_states at a b c ys f outer s h = h
 
-pub plain_array : (at : Span) (of : Inside) → Plain (Array at of ∷ [])
-plain_array at of ys f outer s h = record { top = h.top; levels = h.levels; form = h.form; own = h.own; kept = h.kept }
+pub plain_array : (at : Span) (components : Inside) → Plain (Array at components ∷ [])
+plain_array at components ys f outer s h = record { top = h.top; levels = h.levels; form = h.form; own = h.own; kept = h.kept }
 
-joined : (ys : List Name) (f : ScopeForm) (outer : List Level) (s : Scopes) (at : ℕ) → Stands ys f outer s → Stands ys f outer (record { levels = innermost (join_level at) s.levels; kept = s.kept; components = s.components })
-joined ys f outer s at h = record { top = join_level at h.top; levels = ap (innermost (join_level at)) h.levels; form = h.form; own = h.own; kept = h.kept }
+joined : (ys : List Name) (f : ScopeForm) (outer : List Level) (s : Scopes) (m : Members) → Stands ys f outer s → Stands ys f outer (record { levels = innermost (join_level m) s.levels; kept = s.kept; brought = s.brought })
+joined ys f outer s m h = record { top = join_level m h.top; levels = ap (innermost (join_level m)) h.levels; form = h.form; own = h.own; kept = h.kept }
 
 pub plain_import : (x : Name) → Plain (Import x ∷ [])
-plain_import x ys f outer s h = joined ys f outer s (unwrap_or (inside_named s x need.Header) 0) h
+plain_import x ys f outer s h = joined ys f outer s (inside_named s x need.Header) h
 
 pub plain_receive : (ip x : Name) (names : Option (List Name)) → Plain (Receive ip x names ∷ [])
 plain_receive ip x names ys f outer s h = joined ys f outer s (received s ip x) h
 
-declared_one : (ys : List Name) (x : Name) (k : Denotes) (inside : Option ℕ) → IsOf ys (declaration x k inside) → (f : ScopeForm) (outer : List Level) (s : Scopes) → Stands ys f outer s → Stands ys f outer (declare_one s x k inside)
+declared_one : (ys : List Name) (x : Name) (k : Denotes) (inside : Members) → IsOf ys (declaration x k inside) → (f : ScopeForm) (outer : List Level) (s : Scopes) → Stands ys f outer s → Stands ys f outer (declare_one s x k inside)
 declared_one ys x k inside is f outer s h = record {
   top = declare_level x.word (declaration x k inside) h.top;
   levels = ap (innermost (declare_level x.word (declaration x k inside))) h.levels;
@@ -150,11 +158,11 @@ declared_one ys x k inside is f outer s h = record {
   kept = h.kept;
 }
 
-declared_each : (ys xs : List Name) (k : Denotes) (inside : Option ℕ) → Each (λ x. IsOf ys (declaration x k inside)) xs → (f : ScopeForm) (outer : List Level) (s : Scopes) → Stands ys f outer s → Stands ys f outer (declare_all s xs k inside)
+declared_each : (ys xs : List Name) (k : Denotes) (inside : Members) → Each (λ x. IsOf ys (declaration x k inside)) xs → (f : ScopeForm) (outer : List Level) (s : Scopes) → Stands ys f outer s → Stands ys f outer (declare_all s xs k inside)
 declared_each ys [] k inside is f outer s h = h
 declared_each ys (x ∷ xs) k inside is f outer s h = declared_each ys xs k inside is.1 f outer (declare_one s x k inside) (declared_one ys x k inside is.0 f outer s h)
 
-no_state : (ys xs : List Name) (k : Denotes) (inside : Option ℕ) → (k ≡ d.State → ⊥) → Each (λ x. IsOf ys (declaration x k inside)) xs
+no_state : (ys xs : List Name) (k : Denotes) (inside : Members) → (k ≡ d.State → ⊥) → Each (λ x. IsOf ys (declaration x k inside)) xs
 no_state ys [] k inside h = tt
 no_state ys (x ∷ xs) k inside h = (λ e. absurd (h e), no_state ys xs k inside h)
 
@@ -168,7 +176,7 @@ steady_states ys xs inside h f outer s st = declared_each ys xs d.State (inside_
 -- ---- scopes in it
 
 pub opened : (ys zs : List Name) (f g : ScopeForm) (outer : List Level) (s : Scopes) → Stands ys f outer s → Stands zs g s.levels (after_one s (Open g))
-opened ys zs f g outer s h = record { top = record { form = g; names = []; within = 0 }; levels = refl; form = refl; own = tt; kept = h.kept }
+opened ys zs f g outer s h = record { top = record { form = g; names = []; within = members.Nothing }; levels = refl; form = refl; own = tt; kept = h.kept }
 
 closed : (ys zs : List Name) (f g : ScopeForm) (outer : List Level) (s t : Scopes) → Stands ys f outer s → Stands zs g s.levels t → Stands ys f outer (after_one t Close)
 closed ys zs f g outer s t h k = record { top = h.top; levels = ap (λ ls. below ls) k.levels ∙ h.levels; form = h.form; own = h.own; kept = k.kept }
@@ -201,12 +209,21 @@ abbrev pub Within : List Name → List Level → Type 0
 Within ys [] = Unit {0}
 Within ys (l ∷ outer) = AreOf ys l.names × (is_body l.form ≡ false → Within ys outer)
 
-level_of : (ys : List Name) (kept : List (ℕ × Scope)) (w : Word) (l : Level) (e : Declared) → AreKept kept → AreOf ys l.names → in_level kept w l ≡ Some e → IsOf ys e
-level_of ys kept w l e h k f = by (in_names w l.names) refl
+-- of two, the earliest is one
+pub earliest_one : (a b : Option Declared) (e : Declared) → earliest a b ≡ Some e → (a ≡ Some e) ⊎ (b ≡ Some e)
+earliest_one None b e h = inr h
+earliest_one (Some d) None e h = inl h
+earliest_one (Some d) (Some c) e h = by (nat_lt c.at.start d.at.start) h
   where
-    by : (o : Option Declared) → in_names w l.names ≡ o → IsOf ys e
-    by (Some x) g = let f2 : option_or (Some x) (in_names w (kept_at kept l.within)) ≡ Some e = ap (λ o. option_or o (in_names w (kept_at kept l.within))) (sym g) ∙ f in in_scope_of ys w l.names e k (g ∙ f2)
-    by None g = let f2 : option_or None (in_names w (kept_at kept l.within)) ≡ Some e = ap (λ o. option_or o (in_names w (kept_at kept l.within))) (sym g) ∙ f in of_more ys e (in_scope_of [] w (kept_at kept l.within) e (kept_of l.within kept h) f2)
+    by : (t : Bool) → Some (if t then c else d) ≡ Some e → (Some d ≡ Some e) ⊎ (Some c ≡ Some e)
+    by true g = inr g
+    by false g = inl g
+
+level_of : (ys : List Name) (kept : List (ℕ × Scope)) (w : Word) (l : Level) (e : Declared) → AreKept kept → AreOf ys l.names → in_level kept w l ≡ Some e → IsOf ys e
+level_of ys kept w l e h k f = elim (earliest_one (in_names w l.names) (in_names w (member_names kept l.within)) e f) [
+  | inl g ↦ in_scope_of ys w l.names e k g
+  | inr g ↦ of_more ys e (in_scope_of [] w (member_names kept l.within) e (members_of l.within kept h) g)
+]
 
 -- behind a body no state is seen
 hidden : (kept : List (ℕ × Scope)) (w : Word) (levels : List Level) (e : Declared) → meaning_of kept w true levels ≡ Some e → e.denotes ≡ d.State → ⊥

@@ -6,6 +6,8 @@ use Rattle.estelle_tree.specs.declared.names.Use.{Use as Used}
 use Rattle.estelle_tree.specs.declared.span.Span.{Span}
 use Rattle.estelle_tree.specs.declared.tree.name.Name.{Name}
 use Rattle.estelle_model.specs.Names.{declaration_of}
+use Rattle.scope_rules.specs.declared.declaration.Members.{Members}
+use Rattle.scope_rules.specs.declared.declaration.Members.TheVariants as members
 use Rattle.scope_rules.specs.declared.declaration.Declared.{Declared}
 use Rattle.scope_rules.specs.declared.declaration.Need.{Need}
 use Rattle.scope_rules.specs.declared.declaration.Need.TheVariants as need
@@ -17,7 +19,8 @@ use Rattle.scope_rules.specs.declared.refusal.Breach.{Breach}
 use Rattle.scope_rules.specs.Least.{breach}
 use Rattle.scope_rules.specs.Kinds.{may_be, is_role}
 use Rattle.scope_rules.specs.TypeEvents.{Events}
-use Rattle.scope_rules.specs.Scopes.{Scopes, start, after, after_one, meaning, member, reached, sought_name, sought_role, sought_step, sought_steps, next_place, sought}
+use Rattle.scope_rules.specs.Visible.{Scopes, meaning, member, reached}
+use Rattle.scope_rules.specs.Scopes.{start, after, after_one, sought_name, sought_role, sought_step, sought_steps, after_step, sought}
 use Rattle.scope_rules.specs.NameRules.{Broken, Breaks, used_at, used, names_from}
 use Rattle.accepted_states.proofs.Lists.{Each, each_append, each_front, each_back, flat-append, count, one_if, count-append, none_counted}
 
@@ -64,20 +67,26 @@ module _ (p : ℕ) where
       by true = (h, tt)
       by false = tt
 
-  step_other : (s : Scopes) (at : ℕ) (t : Step) → Each Other (step_names t) → Each OtherUse (flat_map used (sought_step s at t))
-  step_other s at step.Index h = tt
-  step_other s at (step.Member x n) h = each_append OtherUse (used_at x (member s at x.word)) [] (used_other x (member s at x.word) h.0) tt
-  step_other s at (step.Role x) h = role_other x (member s at x.word) h.0
+  step_other : (s : Scopes) (m : Members) (t : Step) → Each Other (step_names t) → Each OtherUse (flat_map used (sought_step s m t))
+  step_other s m step.Index h = tt
+  step_other s m (step.Member x n) h = each_append OtherUse (used_at x (member s m x.word)) [] (used_other x (member s m x.word) h.0) tt
+  step_other s m (step.Role x) h = role_other x (member s m x.word) h.0
 
-  steps_other : (s : Scopes) (at : Option ℕ) (ts : List Step) → Each Other (flat_map step_names ts) → Each OtherUse (flat_map used (sought_steps s at ts))
-  steps_other s at [] h = tt
-  steps_other s None (t ∷ ts) h = tt
-  steps_other s (Some at) (t ∷ ts) h =
-      let rest = sought_steps s (next_place s at t) ts in
-      subst (Each OtherUse) (sym (flat-append used (sought_step s at t) rest))
-      (each_append OtherUse (flat_map used (sought_step s at t)) (flat_map used rest)
-      (step_other s at t (each_front Other (step_names t) (flat_map step_names ts) h))
-      (steps_other s (next_place s at t) ts (each_back Other (step_names t) (flat_map step_names ts) h)))
+  both : (s : Scopes) (m : Members) (t : Step) (ts : List Step) → Each Other (flat_map step_names (t ∷ ts))
+      → (Each Other (flat_map step_names ts) → Each OtherUse (flat_map used (sought_steps s (after_step s m t) ts)))
+      → Each OtherUse (flat_map used (sought_step s m t ++ sought_steps s (after_step s m t) ts))
+  both s m t ts h more =
+      let rest = sought_steps s (after_step s m t) ts in
+      subst (Each OtherUse) (sym (flat-append used (sought_step s m t) rest))
+      (each_append OtherUse (flat_map used (sought_step s m t)) (flat_map used rest)
+      (step_other s m t (each_front Other (step_names t) (flat_map step_names ts) h))
+      (more (each_back Other (step_names t) (flat_map step_names ts) h)))
+
+  steps_other : (s : Scopes) (m : Members) (ts : List Step) → Each Other (flat_map step_names ts) → Each OtherUse (flat_map used (sought_steps s m ts))
+  steps_other s m [] h = tt
+  steps_other s members.AtFault (t ∷ ts) h = tt
+  steps_other s members.Nothing (t ∷ ts) h = both s members.Nothing t ts h (steps_other s (after_step s members.Nothing t) ts)
+  steps_other s (members.KeptAt at) (t ∷ ts) h = both s (members.KeptAt at) t ts h (steps_other s (after_step s (members.KeptAt at) t) ts)
 
   event_other : (s : Scopes) (e : Event) → Each Other (uses e) → Each OtherUse (flat_map used (sought s e))
   event_other s (Use x n steps) h =
@@ -174,10 +183,11 @@ module _ (all : Events) (kept : BreakNone all) (apart : AreUsesApart all) where
 
       known : (d : Declared) → meaning s x.word ≡ Some d → declaration_of (names_from start all) x ≡ Some d.at
       known d e =
-          let more = flat_map used (sought_steps s (reached n (meaning s x.word)) steps) ++ names_from s rest in
+          let behind = names_from (after_one s (Use x n steps)) rest in
+          let more = flat_map used (sought_steps s (reached n (meaning s x.word)) steps) ++ behind in
           ap (λ es. declaration_of (names_from start es) x) here
           ∙ ap (λ us. declaration_of us x) (names-append start before (Use x n steps ∷ rest))
-          ∙ ap (λ o. declaration_of (names_from start before ++ ((used_at x o ++ flat_map used (sought_steps s (reached n (meaning s x.word)) steps)) ++ names_from s rest)) x) e
+          ∙ ap (λ o. declaration_of (names_from start before ++ ((used_at x o ++ flat_map used (sought_steps s (reached n (meaning s x.word)) steps)) ++ behind)) x) e
           ∙ known_there start before x n d more (events_other x.span.start start before (others before x n steps rest here))
 
       by : (o : Option Declared) → meaning s x.word ≡ o → Found (names_from start all) s x n

@@ -32,7 +32,8 @@ use Rattle.scope_rules.specs.TypeEvents.{Events}
 use Rattle.scope_rules.specs.ExpressionEvents.{optional}
 use Rattle.scope_rules.specs.ClauseEvents.{clause_events, trans_body_layer, trans_body, group, block}
 use Rattle.scope_rules.specs.SpecificationEvents.{init, trans, has_to, first_state}
-use Rattle.scope_rules.specs.Scopes.{Scopes, Level, after, after_one, is_body}
+use Rattle.scope_rules.specs.Visible.{Scopes, Level, is_body}
+use Rattle.scope_rules.specs.Scopes.{after, after_one}
 use Rattle.scope_rules.specs.NameRules.{IsOne}
 use Rattle.scope_names_events.proofs.ClauseEquations.{trans_body_is, group_is}
 use Rattle.scope_names_events.proofs.WritingLemmas.{chain_map}

@@ -76,6 +76,7 @@ fn declare_interaction(
     let parameters = param_types(table, &inter.params)?;
     let kind = InteractionKind {
         channel,
+        word: inter.name.word.copy(table.alloc)?,
         senders: by,
         parameters,
     };

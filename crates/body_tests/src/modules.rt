@@ -5,9 +5,9 @@ use body_walker_state::is_in_order;
 use estelle_model::{Done, Effect, Image, Interaction, Job, Outcome, Part};
 use estelle_tree::{IpAddr, Items, Path, Sequence, SequenceMut, Word};
 use pascal_values::{Fault, Value, Values};
-use spec_accept::{Checked, accept};
+use spec_accept::Checked;
 use std::alloc::{AllocError, Global};
-use test_texts::tree;
+use test_texts::accepted;
 
 /// A job: the path of an instance, the number of a transition, and what it takes from its queue, if it takes something.
 pub(crate) type Step = (&'static [u64], u32, Option<(&'static [u8], i64)>);
@@ -207,15 +207,11 @@ fn write_accepted(
     write_all(alloc, &program, steps, out)
 }
 
-pub(crate) fn accepted(alloc: Global, text: &str) -> Option<Checked> {
-    accept(alloc, tree(alloc, text.as_bytes())?).ok()
-}
-
 /// Whether this is what the jobs log, with the instances at their end or the fault of the last one. Where memory is refused a
 /// log ends before either.
 pub(crate) fn logs(alloc: Global, text: &str, steps: &[Step], wanted: &str) -> bool {
     let mut out = String::new(alloc);
-    match accepted(alloc, text) {
+    match accepted(alloc, text.as_bytes()) {
         Some(checked) => {
             write_accepted(alloc, &checked, steps, &mut out).is_ok() && out.as_str() == wanted
         }

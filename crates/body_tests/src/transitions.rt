@@ -1,11 +1,10 @@
 //! Flat transitions: which ones accepted texts have, with all that is said of each.
 
 use estelle_tree::{Sequence, Span};
-use flat_transitions::{Flat, FlatTrans, Limit};
-use spec_accept::accept;
+use flat_transitions::{Flat, FlatTrans, Limit, flat_list};
 use std::alloc::{AllocError, Global};
 use std::test::Fail;
-use test_texts::tree;
+use test_texts::accepted;
 
 /// Clauses in groups, states in a state set out of order, and constants that have names.
 const TEXT: &str =
@@ -138,9 +137,9 @@ fn written(alloc: Global, text: &str, flat: &Flat) -> Result<String, AllocError>
 
 /// The flat transitions of a text; none where it is not accepted.
 fn flat_transitions(alloc: Global, text: &str) -> Option<String> {
-    let spec = tree(alloc, text.as_bytes())?;
-    match accept(alloc, spec) {
-        Ok(checked) => written(alloc, text, &checked.flat).ok(),
+    let checked = accepted(alloc, text.as_bytes())?;
+    match flat_list(alloc, &checked.spec, &checked.names) {
+        Ok(flat) => written(alloc, text, &flat).ok(),
         Err(_) => None,
     }
 }

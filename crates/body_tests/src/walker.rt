@@ -1,6 +1,5 @@
 //! What an evaluator of bodies is made of: whether a value fits a type, and variables that are put and loaded.
 
-use crate::modules::accepted;
 use body_walker_program::Program;
 use body_walker_state::{View, Walk};
 use body_walker_values::{Stop, fits};
@@ -10,6 +9,7 @@ use pascal_values::{Fault, Value, Values};
 use spec_accept::Checked;
 use std::alloc::{AllocError, Global};
 use std::test::Fail;
+use test_texts::accepted;
 
 #[test]
 fn a_char_type(rt: HostRuntime) -> Result<(), Fail> {
@@ -92,7 +92,7 @@ fn is_put_by(alloc: Global, checked: &Checked) -> bool {
 }
 
 fn is_put(alloc: Global, text: &str) -> bool {
-    match accepted(alloc, text) {
+    match accepted(alloc, text.as_bytes()) {
         Some(checked) => is_put_by(alloc, &checked),
         None => false,
     }

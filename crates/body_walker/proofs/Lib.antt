@@ -1,3 +1,4 @@
+pub mod JobLemmas
 pub mod GuardLemmas
 pub mod RootLemmas
 pub mod FiringLemmas

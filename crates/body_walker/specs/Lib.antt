@@ -2,5 +2,6 @@
 pub mod Roots
 -- ---- what is run
 pub mod Runs
+pub mod Jobs
 -- ---- guards of which nothing is evaluated
 pub mod Settled

@@ -6,12 +6,14 @@
 
 mod firing;
 mod guards;
+mod laws;
 mod plain;
 mod root;
 mod settling;
 
 pub use body_walker_program::Program;
 pub use body_walker_state::View;
+pub use laws::jobs_may_be_fired;
 pub use plain::{fire_plain, guard_plain};
-pub use root::root_part;
+pub use root::{root_image, root_part};
 pub use settling::settled;

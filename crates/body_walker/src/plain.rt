@@ -1,6 +1,6 @@
 //! Jobs and guards.
 
-ghost use Rattle.std.specs.Prelude.{◌≡◌, ◌<◌, [], ◌&&◌, if◌then◌else◌, Some, IfOk};
+ghost use Rattle.std.specs.Prelude.{◌≡◌, [], ◌&&◌, if◌then◌else◌, Some, IfOk};
 ghost use Rattle.std.specs.Option.{option_copied};
 ghost use Rattle.estelle_model.specs.declared.job.Guard.TheVariants.{Off};
 ghost use Rattle.estelle_model.specs.States.{Logged};
@@ -15,6 +15,7 @@ ghost use Rattle.meaning_table.specs.Known.{meanings_of};
 ghost use Rattle.body_walker_state.specs.Progress.{Progress, running};
 ghost use Rattle.body_walker_state.specs.Follows.{Follows};
 ghost use Rattle.body_walker_state.specs.InOrder.{InOrder};
+ghost use Rattle.body_walker.specs.Jobs.{MayBeFired};
 ghost use Rattle.body_walker.specs.Runs.{logged_guard};
 
 use crate::firing::compute;
@@ -31,9 +32,10 @@ use meaning_table::Table;
 use pascal_values::Values;
 use std::alloc::{AllocError, Global};
 
-/// Computes a job, in place of its image. A job of transition 0 needs no image.
+/// Computes a job, in place of its image: each that meets the condition of a job (`IsJob`), and besides each whose parts stand in
+/// path order. A job of transition 0 needs no image.
 pub fn fire_plain(alloc: Global, program: &Program, job: Job) -> Result<Done, AllocError>
-    requires { 0 < job.trans → InOrder job.image.parts }
+    requires { MayBeFired job }
     ensures ticket { IfOk result (λ done. done.ticket ≡ job.ticket) }
     ensures path { IfOk result (λ done. done.path ≡ job.path) }
     ensures trans { IfOk result (λ done. done.trans ≡ job.trans) }

@@ -2,6 +2,8 @@
 
 ghost use Rattle.std.specs.Prelude.{◌≡◌, None, replicate, option_map, IfOk};
 ghost use Rattle.estelle_model.specs.Subject.{body};
+ghost use Rattle.estelle_model.specs.Firing.{bare};
+ghost use Rattle.estelle_model_legality.specs.Jobs.{image_of};
 ghost use Rattle.body_walker_state.specs.Bodies.{module_body};
 ghost use Rattle.body_walker.specs.Roots.{root_part, root_image};
 
@@ -39,7 +41,15 @@ pub fn root_part(alloc: Global, body: &ModuleBody) -> Result<Part, AllocError>
 }
 
 /// An image of that instance alone.
-pub(crate) fn root_image(alloc: Global, bodies: &ModuleBodies) -> Result<Image, AllocError>
+pub fn root_image(alloc: Global, bodies: &ModuleBodies) -> Result<Image, AllocError>
+    ensures { IfOk result (λ image. image ≡ image_of (bare bodies.now).core) }
+{
+    let image = image_of_body(alloc, bodies)?;
+    Ok(image)
+}
+
+/// The same, by its body.
+fn image_of_body(alloc: Global, bodies: &ModuleBodies) -> Result<Image, AllocError>
     ensures { IfOk result (λ image. image ≡ root_image (option_map (module_body bodies.now 0) (body bodies.now 0))) }
 {
     let mut parts = Items::new(alloc);

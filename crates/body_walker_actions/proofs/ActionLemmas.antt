@@ -143,13 +143,13 @@ module _ (s : Subject) (known : Meanings) where
 
   module _ (p m : Name) (values : List Value) (a : IpAddr) (mean : Meaning) (means : known m ≡ mean) (w : Progress) where
     abbrev may_send : Core → Bool
-    may_send c = is_sent_at (point s c.instances a) (known m) && are_values_of (types_received (known m)) values
+    may_send c = is_sent_at (point s c.instances a) m.word (known m) && are_values_of (types_received (known m)) values
 
     abbrev sent : Unit {0} → Do Logged
     sent _ = make Logged on_log s known (Output a p.word m.word values)
 
     abbrev may_now : Meaning → Bool
-    may_now x = is_sent_at (point s w.instances a) x && are_values_of (types_received x) values
+    may_now x = is_sent_at (point s w.instances a) m.word x && are_values_of (types_received x) values
 
     pub output_refused : (r : Bool) → r ≡ may_now mean → r ≡ false → output_at Logged on_log s known p m values a (running w) ≡ Err (Unset, w.left)
     output_refused r is not_so = refused may_send sent w r (is ∙ ap may_now (sym means)) not_so

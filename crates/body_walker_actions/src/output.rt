@@ -13,7 +13,7 @@ use crate::points::{is_sent_at, point};
 use body_walker_state::{LogEntry, ModuleBodies, Walk};
 use body_walker_values::{Stop, are_values_of};
 use estelle_model::{Meaning, Type};
-use estelle_tree::{IpAddr, Name, Sequence};
+use estelle_tree::{IpAddr, Name, Sequence, Word};
 use pascal_values::{Fault, Values};
 use std::alloc::Global;
 
@@ -30,13 +30,14 @@ pub fn types_received<'m>(meaning: &'m Meaning) -> &'m [Type]
 fn may_output(
     bodies: &ModuleBodies,
     walk: &Walk,
+    word: &Word,
     meaning: &Meaning,
     values: &Values,
     a: &IpAddr,
 ) -> bool
-    ensures { result ≡ (actions.is_sent_at (point bodies.now walk.now.instances a.now) meaning.now && are_values_of (types_received meaning.now) values.now) }
+    ensures { result ≡ (actions.is_sent_at (point bodies.now walk.now.instances a.now) word.now meaning.now && are_values_of (types_received meaning.now) values.now) }
 {
-    is_sent_at(point(walk, bodies, a), meaning)
+    is_sent_at(point(walk, bodies, a), word, meaning)
         && are_values_of(types_received(meaning), values.items())
 }
 
@@ -53,7 +54,7 @@ pub fn output_at(
 ) -> Result<(), Stop>
     ensures { (known : Meanings) → known interaction.now ≡ meaning.now → Follows (actions.output_at Logged on_log bodies.now known ip.now interaction.now values a) walk.old result walk.new }
 {
-    if !may_output(bodies, walk, meaning, &values, &a) {
+    if !may_output(bodies, walk, &interaction.word, meaning, &values, &a) {
         return Err(Stop::Fault(Fault::Unset));
     }
     let made = LogEntry::Output {

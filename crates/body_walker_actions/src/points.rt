@@ -7,7 +7,7 @@ ghost use Rattle.estelle_model.specs.Actions.{is_sent_at};
 
 use body_walker_state::{ModuleBodies, Walk, is_same_path};
 use estelle_model::{InteractionKind, InteractionPoint, Meaning, Role, Senders};
-use estelle_tree::{IpAddr, Path};
+use estelle_tree::{IpAddr, Path, Word};
 
 /// An interaction point as it is declared, if it is there.
 pub(crate) fn point<'b>(
@@ -56,12 +56,14 @@ fn sends(point: &InteractionPoint, kind: &InteractionKind) -> bool
     point.channel == kind.channel && may_send(point.role, kind.senders)
 }
 
-/// Whether what a name means may be sent at the interaction point.
-pub(crate) fn is_sent_at(point: Option<&InteractionPoint>, meaning: &Meaning) -> bool
-    ensures { result ≡ is_sent_at (option_copied point.entry) meaning.now }
+/// Whether what a name means is declared with this word, and may be sent at the interaction point.
+pub(crate) fn is_sent_at(point: Option<&InteractionPoint>, word: &Word, meaning: &Meaning) -> bool
+    ensures { result ≡ is_sent_at (option_copied point.entry) word.now meaning.now }
 {
     match (point, meaning) {
-        (Some(point), Meaning::Interaction(kind)) => sends(point, kind),
+        (Some(point), Meaning::Interaction(kind)) => {
+            kind.word.items() == word.items() && sends(point, kind)
+        }
         _ => false,
     }
 }

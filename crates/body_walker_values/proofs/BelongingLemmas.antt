@@ -44,7 +44,7 @@ layer (Denoter-F.Fields fields) v = belongs_out (shape.Fields (map shape_of fiel
 pub type_belongs_out : (t : Denoter) (v : Value) → belongs (shape_of t) v ≡ belongs_at (belongs_layer (out-Denoter t)) (out-Value v)
 type_belongs_out t v = ap (λ s. belongs s v) (shape_out t) ∙ layer (out-Denoter t) v
 
--- ---- types without parts, where to lie within is to belong
+-- ---- ordinal types, where to lie within is to belong
 
 same_ordinal : (h : Host) (low high : ℤ) (v : Value-F Value) → within_at (ordinal_layer h low high) v ≡ belongs_at (ordinal_layer h low high) v
 same_ordinal host.Integer low high Value-F.Unset = refl
@@ -56,19 +56,15 @@ same_ordinal host.Char low high _ = refl
 same_ordinal (host.Enumeration last) low high Value-F.Unset = refl
 same_ordinal (host.Enumeration last) low high _ = refl
 
-same_set : (low high : ℕ) (v : Value-F Value) → within_at (Shape-F.Set low high) v ≡ belongs_at (Shape-F.Set low high) v
-same_set low high Value-F.Unset = refl
-same_set low high _ = refl
-
-pub simple_belongs : (t : Denoter) (v : Value) → ((low high : ℤ) (item : Denoter) → t ≡ denoter.Array low high item → ⊥) → ((fields : List Denoter) → t ≡ denoter.Fields fields → ⊥) → is_within (shape_of t) v ≡ belongs (shape_of t) v
-simple_belongs t v no_array no_fields = type_within_out t v ∙ by (out-Denoter t) refl ∙ sym (type_belongs_out t v)
+pub simple_belongs : (t : Denoter) (v : Value) → ((low high : ℤ) (item : Denoter) → t ≡ denoter.Array low high item → ⊥) → ((fields : List Denoter) → t ≡ denoter.Fields fields → ⊥) → ((h : Host) (low high : ℤ) → t ≡ denoter.Set h low high → ⊥) → is_within (shape_of t) v ≡ belongs (shape_of t) v
+simple_belongs t v no_array no_fields no_set = type_within_out t v ∙ by (out-Denoter t) refl ∙ sym (type_belongs_out t v)
   where
     rolled : (d : Denoter-F Denoter) → out-Denoter t ≡ d → t ≡ roll-Denoter d
     rolled d is = sym (roll-out-Denoter t) ∙ ap roll-Denoter is
 
     by : (d : Denoter-F Denoter) → out-Denoter t ≡ d → within_at (type_layer d) (out-Value v) ≡ belongs_at (belongs_layer d) (out-Value v)
     by (Denoter-F.Ordinal h low high) is = same_ordinal h low high (out-Value v)
-    by (Denoter-F.Set h low high) is = same_set (nat_abs low) (nat_abs high) (out-Value v)
+    by (Denoter-F.Set h low high) is = absurd (no_set h low high (rolled (Denoter-F.Set h low high) is ∙ denoter.rolls-Set h low high))
     by (Denoter-F.Array low high item) is = absurd (no_array low high item (rolled (Denoter-F.Array low high item) is ∙ denoter.rolls-Array low high item))
     by (Denoter-F.Fields fields) is = absurd (no_fields fields (rolled (Denoter-F.Fields fields) is ∙ denoter.rolls-Fields fields))
 

@@ -1,17 +1,18 @@
 //! Whether a value belongs to a type, unset parts allowed, and what may be stored in a variable.
 //! No call takes memory.
 
-ghost use Rattle.std.specs.Prelude.{◌≡◌, option_map};
+ghost use Rattle.std.specs.Prelude.{◌≡◌, ◌&&◌, option_map};
 ghost use Rattle.std.specs.Option.{option_copied};
 ghost use Rattle.std.specs.List.{list_all};
 ghost use Rattle.pascal_values.specs.declared.value.Shape.{out-Shape};
+ghost use Rattle.pascal_values.specs.Shapes.{has_ordinal};
 ghost use Rattle.estelle_model.specs.Types.{shape_of};
 ghost use Rattle.estelle_model.specs.Belonging as spec;
 
-use crate::fitting::{is_count, lies_within};
+use crate::fitting::{have_all, is_count, lies_within};
 use estelle_model::{Denoter, Type};
 use estelle_tree::Sequence;
-use pascal_values::Value;
+use pascal_values::{Members, Value};
 
 #[cycle(belonging)]
 fn belongs(denoter: &Denoter, value: &Value) -> bool
@@ -28,8 +29,20 @@ fn belongs(denoter: &Denoter, value: &Value) -> bool
             Value::Fields(parts) => fields_belong(fields.as_slice(), parts.items()),
             _ => false,
         },
+        Denoter::Set { low, high, .. } => match value {
+            Value::Unset => true,
+            Value::Set(members) => set_belongs(low.unsigned_abs(), high.unsigned_abs(), members),
+            _ => false,
+        },
         _ => lies_within(denoter, value),
     }
+}
+
+/// Whether the members of a set lie within bounds. That they rise is kept by their type.
+fn set_belongs(low: u64, high: u64, members: &Members) -> bool
+    ensures { result ≡ (spec.rises 0 members.now && list_all (has_ordinal low high) members.now) }
+{
+    have_all(low, high, members.items())
 }
 
 #[cycle(belonging)]

@@ -97,7 +97,7 @@ fn has(low: u64, high: u64, n: u64) -> bool
     low <= n && n <= high
 }
 
-fn have_all(low: u64, high: u64, ordinals: &[u32]) -> bool
+pub(crate) fn have_all(low: u64, high: u64, ordinals: &[u32]) -> bool
     ensures { result ≡ list_all (has_ordinal low high) ordinals.now }
 {
     for n in ordinals {

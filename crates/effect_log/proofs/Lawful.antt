@@ -50,7 +50,7 @@ pub legal-sound : (s : Subject) (g : Situation) → IsLegal s g → IsSound s g
 legal-sound s g legal = record {
   ends = λ l h. linked-ends s g.core.instances l.kind l.first l.second (legal.links.each l h);
   down = λ l h. linked-down s g.core.instances l.kind l.first l.second (legal.links.each l h);
-  waits = λ w h. let may = legal.mail.each w h in (may.at, may.there);
+  waits = λ w h. let may = (legal.mail.each w h).arrives in (may.at, may.there);
   parents = λ p k i there. let h = legal.instances.parents p k i there in (h.parent, h.there, h.born);
 }
 

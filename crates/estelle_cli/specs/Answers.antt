@@ -126,9 +126,14 @@ pub record Writes (task : Task) (clock : Option ℕ) (left : Option (List ℕ)) 
   pub output : IsOutput task clock left c written
   pub appends : Appends held held' written
 
+-- a clock ends a run only where it has failed
+abbrev pub MayClose : Close → ℕ → ℕ → Type 0
+MayClose c asks asks' = c ≡ close.ByClock → Rose asks asks'
+
 -- out has grown by a prefix of it
-pub record WritesPrefix (task : Task) (clock : Option ℕ) (left : Option (List ℕ)) (held held' : Option (List ℕ)) : Type 0 where
+pub record WritesPrefix (task : Task) (clock : Option ℕ) (asks asks' : ℕ) (left : Option (List ℕ)) (held held' : Option (List ℕ)) : Type 0 where
   pub close : Close
+  pub cause : MayClose close asks asks'
   pub written : List ℕ
   pub output : IsOutput task clock left close written
   pub appends : AppendsFront held held' written
@@ -288,5 +293,5 @@ Explains task left left' reads reads' held held' writes writes' clock asks asks'
 Explains task left left' reads reads' held held' writes writes' clock asks asks' outcome.ReadFault =
     Rose reads reads' × IsQuiet held held' writes writes' × ReadsInput task
 Explains task left left' reads reads' held held' writes writes' clock asks asks' outcome.WriteFault =
-    Rose writes writes' × WritesPrefix task clock left held held'
+    Rose writes writes' × WritesPrefix task clock asks asks' left held held'
 Explains task left left' reads reads' held held' writes writes' clock asks asks' outcome.Memory = IsQuiet held held' writes writes'

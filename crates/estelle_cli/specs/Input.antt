@@ -4,6 +4,7 @@ use Rattle.std.specs.Io.KnownBytes.{Consumes}
 use Rattle.outside.specs.Counts.{Rose}
 use Rattle.estelle_tree.specs.declared.token.Placed.{Placed}
 use Rattle.estelle_tree.specs.declared.tree.specification.Spec.{Spec}
+use Rattle.estelle_tree.specs.Input.{first_start}
 use Rattle.estelle_tree.specs.Lexed.{IsLexed, IsLexicalErrorAt, IsBlankFrom, IsFirstOther}
 use Rattle.estelle_tree.specs.Spells.{Spells}
 use Rattle.estelle_lexer.specs.Place.{line_of, column_of}
@@ -142,9 +143,10 @@ pub record HasNoTree (contents : Contents) (input : List ℕ) (p : Place) : Type
   pub tokens : List Placed
   pub read : HasTokens contents input tokens
   pub none : (spec : Spec) → Spells spec tokens → ⊥
-  pub at : ℕ
-  pub inside : at ≤ length input
-  pub place : p ≡ place_of input at
+  pub rest : ℕ
+  pub lexed : IsLexed input tokens rest
+  pub before : ℕ
+  pub place : p ≡ place_of input (first_start rest (drop before tokens))
 
 -- this is the least rule that the specification breaks, at the place where the first node that breaks it begins
 pub record BreaksRule (contents : Contents) (input : List ℕ) (number : ℕ) (p : Place) : Type 0 where

@@ -3,9 +3,8 @@
 ghost use Rattle.std.specs.Prelude.{◌≡◌, ◌<◌, ◌≤◌, ◌+◌, ◌^◌, length, drop, All, IfOk, OnOk, IfErr, IfSome, MatchResult};
 ghost use Rattle.std.specs.Io.KnownBytes.{Consumes, IsAtEnd};
 ghost use Rattle.outside.specs.Counts.{Rose};
-ghost use Rattle.estelle_tree.specs.Lexed.{FollowOneAnother};
+ghost use Rattle.estelle_tree.specs.Lexed.{IsLexed};
 ghost use Rattle.estelle_lexer.specs.Tokens.{IsPlacedToken};
-ghost use Rattle.estelle_model_legality.specs.Instances.{LeadsToStates};
 ghost use Rattle.estelle_model.specs.Subject.{subject};
 ghost use Rattle.estelle_cli.specs.declared.contents.Contents.TheVariants.{Alone};
 ghost use Rattle.estelle_cli.specs.Input as spec;
@@ -13,7 +12,6 @@ ghost use Rattle.estelle_cli.specs.Input.{Reads, HasTokens, IsTextOf, IsBehind, 
 
 use crate::contents::{Contents, input_limit};
 use crate::outcome::{Place, Refusal, Stop};
-use accepted_states::accepted_lead_to_states;
 use estelle_lexer::place::line_and_column;
 use estelle_lexer::{LexError, Tokens, blank_to_end, tokens};
 use estelle_parser::{SyntaxError, parse};
@@ -116,8 +114,7 @@ fn cut(alloc: Global, contents: Contents, bytes: &[u8]) -> Result<(Tokens, u32),
     ensures trace { IfOk result (λ x. IsTraceAt contents bytes.now x.1) }
     ensures inside { IfOk result (λ x. x.1 ≤ length bytes.now) }
     ensures forms { IfOk result (λ x. All IsPlacedToken x.0.items) }
-    ensures spans { IfOk result (λ x. FollowOneAnother 0 x.0.items x.0.rest) }
-    ensures rest { IfOk result (λ x. x.0.rest ≤ length bytes.now) }
+    ensures lexed { IfOk result (λ x. IsLexed bytes.now x.0.items x.0.rest) }
     ensures cause { IfErr result (Misses contents bytes.now) }
 {
     let found = match tokens(alloc, bytes) {
@@ -168,10 +165,8 @@ pub fn parsed(alloc: Global, contents: Contents, bytes: &[u8]) -> Result<(Checke
     ensures found { IfOk result (λ x. Reads contents bytes.now x.0.spec) }
     ensures trace { IfOk result (λ x. IsTraceAt contents bytes.now x.1) }
     ensures inside { IfOk result (λ x. x.1 ≤ length bytes.now) }
-    ensures leads { IfOk result (λ x. LeadsToStates (subject x.0.spec x.0.names)) }
     ensures cause { IfErr result (Misses contents bytes.now) }
 {
-    accepted_lead_to_states();
     if bytes.len() > input_limit(contents) {
         return Err(Stop::Refused(Refusal::TooLong));
     }
@@ -183,7 +178,6 @@ pub fn parsed(alloc: Global, contents: Contents, bytes: &[u8]) -> Result<(Checke
 /// Reads a text as a specification alone.
 fn alone(alloc: Global, bytes: &[u8]) -> Result<Checked, Stop>
     ensures found { IfOk result (λ checked. Reads Alone bytes.now checked.spec) }
-    ensures leads { IfOk result (λ checked. LeadsToStates (subject checked.spec checked.names)) }
     ensures cause { IfErr result (Misses Alone bytes.now) }
 {
     let (checked, _) = parsed(alloc, Contents::Alone, bytes)?;
@@ -193,7 +187,6 @@ fn alone(alloc: Global, bytes: &[u8]) -> Result<Checked, Stop>
 /// Reads the input as a specification.
 pub fn load<S: Source>(alloc: Global, source: &mut S) -> Result<Checked, Stop>
     ensures found { IfOk result (λ checked. IfSome (S.left source.old) (λ input. Reads Alone input checked.spec)) }
-    ensures leads { IfOk result (λ checked. LeadsToStates (subject checked.spec checked.names)) }
     ensures end { OnOk result (IsAtEnd (S.left source.new)) }
     ensures stops { TakesAtMost (input_limit Alone + 1) (S.left source.old) (S.left source.new) }
     ensures later { S.faults source.old ≤ S.faults source.new }

@@ -288,7 +288,7 @@ pub fn estelle_plain<S: Source, K: Sink, E: Sink, C: Clock>(
     // Status 4: out has failed, and has taken a prefix of what was to be written.
     ensures write_fault { result.0 ≡ Status.WriteFault → Rose (K.faults out.old) (K.faults out.new) }
     ensures write_fault_prefix { result.0 ≡ Status.WriteFault → IfSome (asked (texts words.now))
-        (λ task. WritesPrefix task (C.moment clock) (S.left source.old) (K.held out.old) (K.held out.new)) }
+        (λ task. WritesPrefix task (C.moment clock) (C.faults clock) (C.faults result.1) (S.left source.old) (K.held out.old) (K.held out.new)) }
     ensures write_fault_line { result.0 ≡ Status.WriteFault
         → Reports (E.held err.old) (E.held err.new) (E.faults err.old) (E.faults err.new) write_fault_line }
 

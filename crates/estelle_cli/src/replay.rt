@@ -2,7 +2,6 @@
 
 ghost use Rattle.std.specs.Prelude.{◌≡◌, ◌<◌, ◌≤◌, ◌+◌, ◌^◌, length, drop, IfOk, OnOk, IfErr, IfSome};
 ghost use Rattle.std.specs.Io.KnownBytes.{IsAtEnd};
-ghost use Rattle.estelle_model_legality.specs.Instances.{LeadsToStates};
 ghost use Rattle.estelle_model.specs.Subject.{subject};
 ghost use Rattle.trace_text.specs.Readings.{IsTrace};
 ghost use Rattle.trace_check.specs.Judging.{IsRunTo};
@@ -42,13 +41,12 @@ fn confirmed(
     run: &Run,
     end: End,
 ) -> Result<u32, Stop>
-    requires leads { LeadsToStates (subject checked.now.spec checked.now.names) }
     requires counted { length run.now.events < 2 ^ 31 }
     ensures run { OnOk result (IsRunTo (subject checked.now.spec checked.now.names) budget run.now.events end) }
     ensures count { IfOk result (λ count. count ≡ length run.now.events) }
     ensures cause { IfErr result (MissesRun (subject checked.now.spec checked.now.names) budget run.now.events end) }
 {
-    match replay_run(alloc, &checked.spec, &checked.names, budget, run, end) {
+    match replay_run(alloc, checked, budget, run, end) {
         Ok(()) => Ok(run.events.items().len() as u32),
         Err(JudgeError::NotARun { entry }) => Err(Stop::Refused(Refusal::NotARun(entry))),
         Err(JudgeError::Memory) => Err(Stop::Memory),
@@ -66,7 +64,6 @@ fn judged_at(
     requires reads { Reads (Traced budget) bytes.now checked.now.spec }
     requires trace { HasTrace bytes.now (drop at bytes.now) }
     requires inside { at ≤ length bytes.now }
-    requires leads { LeadsToStates (subject checked.now.spec checked.now.names) }
     ensures found { IfOk result (λ count. Replays budget bytes.now count) }
     ensures cause { IfErr result (Misses (Traced budget) bytes.now) }
 {

@@ -4,7 +4,6 @@ ghost use Rattle.std.specs.Prelude.{◌≡◌, ◌≤◌, IfOk};
 ghost use Rattle.outside.specs.Counts.{Rose};
 ghost use Rattle.outside.specs.Choices.{any_drawn};
 ghost use Rattle.estelle_model.specs.declared.event.End.TheVariants.{Clock as ByClock};
-ghost use Rattle.estelle_model_legality.specs.Instances.{LeadsToStates};
 ghost use Rattle.estelle_cli.specs.Tasks.{AreLimits};
 ghost use Rattle.estelle_cli.specs.Answers.{chooser_by};
 ghost use Rattle.situation.specs.Runs.{IsStopped};
@@ -34,18 +33,10 @@ pub fn executed<C: Clock>(
     seed: Option<u64>,
     clock: &mut C,
 ) -> Result<(Run, End), AllocError>
-    requires leads { LeadsToStates (subject checked.now.spec checked.now.names) }
     requires range { AreLimits limits }
     ensures stopped { IfOk result (λ r. IsStopped any_drawn (chooser_by seed) (C.moment clock.old) (subject checked.now.spec checked.now.names) limits.budget limits.turns r.0.events r.1) }
     ensures cause { IfOk result (λ r. r.1 ≡ ByClock → Rose (C.faults clock.old) (C.faults clock.new)) }
     ensures later { C.faults clock.old ≤ C.faults clock.new }
 {
-    execute(
-        alloc,
-        &checked.spec,
-        &checked.names,
-        limits,
-        clock,
-        chooser_by(seed),
-    )
+    execute(alloc, checked, limits, clock, chooser_by(seed))
 }

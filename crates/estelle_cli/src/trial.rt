@@ -3,7 +3,6 @@
 ghost use Rattle.std.specs.Prelude.{◌≡◌, Some, IfOk, IfErr};
 ghost use Rattle.outside.specs.Choices.{any_drawn};
 ghost use Rattle.spec_maker.specs.Ring.{IsRing};
-ghost use Rattle.estelle_model_legality.specs.Instances.{LeadsToStates};
 ghost use Rattle.situation.specs.Runs.{IsStopped};
 ghost use Rattle.estelle_model.specs.Subject.{subject};
 ghost use Rattle.estelle_cli.specs.declared.outcome.Close.TheVariants as close;
@@ -13,7 +12,6 @@ ghost use Rattle.estelle_cli.specs.Answers.{chooser_by, IsTried};
 
 use crate::outcome::{Close, Stop};
 use crate::running::executed;
-use accepted_states::accepted_lead_to_states;
 use estelle_model::{End, Run};
 use estelle_tree::Text;
 use outside::VirtualClock;
@@ -27,9 +25,7 @@ use std::alloc::{AllocError, Global};
 fn ring(alloc: Global, n: u32) -> Result<Checked, AllocError>
     requires { AreStations n }
     ensures made { IfOk result (λ checked. IsRing n checked.spec) }
-    ensures leads { IfOk result (λ checked. LeadsToStates (subject checked.spec checked.names)) }
 {
-    accepted_lead_to_states();
     let spec = make(alloc, n)?;
     match accept(alloc, spec) {
         Ok(checked) => Ok(checked),
@@ -45,7 +41,6 @@ fn ran_apart(
     limits: Limits,
     seed: Option<u64>,
 ) -> Result<(Run, End), AllocError>
-    requires leads { LeadsToStates (subject checked.now.spec checked.now.names) }
     requires range { AreLimits limits }
     ensures { IfOk result (λ r. IsStopped any_drawn (chooser_by seed) (Some 0) (subject checked.now.spec checked.now.names) limits.budget limits.turns r.0.events r.1) }
 {

@@ -177,7 +177,7 @@ module _ (S T : Type 0) (on : Offers S) (on' : Offers T) (faithful : IsFaithful 
     detach_alike here p = then_same S T EqualCores (Same {A = Unit {0}}) (ip_of S on subject meant here.path (meant p)) (ip_of T on' subject meant here.path (meant p)) (detach_point S on subject meant) (detach_point T on' subject meant) (ip_of_alike here.path (meant p)) detach_point_alike
 
     output_at_alike : (p x : Name) (values : List Value) (a : IpAddr) → DoAlike S T EqualCores (output_at S on subject meant p x values a) (output_at T on' subject meant p x values a)
-    output_at_alike p x values a = needs_alike (λ c. is_sent_at (point subject c.instances a) (meant x) && are_values_of (types_received (meant x)) values) _ _ (make_alike (effect.Output a p.word x.word values))
+    output_at_alike p x values a = needs_alike (λ c. is_sent_at (point subject c.instances a) x.word (meant x) && are_values_of (types_received (meant x)) values) _ _ (make_alike (effect.Output a p.word x.word values))
 
     output_alike : (here : Environment) (p x : Name) (es : List (Operand S)) (fs : List (Operand T)) → EachAlike (OperandAlike S T on on' [] EqualCores) es fs → DoAlike S T EqualCores (output S on subject meant here p x es) (output T on' subject meant here p x fs)
     output_alike here p x es fs h = then_alike S T EqualCores (GivenAlike []) (Same {A = Unit {0}}) (give_all (map ByValue (types_received (meant x))) es no_arguments) (give_all (map ByValue (types_received (meant x))) fs no_arguments) (λ G. spend >>= λ spent. ip_of S on subject meant here.path (meant p) >>= λ a. output_at S on subject meant p x G.values a) (λ G. spend >>= λ spent. ip_of T on' subject meant here.path (meant p) >>= λ a. output_at T on' subject meant p x G.values a) (give_all_alike S T on on' [] EqualCores (map ByValue (types_received (meant x))) es fs no_arguments h tt) (λ g j gj. then_same S T EqualCores (Same {A = Unit {0}}) (spend) (spend) (λ spent. ip_of S on subject meant here.path (meant p) >>= λ a. output_at S on subject meant p x g.values a) (λ spent. ip_of T on' subject meant here.path (meant p) >>= λ a. output_at T on' subject meant p x j.values a) (spend_alike S T EqualCores) (λ spent. then_same S T EqualCores (Same {A = Unit {0}}) (ip_of S on subject meant here.path (meant p)) (ip_of T on' subject meant here.path (meant p)) (λ a. output_at S on subject meant p x g.values a) (λ a. output_at T on' subject meant p x j.values a) (ip_of_alike here.path (meant p)) (λ a. subst (λ (c : ActualParameters). DoAlike S T EqualCores (output_at S on subject meant p x g.values a) (output_at T on' subject meant p x c.values a)) gj.0 (output_at_alike p x g.values a))))

@@ -1,6 +1,7 @@
 -- Which values fit the types of the examples.
-use Rattle.std.proofs.Common.{◌≡◌, Bool, ℤ, Ok, Err, ap, ◌∙◌}
-use Rattle.std.specs.Prelude.{if◌then◌else◌}
+use Rattle.std.proofs.Common.{◌≡◌, ℕ, ◌+◌, Bool, true, ◌&&◌, List, [], ◌∷◌, ℤ, Ok, Err, ap, ◌∙◌}
+use Rattle.std.specs.Prelude.{if◌then◌else◌, nat_le}
+use Rattle.std.proofs.lemmas.Bool.{leb-true, le-leb}
 use Rattle.pascal_values.specs.declared.fault.Fault.TheVariants as fault
 use Rattle.pascal_values.specs.declared.value.Value.{Value, out-Value}
 use Rattle.pascal_values.specs.declared.value.Value.TheVariants as pascal
@@ -9,6 +10,7 @@ use Rattle.pascal_values.specs.declared.value.Shape.TheVariants as shape
 use Rattle.pascal_values.specs.declared.value.Shape.TheVariants.{outs-Int as outs-IntShape}
 use Rattle.pascal_values.specs.declared.value.Shape.{Shape, out-Shape, map-Shape, fold_out-Shape}
 use Rattle.pascal_values.specs.Integers.{is_between}
+use Rattle.pascal_values.specs.Sets.{IsRising}
 use Rattle.pascal_values.specs.Shapes.{is_within, fit_of, blank_of}
 use Rattle.pascal_values.proofs.ShapeLemmas.{within_out, blank_out}
 use Rattle.estelle_model.specs.declared.denoter.Host.{Host}
@@ -16,8 +18,9 @@ use Rattle.estelle_model.specs.declared.denoter.Host.TheVariants as host
 use Rattle.estelle_model.specs.declared.denoter.Denoter.{fold_out-Denoter}
 use Rattle.estelle_model.specs.declared.denoter.Denoter.TheVariants as denoter
 use Rattle.estelle_model.specs.declared.denoter.Denoter.TheVariants.{outs-Ordinal}
-use Rattle.estelle_model.specs.Belonging.{belongs, belongs_at, belongs_step}
+use Rattle.estelle_model.specs.Belonging.{rises, belongs, belongs_at, belongs_step}
 use Rattle.estelle_model.specs.Types.{shape_of, shape_step, ordinal_shape}
+use Rattle.estelle_model.proofs.PrivateParts.{left_true, right_true}
 
 pub shape_ordinal : (h : Host) (low high : ℤ) → shape_of (denoter.Ordinal h low high) ≡ ordinal_shape h low high
 unfolding shape_of
@@ -33,6 +36,16 @@ belongs_out s v = ap (λ (f : Value → Bool). f v) (fold_out-Shape (Value → B
 
 pub belongs_int : (low high n : ℤ) → belongs (shape.Int low high) (pascal.Int n) ≡ is_between low high n
 belongs_int low high n = belongs_out (shape.Int low high) (pascal.Int n) ∙ simp (outs-IntShape, outs-Int)
+
+-- the test of a set's members
+
+pub rises_is : (low : ℕ) (ns : List ℕ) → rises low ns ≡ true → IsRising low ns 256
+rises_is low [] h = leb-true low 256 h
+rises_is low (n ∷ ns) h = (leb-true low n (left_true (nat_le low n) (rises (n + 1) ns) h), rises_is (n + 1) ns (right_true (nat_le low n) (rises (n + 1) ns) h))
+
+pub is_rises : (low : ℕ) (ns : List ℕ) → IsRising low ns 256 → rises low ns ≡ true
+is_rises low [] h = le-leb low 256 h
+is_rises low (n ∷ ns) h = ap (λ b. b && rises (n + 1) ns) (le-leb low n h.0) ∙ is_rises (n + 1) ns h.1
 
 -- a number fits a subrange of integer where it lies between the bounds
 pub fit_int : (low high n : ℤ) → fit_of (shape_of (denoter.Ordinal host.Integer low high)) (pascal.Int n) ≡ (if is_between low high n then Ok tt else Err fault.Range)

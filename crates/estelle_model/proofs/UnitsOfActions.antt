@@ -30,7 +30,7 @@ module _ (S : Type 0) (on : Offers S) (subject : Subject) (meant : Meanings) whe
     held = λ p change s. omega arith;
     sent = λ here p x values. then_never S (Unit {0}) (Unit {0}) spend (λ spent. ip_of S on subject meant here.path (meant p) >>= λ a. output_at S on subject meant p x values a) (spend_never S)
         (λ spent. then_never S IpAddr (Unit {0}) (ip_of S on subject meant here.path (meant p)) (λ a. output_at S on subject meant p x values a) (ip_of_keeps S on (NoMoreUnits S) (units_closed S on) subject meant here.path (meant p))
-        (λ a. needs_keeps S on (NoMoreUnits S) (units_closed S on) subject meant (λ c. is_sent_at (point subject c.instances a) (meant x) && are_values_of (types_received (meant x)) values) (make S on subject meant (effect.Output a p.word x.word values)) (make_never (effect.Output a p.word x.word values))));
+        (λ a. needs_keeps S on (NoMoreUnits S) (units_closed S on) subject meant (λ c. is_sent_at (point subject c.instances a) x.word (meant x) && are_values_of (types_received (meant x)) values) (make S on subject meant (effect.Output a p.word x.word values)) (make_never (effect.Output a p.word x.word values))));
     born = λ o p k n values. seq_never S (Unit {0}) (checked (empty_in o)) (make S on subject meant (effect.Create p k ((child_of subject n).with_parameters values))) (checked_never S (Unit {0}) (empty_in o)) (make_never (effect.Create p k ((child_of subject n).with_parameters values)));
   }
 

@@ -2,6 +2,7 @@
 use Rattle.std.specs.Prelude.{ℕ, zero, suc, Bool, true, false, ◌&&◌, ◌||◌, nat_eq, if◌then◌else◌, List, [], ◌∷◌, map, slice_get, is_some, Option, Some, None, Result, Ok, Err}
 use Rattle.std.specs.Option.{ok_or}
 use Rattle.std.specs.List.{list_any}
+use Rattle.std.specs.Str.{bytes_eq}
 use Rattle.std.specs.FinMap as map
 use Rattle.pascal_values.specs.declared.fault.Fault.{Fault}
 use Rattle.pascal_values.specs.declared.fault.Fault.TheVariants as fault
@@ -58,10 +59,10 @@ or_no_module i = ok_or i fault.NoModule
 abbrev pub instance_at : Path → Core → Result Instance Fault
 instance_at p c = or_no_module (map.get c.instances p)
 
--- the interaction that a name means may be sent at the interaction point
-abbrev pub is_sent_at : Option InteractionPoint → Meaning → Bool
-is_sent_at p (Interaction kind) = sent_at p kind
-is_sent_at p _ = false
+-- the interaction that a name means is declared with this word, and may be sent at the interaction point
+abbrev pub is_sent_at : Option InteractionPoint → List ℕ → Meaning → Bool
+is_sent_at p word (Interaction kind) = bytes_eq kind.word word && sent_at p kind
+is_sent_at p word _ = false
 
 -- the module variable has this header
 abbrev pub has_header : Option ℕ → ℕ → Bool
@@ -98,7 +99,7 @@ module _ (S : Type 0) (on : Offers S) (subject : Subject) (meant : Meanings) whe
   abbrev pub fails_if : Bool → Fault → Do S
   fails_if b f = if b then fail f else pure tt
 
-  -- a statement with a name of another kind: an accepted specification has none
+  -- a statement with a name of another kind counts as the fault Unset
   abbrev pub no_such : {A : Type 0} → Step S A
   no_such = fail fault.Unset
 
@@ -120,7 +121,7 @@ module _ (S : Type 0) (on : Offers S) (subject : Subject) (meant : Meanings) whe
   ip_named here p None = ip_of here.path (meant p)
   ip_named here x (Some p) = part_of_child here x p
 
-  -- what an accepted specification has: else the statement is as one with a name of another kind
+  -- what the statement presumes: else it is as one with a name of another kind
   abbrev pub needs : (Core → Bool) → Do S
   needs test = do
     b ← read (λ c. Ok (test c))
@@ -215,7 +216,7 @@ module _ (S : Type 0) (on : Offers S) (subject : Subject) (meant : Meanings) whe
 
   abbrev pub output_at : Name → Name → List Value → IpAddr → Do S
   output_at p m values a = do
-    allowed ← needs (λ c. is_sent_at (point subject c.instances a) (meant m) && are_values_of (types_received (meant m)) values)
+    allowed ← needs (λ c. is_sent_at (point subject c.instances a) m.word (meant m) && are_values_of (types_received (meant m)) values)
     make (effect.Output a p.word m.word values)
 
   -- the arguments, then the unit

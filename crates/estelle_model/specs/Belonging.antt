@@ -1,5 +1,5 @@
 -- Which values belong to a type, unset parts allowed; and what may be stored in a variable, or a part of one, by its declared type.
-use Rattle.std.specs.Prelude.{ℕ, Bool, true, false, ◌&&◌, ◌==◌, List, [], ◌∷◌, length, map as each, slice_get, Option, Some, None}
+use Rattle.std.specs.Prelude.{ℕ, ◌+◌, nat_le, Bool, true, false, ◌&&◌, ◌==◌, List, [], ◌∷◌, length, map as each, slice_get, Option, Some, None}
 use Rattle.std.specs.List.{list_all}
 use Rattle.pascal_values.specs.declared.value.Value.{Value, out-Value}
 use Rattle.pascal_values.specs.declared.value.Value.TheOpen.{Value-F}
@@ -11,7 +11,12 @@ use Rattle.pascal_values.specs.Shapes.{item_count, has_ordinal, bool_ordinal, ea
 use Rattle.estelle_model.specs.declared.denoter.Denoter.{Denoter}
 use Rattle.estelle_model.specs.Types.{shape_of}
 
--- a value is of the type's kind with all its parts, and each simple part or set lies within its bounds or is unset
+-- the ordinals rise, from low on, and end below 256
+abbrev pub rises : ℕ → List ℕ → Bool
+rises low [] = nat_le low 256
+rises low (n ∷ ns) = nat_le low n && rises (n + 1) ns
+
+-- a value is of the type's kind with all its parts, and each simple part or set lies within its bounds or is unset; the members of a set rise
 abbrev pub belongs_at : Shape-F (Value → Bool) → Value-F Value → Bool
 belongs_at (Shape-F.Array low high item) (Value-F.Array vs) = (length vs == item_count low high) && list_all item vs
 belongs_at (Shape-F.Array low high item) _ = false
@@ -22,7 +27,7 @@ belongs_at (Shape-F.Int low high) (Value-F.Int n) = is_between low high n
 belongs_at (Shape-F.Bool low high) (Value-F.Bool b) = has_ordinal low high (bool_ordinal b)
 belongs_at (Shape-F.Char low high) (Value-F.Char n) = has_ordinal low high n
 belongs_at (Shape-F.Enum low high) (Value-F.Enum n) = has_ordinal low high n
-belongs_at (Shape-F.Set low high) (Value-F.Set ns) = list_all (has_ordinal low high) ns
+belongs_at (Shape-F.Set low high) (Value-F.Set ns) = rises 0 ns && list_all (has_ordinal low high) ns
 belongs_at _ _ = false
 
 abbrev pub belongs_step : Shape-F (Value → Bool) → Value → Bool

@@ -125,7 +125,7 @@ senders c g = record {
 abbrev pub inter_declares : ℕ → Senders → Inter → Declarations
 inter_declares channel by x =
     sections_declare local 0 (parameter_sections x.params)
-    ++ declare x.name (λ known. Interaction (record { channel = channel; senders = by; parameters = section_types known (parameter_sections x.params) })) ∷ []
+    ++ declare x.name (λ known. Interaction (record { channel = channel; word = x.name.word; senders = by; parameters = section_types known (parameter_sections x.params) })) ∷ []
 
 abbrev pub group_declares : ChannelTree → InterGroup → Declarations
 group_declares c g = flat_map (inter_declares c.name.span.start (senders c g)) g.inters

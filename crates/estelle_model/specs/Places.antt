@@ -57,7 +57,7 @@ module _ (S : Type 0) (on : Offers S) where
   put_in_instance None p x way v = λ s. Err (NoModule, s.left)
   put_in_instance (Some i) p x way v = λ s. if may_store ((on.core s.state).types i.body) x way v then Ok (tt, record s { state = on.keeps p (Store x way v) s.state }) else Err (Unset, s.left)
 
-  -- puts a value at a place. In a variable of an instance it must belong there: else Unset, as where the name is of another body; an accepted specification has no such name.
+  -- puts a value at a place. In a variable of an instance it must belong there: else Unset, as where the name is of another body
   unfoldable pub put : Place → Value → Do S
   put (Of p x way) v = λ s. put_in_instance (map.get (on.core s.state).instances p) p x way v s
   put (In f x way) v = λ s. Ok (tt, record s { frames = changed_at s.frames f (λ frame. with_part frame (x ∷ way) v) })

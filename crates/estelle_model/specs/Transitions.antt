@@ -130,7 +130,7 @@ module _ (known : Meanings) where
   abbrev pub ordinals : Denoter → List ℤ
   ordinals t = numbers_from (range_of t).0 (item_count (range_of t).0 (range_of t).1)
 
-  -- an ordinal that the host type does not have counts as unset; no accepted tree has one
+  -- an ordinal that the host type does not have counts as unset
   abbrev pub or_unset : Result Value Fault → Value
   or_unset (Ok v) = v
   or_unset (Err e) = pascal.Unset

@@ -1,6 +1,6 @@
 use crate::denoter::Host;
 use crate::shared::{Statements, Type};
-use estelle_tree::{Items, Required};
+use estelle_tree::{Items, Required, Word};
 use pascal_values::Value;
 
 /// How a parameter is passed (ISO 7185, 6.6.3).
@@ -77,6 +77,8 @@ pub struct Senders {
 /// An interaction as its channel declares it (ISO/IEC 9074).
 pub struct InteractionKind {
     pub channel: u32,
+    /// Its name in the declaration.
+    pub word: Word,
     pub senders: Senders,
     /// The types of its parameters.
     pub parameters: Items<Type>,
@@ -86,6 +88,7 @@ impl Drop for InteractionKind {
     fn drop(self) {
         let InteractionKind {
             channel: _,
+            word: _,
             senders: _,
             parameters: _,
         } = self;

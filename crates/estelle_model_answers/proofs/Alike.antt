@@ -330,8 +330,8 @@ module _ (S T : Type 0) (on : Offers S) (on' : Offers T) (faithful : IsFaithful 
     -- ---- output
 
     output_at_alike : (p x : Name) (values : List Value) (a : IpAddr) → is_inside m a.path ≡ true → DoesAlike (output_at S on s known p x values a) (output_at T on' s known p x values a)
-    output_at_alike p w values a inside x y r = needs_at (λ c. is_sent_at (point s c.instances a) (known w) && are_values_of (types_received (known w)) values) _ _ x y r (ap (λ o. is_sent_at o (known w) && are_values_of (types_received (known w)) values) (point_alike x.state y.state r.state a inside))
-        (λ allowed. make_at (effect.Output a p.word w.word values) x y r (inside, sent_there (point s (on.core x.state).instances a) (known w) (left_true (is_sent_at (point s (on.core x.state).instances a) (known w)) (are_values_of (types_received (known w)) values) allowed)) tt)
+    output_at_alike p w values a inside x y r = needs_at (λ c. is_sent_at (point s c.instances a) w.word (known w) && are_values_of (types_received (known w)) values) _ _ x y r (ap (λ o. is_sent_at o w.word (known w) && are_values_of (types_received (known w)) values) (point_alike x.state y.state r.state a inside))
+        (λ allowed. make_at (effect.Output a p.word w.word values) x y r (inside, sent_there (point s (on.core x.state).instances a) w.word (known w) (left_true (is_sent_at (point s (on.core x.state).instances a) w.word (known w)) (are_values_of (types_received (known w)) values) allowed)) tt)
 
     output_alike : (here : Environment) (p w : Name) (es : List (Operand S)) (fs : List (Operand T)) → is_inside m here.path ≡ true → EachAlike (OperandAlike S T on on' m R) es fs → DoesAlike (output S on s known here p w es) (output T on' s known here p w fs)
     output_alike here p w es fs inside h = then_alike S T R (GivenAlike m) (Same {A = Unit {0}}) (give_all (map ByValue (types_received (known w))) es no_arguments) (give_all (map ByValue (types_received (known w))) fs no_arguments) (λ G. spend >>= λ spent. ip_of S on s known here.path (known p) >>= λ a. output_at S on s known p w G.values a) (λ G. spend >>= λ spent. ip_of T on' s known here.path (known p) >>= λ a. output_at T on' s known p w G.values a)

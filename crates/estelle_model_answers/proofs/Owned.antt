@@ -102,10 +102,10 @@ not_itself (Some p) h =
     let roles : not (same_role p.role p.role) ≡ true = left_true (not (same_role p.role p.role)) (p.external || p.external) (right_true (nat_eq p.channel p.channel) (not (same_role p.role p.role) && (p.external || p.external)) h) in
     let wrong : false ≡ true = sym (ap not (role_same p.role)) ∙ roles in absurd (cc)
 
-pub sent_there : (o : Option InteractionPoint) (w : Meaning) → is_sent_at o w ≡ true → (p : InteractionPoint) × (o ≡ Some p)
-sent_there (Some p) w h = (p, refl)
-sent_there None (Interaction kind) h = absurd (cc)
-sent_there None _ h = absurd (cc)
+pub sent_there : (o : Option InteractionPoint) (word : List ℕ) (w : Meaning) → is_sent_at o word w ≡ true → (p : InteractionPoint) × (o ≡ Some p)
+sent_there (Some p) word w h = (p, refl)
+sent_there None word (Interaction kind) h = absurd (let wrong : false ≡ true = right_true (bytes_eq kind.word word) false h in cc)
+sent_there None word _ h = absurd (cc)
 
 -- ---- links
 

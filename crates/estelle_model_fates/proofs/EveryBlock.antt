@@ -172,7 +172,7 @@ module _ (S T : Type 0) (on : Offers S) (on' : Offers T) (R : S → T → Type 0
     detach_alike here p = then_same S T R (Same {A = Unit {0}}) (ip_of S on subject meant here.path (meant p)) (ip_of T on' subject meant here.path (meant p)) (detach_point S on subject meant) (detach_point T on' subject meant) (ip_of_alike here.path (meant p)) detach_point_alike
 
     output_at_alike : (p x : Name) (values : List Value) (a : IpAddr) → DoAlike S T R (output_at S on subject meant p x values a) (output_at T on' subject meant p x values a)
-    output_at_alike p x values a = needs_alike (λ c. is_sent_at (point subject c.instances a) (meant x) && are_values_of (types_received (meant x)) values) _ _ ((make_alike (effect.Output a p.word x.word values) (λ c. tt)))
+    output_at_alike p x values a = needs_alike (λ c. is_sent_at (point subject c.instances a) x.word (meant x) && are_values_of (types_received (meant x)) values) _ _ ((make_alike (effect.Output a p.word x.word values) (λ c. tt)))
 
     output_alike : (here : Environment) (p x : Name) (es : List (Operand S)) (fs : List (Operand T)) → EachAlike (OperandAlike S T on on' [] R) es fs → DoAlike S T R (output S on subject meant here p x es) (output T on' subject meant here p x fs)
     output_alike here p x es fs h = then_alike S T R (GivenAlike []) (Same {A = Unit {0}}) (give_all (map ByValue (types_received (meant x))) es no_arguments) (give_all (map ByValue (types_received (meant x))) fs no_arguments) (λ G. spend >>= λ spent. ip_of S on subject meant here.path (meant p) >>= λ a. output_at S on subject meant p x G.values a) (λ G. spend >>= λ spent. ip_of T on' subject meant here.path (meant p) >>= λ a. output_at T on' subject meant p x G.values a) (give_all_alike S T on on' [] R (map ByValue (types_received (meant x))) es fs no_arguments h tt) (λ g j gj. then_same S T R (Same {A = Unit {0}}) (spend) (spend) (λ spent. ip_of S on subject meant here.path (meant p) >>= λ a. output_at S on subject meant p x g.values a) (λ spent. ip_of T on' subject meant here.path (meant p) >>= λ a. output_at T on' subject meant p x j.values a) (spend_alike S T R) (λ spent. then_same S T R (Same {A = Unit {0}}) (ip_of S on subject meant here.path (meant p)) (ip_of T on' subject meant here.path (meant p)) (λ a. output_at S on subject meant p x g.values a) (λ a. output_at T on' subject meant p x j.values a) (ip_of_alike here.path (meant p)) (λ a. subst (λ (c : ActualParameters). DoAlike S T R (output_at S on subject meant p x g.values a) (output_at T on' subject meant p x c.values a)) gj.0 (output_at_alike p x g.values a))))

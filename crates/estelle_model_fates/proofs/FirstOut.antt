@@ -278,7 +278,7 @@ module _ (s : Subject) (leads : LeadsToStates s) (budget : ℕ) (e : Event) (es 
     -- ---- overtaking
 
     instance_of : (x : ℕ) (w : Waiting) → Has (at x).mail w → (z : Instance) × (map.get (at x).core.instances w.at.path ≡ Some z)
-    instance_of x w in_x = let may = (legal x).mail.each w (contains_has (at x).mail w in_x) in there_of s (map.get (at x).core.instances w.at.path) w.at.ip may.at may.there
+    instance_of x w in_x = let may = ((legal x).mail.each w (contains_has (at x).mail w in_x)).arrives in there_of s (map.get (at x).core.instances w.at.path) w.at.ip may.at may.there
 
     -- it waits in the queue of an interaction point
     abbrev Queued : ℕ → IpAddr → Type 0

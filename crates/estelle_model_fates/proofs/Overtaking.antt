@@ -191,7 +191,7 @@ module _ (i : ℕ) (s : Subject) (budget : ℕ) where
     from_here es g x k goes never legal front waits taken =
         let w = with_number i (queue s g a) waits in
         let in_mail = has_filter (λ (v : Waiting). one_queue s g.core.instances a v.at) g.mail w.0 w.1 in
-        let may = legal.mail.each w.0 (contains_has g.mail w.0 in_mail.0) in
+        let may = (legal.mail.each w.0 (contains_has g.mail w.0 in_mail.0)).arrives in
         let instance = there_of s (map.get g.core.instances w.0.at.path) w.0.at.ip may.at may.there in
         let born = all_born_of s g.core.instances legal.instances w.0.at.path instance.0 instance.1 in
         by w.0 w.2 in_mail.1 instance.0 instance.1

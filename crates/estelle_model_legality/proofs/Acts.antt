@@ -2,6 +2,7 @@
 use Rattle.std.proofs.Common.{◌≡◌, ℕ, ◌-◌, Bool, true, false, ◌&&◌, ◌||◌, List, [], ◌∷◌, map, Result, Ok, Err, Option, Some, None, cond, refl, sym, ap, subst, ◌∙◌, inl, inr}
 use Rattle.std.specs.Prelude.{nat_lt, slice_get, if◌then◌else◌}
 use Rattle.std.specs.FinMap as fin
+use Rattle.std.specs.Str.{bytes_eq}
 use Rattle.pascal_values.specs.declared.fault.Fault.{Fault}
 use Rattle.pascal_values.specs.declared.fault.Fault.TheVariants as fault
 use Rattle.pascal_values.specs.declared.value.Value.{Value}
@@ -32,7 +33,7 @@ use Rattle.estelle_model.specs.Actions.{is_bound, is_connected, is_upper, at, co
 use Rattle.estelle_model.specs.Definitions.{types_received}
 use Rattle.estelle_model.proofs.Units.{Each}
 use Rattle.estelle_model.proofs.Kept.{Has, IsClosed, OperandKept, pure_kept, fail_kept, if_kept, seq_kept, give_all_kept, child_kept, read_kept}
-use Rattle.estelle_model_legality.proofs.Lists.{and_both}
+use Rattle.estelle_model_legality.proofs.Lists.{and_both, same_path}
 use Rattle.estelle_model_legality.proofs.Within.{Keeps, keeps_then, outside_same}
 use Rattle.estelle_model_legality.proofs.Steps.{good_connect, good_disconnect, good_attach, good_detach, good_output, good_store}
 
@@ -211,11 +212,12 @@ module _ (s : Subject) (making : List Path) (q : Path) where
 
     -- ---- output
 
-    output_sent : (m : Name) (chosen : List Choice) (mm : Meaning) → mm ≡ meant m → meant m ≡ meant_with s chosen m → (p : Name) (values : List Value) (a : IpAddr) (t : Running Acting) → (is_sent_at (point s t.state.situation.core.instances a) mm && are_values_of (types_received mm) values) ≡ true → KU t (make Acting on_situation s meant (effect.Output a p.word m.word values) t)
+    output_sent : (m : Name) (chosen : List Choice) (mm : Meaning) → mm ≡ meant m → meant m ≡ meant_with s chosen m → (p : Name) (values : List Value) (a : IpAddr) (t : Running Acting) → (is_sent_at (point s t.state.situation.core.instances a) m.word mm && are_values_of (types_received mm) values) ≡ true → KU t (make Acting on_situation s meant (effect.Output a p.word m.word values) t)
     output_sent m chosen (Interaction kind) is by p values a t h w =
-        let b = and_both (sent_at (point s t.state.situation.core.instances a) kind) (are_values_of kind.parameters values) h in
-        let x = from (point s t.state.situation.core.instances a) b.0 in
-        good_output s making q t.state.situation w a p.word m.word values x.0 kind x.1 x.2 (record { by = m; chosen = chosen; word = refl; means = sym by ∙ sym is; values = b.1 })
+        let b = and_both (bytes_eq kind.word m.word && sent_at (point s t.state.situation.core.instances a) kind) (are_values_of kind.parameters values) h in
+        let c = and_both (bytes_eq kind.word m.word) (sent_at (point s t.state.situation.core.instances a) kind) b.0 in
+        let x = from (point s t.state.situation.core.instances a) c.1 in
+        good_output s making q t.state.situation w a p.word m.word values x.0 kind x.1 x.2 (record { by = m; chosen = chosen; means = sym by ∙ sym is; word = sym (same_path kind.word m.word c.0); values = b.1 })
       where
         from : (o : Option InteractionPoint) → sent_at o kind ≡ true → (y : InteractionPoint) × (o ≡ Some y) × (sends y kind ≡ true)
         from None e = absurd (cc)
@@ -223,7 +225,7 @@ module _ (s : Subject) (making : List Path) (q : Path) where
     output_sent m chosen _ is by p values a t h w = absurd (cc)
 
     output_at_keeps : (m : Name) (chosen : List Choice) → meant m ≡ meant_with s chosen m → (p : Name) (values : List Value) (a : IpAddr) → Has (Keeps s making q) (output_at Acting on_situation s meant p m values a)
-    output_at_keeps m chosen by p values a t = needs_then (λ c. is_sent_at (point s c.instances a) (meant m) && are_values_of (types_received (meant m)) values) (make Acting on_situation s meant (effect.Output a p.word m.word values)) t
+    output_at_keeps m chosen by p values a t = needs_then (λ c. is_sent_at (point s c.instances a) m.word (meant m) && are_values_of (types_received (meant m)) values) (make Acting on_situation s meant (effect.Output a p.word m.word values)) t
         (λ h. output_sent m chosen (meant m) refl by p values a t h)
 
     pub output_keeps : (m : Name) (chosen : List Choice) → meant m ≡ meant_with s chosen m → (here : Environment) (p : Name) (es : List (Operand Acting)) → Each (OperandKept Acting on_situation (Keeps s making q) closed) es → Has (Keeps s making q) (output Acting on_situation s meant here p m es)

@@ -143,14 +143,14 @@ pub record Waits (s : Subject) (is : Instances) (links : List Link) (count : ℕ
 
 pub waits_of : (s : Subject) (g : Situation) → MayBeWaiting s g → Waits s g.core.instances g.core.links g.made g.mail
 waits_of s g h = record {
-  each = each_of Waiting (WaitsAs s g.core.instances g.core.links) g.mail (λ w c. let x = h.each w c in record { at = x.at; there = x.there; kind = x.kind; of_kind = x.of_kind; received = x.received; last = x.last });
+  each = each_of Waiting (WaitsAs s g.core.instances g.core.links) g.mail (λ w c. let x = h.each w c in record { at = x.arrives.at; there = x.arrives.there; kind = x.arrives.kind; of_kind = x.arrives.of_kind; received = x.arrives.received; last = x.last });
   distinct = h.distinct;
   made = each_of Waiting (λ w. w.item.number ≤ g.made) g.mail h.made;
 }
 
 pub of_waits : (s : Subject) (g : Situation) → Waits s g.core.instances g.core.links g.made g.mail → MayBeWaiting s g
 of_waits s g h = record {
-  each = λ w c. let x = of_each Waiting (WaitsAs s g.core.instances g.core.links) g.mail h.each w c in record { at = x.at; there = x.there; kind = x.kind; of_kind = x.of_kind; received = x.received; last = x.last };
+  each = λ w c. let x = of_each Waiting (WaitsAs s g.core.instances g.core.links) g.mail h.each w c in record { arrives = record { at = x.at; there = x.there; kind = x.kind; of_kind = x.of_kind; received = x.received }; last = x.last };
   distinct = h.distinct;
   made = of_each Waiting (λ w. w.item.number ≤ g.made) g.mail h.made;
 }

@@ -2,6 +2,8 @@
 pub mod Lists
 pub mod Ways
 pub mod Lookups
+pub mod Members
+pub mod Entries
 -- ---- instances
 pub mod Belonging
 pub mod Standing
@@ -21,8 +23,8 @@ pub mod Fired
 pub mod Others
 -- ---- jobs
 pub mod Taken
+pub mod Conditions
 -- ---- what is chosen
-pub mod Members
 pub mod Children
 pub mod Choosing
 pub mod ChosenOnce

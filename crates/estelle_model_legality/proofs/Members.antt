@@ -1,5 +1,5 @@
 -- The elements of a list, one after another.
-use Rattle.std.proofs.Common.{◌≡◌, ◌⊎◌, ◌<◌, ℕ, zero, suc, Bool, true, false, List, [], ◌∷◌, ◌++◌, filter, Some, refl, sym, ap, subst, cond, ◌∙◌, inl, inr, arith}
+use Rattle.std.proofs.Common.{◌≡◌, ◌⊎◌, ◌<◌, ℕ, zero, suc, Bool, true, false, List, [], ◌∷◌, ◌++◌, map, filter, Some, refl, sym, ap, subst, cond, ◌∙◌, inl, inr, arith}
 use Rattle.std.specs.Prelude.{◌||◌, Contains, slice_get}
 use Rattle.std.specs.List.{list_any}
 
@@ -30,6 +30,18 @@ has_append (z ∷ xs) ys x (inr h) = elim (has_append xs ys x h) [ inl k ↦ inl
 
 pub nothing_has : {A : Type 0} (xs : List A) (x : A) → xs ≡ [] → Has xs x → ⊥
 nothing_has xs x e h = subst (λ ys. Has ys x) e h
+
+-- ---- images of elements
+
+pub has_each : {A B : Type 0} (f : A → B) (xs : List A) (x : A) → Has xs x → Has (map f xs) (f x)
+has_each f [] x h = absurd h
+has_each f (z ∷ xs) x (inl e) = inl (ap f e)
+has_each f (z ∷ xs) x (inr h) = inr (has_each f xs x h)
+
+pub each_has : {A B : Type 0} (f : A → B) (xs : List A) (y : B) → Has (map f xs) y → (x : A) × (Has xs x) × (f x ≡ y)
+each_has f [] y h = absurd h
+each_has f (x ∷ xs) y (inl e) = (x, inl refl, e)
+each_has f (x ∷ xs) y (inr h) = let r = each_has f xs y h in (r.0, inr r.1, r.2)
 
 -- ---- filters
 

@@ -38,10 +38,10 @@ none_distinct : IsDistinct nat_eq []
 unfolding IsDistinct
 none_distinct = tt
 
-abbrev only : Option Instance → Lookup
+abbrev pub only : Option Instance → Lookup
 only o q = cond (same q []) o None
 
-only_there : (o : Option Instance) (q : Path) → fin.get (alone o) q ≡ only o q
+pub only_there : (o : Option Instance) (q : Path) → fin.get (alone o) q ≡ only o q
 only_there None q = get-empty path_cmp q ∙ by (same q [])
   where
     by : (b : Bool) → ◌≡◌ {A = Option Instance} None (cond b None None)
@@ -49,14 +49,14 @@ only_there None q = get-empty path_cmp q ∙ by (same q [])
     by false = refl
 only_there (Some i) q = get-insert nat_list_cmp_total fin.empty [] i q ∙ ap (cond (same q []) (Some i)) (get-empty path_cmp q)
 
-only_was : (o : Option Instance) (q : Path) (i : Instance) → only o q ≡ Some i → (q ≡ []) × (o ≡ Some i)
+pub only_was : (o : Option Instance) (q : Path) (i : Instance) → only o q ≡ Some i → (q ≡ []) × (o ≡ Some i)
 only_was o q i h = by (same q []) refl h
   where
     by : (b : Bool) → same q [] ≡ b → cond b o None ≡ Some i → (q ≡ []) × (o ≡ Some i)
     by true e g = (same_is q [] e, g)
     by false e g = absurd (cc)
 
-root_was : (s : Subject) (o : Option BodyAlone) (i : Instance) → option_map (λ b. new_instance s 0 b []) o ≡ Some i → (b : BodyAlone) × (o ≡ Some b) × (new_instance s 0 b [] ≡ i)
+pub root_was : (s : Subject) (o : Option BodyAlone) (i : Instance) → option_map (λ b. new_instance s 0 b []) o ≡ Some i → (b : BodyAlone) × (o ≡ Some b) × (new_instance s 0 b [] ≡ i)
 root_was s None i h = absurd (cc)
 root_was s (Some b) i h = (b, refl, cc)
 

@@ -37,7 +37,7 @@ nothing_below x [] h = refl
 nothing_below x (y ∷ m) h = absurd (cc)
 
 -- the parent of an instance below m is at or below m
-parent_inside : (m p : Path) (k : ℕ) → is_inside m (child p k) ≡ true → is_inside (child p k) m ≡ false → is_inside m p ≡ true
+pub parent_inside : (m p : Path) (k : ℕ) → is_inside m (child p k) ≡ true → is_inside (child p k) m ≡ false → is_inside m p ≡ true
 parent_inside [] p k h n = inside_root p
 parent_inside (x ∷ m) [] k h n =
     let first : x ≡ k = eqb-true x k (left_true (nat_eq x k) (is_inside m []) h) in

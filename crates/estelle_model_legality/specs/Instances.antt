@@ -1,7 +1,7 @@
 -- Which instances may stand together: the tree of modules that headers and attributes allow (ISO/IEC 9074: module instances).
-use Rattle.std.specs.Prelude.{◌≡◌, ◌≤◌, ◌<◌, ◌⊎◌, ℕ, IsTrue, List, [], length, slice_get, Option, Some, None, Contains}
+use Rattle.std.specs.Prelude.{◌≡◌, ◌≤◌, ◌<◌, ◌⊎◌, ℕ, true, IsTrue, List, [], length, slice_get, Option, Some, None, Contains}
 use Rattle.std.specs.FinMap as map
-use Rattle.estelle_tree.specs.Paths.{Path, child}
+use Rattle.estelle_tree.specs.Paths.{Path, child, is_inside}
 use Rattle.estelle_model.specs.Core.{Instance, Instances}
 use Rattle.estelle_model.specs.Bodies.{BodyAlone, variable_types, module_variables_in, states_in}
 use Rattle.estelle_model.specs.Transitions.{Transition}
@@ -51,13 +51,32 @@ pub record HasParentBut (s : Subject) (making : List Path) (instances : Instance
   pub allowed : IsTrue (allows (attribute s parent.body) (attribute s i.body))
   pub held : Contains making (child p k) ⊎ IsHeld s parent i (child p k)
 
+-- each instance has a body with what it declares
+abbrev pub AreOfBodiesBut : Subject → List Path → Instances → Type 0
+AreOfBodiesBut s making instances = (p : Path) (i : Instance) → map.get instances p ≡ Some i → (b : BodyAlone) × (body s i.body ≡ Some b) × IsOfBodyBut s (Contains making p) b i
+
+-- module variables hold children that are there
+abbrev pub HoldChildren : Instances → Type 0
+HoldChildren instances = (p : Path) (i : Instance) (m : ℕ) (held : Option Path) → map.get instances p ≡ Some i → slice_get i.module_variables m ≡ Some held → Holds instances p held
+
+-- a body with transitions belongs to a header with an attribute
+abbrev pub MayHaveTransitions : Subject → Instances → Type 0
+MayHaveTransitions s instances = (p : Path) (i : Instance) → map.get instances p ≡ Some i → IsTrue (may_have_transitions s i.body)
+
 -- all instances have a body with what it declares, and stand where they may; within a firing some are being made
 pub record MayStandBut (s : Subject) (making : List Path) (instances : Instances) : Type 0 where
-  pub bodies : (p : Path) (i : Instance) → map.get instances p ≡ Some i → (b : BodyAlone) × (body s i.body ≡ Some b) × IsOfBodyBut s (Contains making p) b i
-  pub holds : (p : Path) (i : Instance) (m : ℕ) (held : Option Path) → map.get instances p ≡ Some i → slice_get i.module_variables m ≡ Some held → Holds instances p held
+  pub bodies : AreOfBodiesBut s making instances
+  pub holds : HoldChildren instances
   pub parents : (p : Path) (k : ℕ) (i : Instance) → map.get instances (child p k) ≡ Some i → HasParentBut s making instances p k i
-  pub transitions : (p : Path) (i : Instance) → map.get instances p ≡ Some i → IsTrue (may_have_transitions s i.body)
+  pub transitions : MayHaveTransitions s instances
 
 -- between events every child is held and has its state
 abbrev pub MayStand : Subject → Instances → Type 0
 MayStand s = MayStandBut s []
+
+-- the instances at and below one may stand together; of its own parent nothing is said
+pub record MayStandBelow (s : Subject) (m : Path) (instances : Instances) : Type 0 where
+  pub bodies : AreOfBodiesBut s [] instances
+  pub holds : HoldChildren instances
+  pub parents : (p : Path) (k : ℕ) (i : Instance) → is_inside m p ≡ true → map.get instances (child p k) ≡ Some i → HasParentBut s [] instances p k i
+  pub transitions : MayHaveTransitions s instances

@@ -1,12 +1,15 @@
 //! Laws of legal situations: their contracts are the laws, and they do nothing.
 
 ghost use Rattle.estelle_model_legality.specs.Choices.{LegalAreTree, ChosenIsSelected, ChosenIsOne, ChosenIsThere};
-ghost use Rattle.estelle_model_legality.specs.Jobs.{PendingHaveJobs};
+ghost use Rattle.estelle_model_legality.specs.Jobs.{PendingHaveJobs, PendingMeetCondition, StartMeetsCondition};
 ghost use Rattle.estelle_model_legality.specs.Keeping.{StartIsLegal, EventsKeepLegal, RunsAreLegal};
 
-/// What is pending in a legal situation has a job there: what is computed of it alone answers for the situation.
+/// What is pending in a legal situation has a job there: what is computed of it alone answers for the situation. That job
+/// meets the condition of a job, where more children can be born than it has units, and so does that of the initialization.
 pub fn pending_have_jobs()
-    ensures { PendingHaveJobs }
+    ensures jobs { PendingHaveJobs }
+    ensures condition { PendingMeetCondition }
+    ensures start { StartMeetsCondition }
 {}
 
 /// The situation that the start comes to is legal, for every specification whose initializations and transitions lead to

@@ -1,5 +1,3 @@
-pub mod Spans
-pub mod OpenGroups
 pub mod Cuts
 pub mod CutTypes
 pub mod CutExpressions

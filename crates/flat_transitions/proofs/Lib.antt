@@ -8,7 +8,6 @@ pub mod Counts
 pub mod Joining
 pub mod Said
 pub mod Flattened
-pub mod OfSpecification
 pub mod BodyEquations
 pub mod Numbers
 pub mod Standings

@@ -1,5 +1,6 @@
 pub mod Integers
 pub mod Sets
+pub mod Operations
 pub mod Values
 pub mod Shapes
 pub mod Order

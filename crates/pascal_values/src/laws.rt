@@ -1,6 +1,7 @@
 //! Laws of integers, of sets and of the text of a value, each the contract of a function that does nothing.
 
 ghost use Rattle.pascal_values.specs.Integers.{IsRemainder};
+ghost use Rattle.pascal_values.specs.Operations.{GiveSets};
 ghost use Rattle.pascal_values.specs.Reading.{HasOneReading, IsReadAgain};
 ghost use Rattle.pascal_values.specs.Sets.{ChoosesMembers, IsToldByMembers};
 
@@ -12,6 +13,11 @@ pub fn remainder_law()
 /// The operations on sets, which are defined by a test of the members, have exactly those members.
 pub fn chosen_members()
     ensures { ChoosesMembers }
+{}
+
+/// Each operation that makes a set gives a rising list of ordinals, whatever it is given.
+pub fn sets_are_given()
+    ensures { GiveSets }
 {}
 
 /// Two sets with the same members are equal.

@@ -31,7 +31,9 @@ pub use comparing::compare;
 pub use failing::ValueError;
 pub use fault::Fault;
 pub use fitting::{fits, position};
-pub use laws::{chosen_members, one_reading, read_again, remainder_law, told_by_members};
+pub use laws::{
+    chosen_members, one_reading, read_again, remainder_law, sets_are_given, told_by_members,
+};
 pub use members::Members;
 pub use nesting::read_value;
 pub use sets::{has, meet, minus, span, unite};

@@ -1,11 +1,9 @@
 //! Which breach is reported of several.
 
 use crate::marks::{told, wanted};
-use estelle_tree::Spec;
-use spec_accept::accept;
 use std::alloc::Global;
 use std::test::Fail;
-use test_texts::tree;
+use test_texts::judged;
 
 /// Texts that break rules of several kinds, or none.
 const MIXED: [&str; 16] = [
@@ -27,10 +25,11 @@ const MIXED: [&str; 16] = [
     "specification s systemprocess; trans any i: {44}3..1 do begin end; end.",
 ];
 
-fn accepted(alloc: Global, spec: Spec) -> Option<(u8, usize)> {
-    match accept(alloc, spec) {
-        Ok(_) => Some((0, 0)),
-        Err(refusal) => told(refusal),
+fn told_of(alloc: Global, text: &str) -> Option<(u8, usize)> {
+    match judged(alloc, text.as_bytes()) {
+        Some(Ok(_)) => Some((0, 0)),
+        Some(Err(refusal)) => told(refusal),
+        None => None,
     }
 }
 
@@ -38,14 +37,8 @@ fn accepted(alloc: Global, spec: Spec) -> Option<(u8, usize)> {
 #[test]
 fn least_of_all_rules(rt: HostRuntime) -> Result<(), Fail> {
     for text in &MIXED {
-        let spec = tree(rt.alloc(), text.as_bytes());
-        assert!(rt; spec.is_some(), "{text}");
-        if let Some(spec) = spec {
-            assert!(rt;
-                accepted(rt.alloc(), spec) == Some(wanted(text.as_bytes())),
-                "{text}"
-            );
-        }
+        let found = told_of(rt.alloc(), text);
+        assert!(rt; found == Some(wanted(text.as_bytes())), "{text}");
     }
     Ok(())
 }

@@ -7,7 +7,7 @@ use std::alloc::Global;
 use std::test::Fail;
 
 /// Texts. A comment that is a digit alone stands right before the node at which that rule is reported.
-const TEXTS: [&str; 88] = [
+const TEXTS: [&str; 95] = [
     // kept
     "specification s systemprocess; var n: integer; state go; initialize to go begin n := 0 end; trans from go to go provided n < 3 name tick: begin n := n + 1 end; end.",
     "specification s; const s = 1; t = s; end.",
@@ -35,6 +35,7 @@ const TEXTS: [&str; 88] = [
     "specification s; var a: integer; procedure {1}a; begin end; end.",
     "specification s; channel c(r, q); by r: x(a: integer); y; module m(p: integer); ip {1}p: c(r); end; end.",
     "specification s; module m(p: integer); end; body b for m; var {1}p: integer; end; end.",
+    "specification s; module h(x: integer); end; body b for h; var {1}x: integer; procedure x; begin end; end; end.",
     "specification s; procedure f(a: integer); var {1}a: integer; begin end; end.",
     "specification s; channel c(r, {1}r); by r: x; end.",
     "specification s; channel c(r, q); by r: x; {1}x; end.",
@@ -68,6 +69,9 @@ const TEXTS: [&str; 88] = [
     "specification s; module m; end; modvar x: m; initialize begin x.{2}e := 1 end; end.",
     "specification s; channel c(r, q); by r: x(a: {2}r); end.",
     "specification s; channel c(r, q); by r: x(a: {2}x); end.",
+    "specification s; type t = record f: integer end; r = record t: integer; u: t end; var v: r; initialize begin v.u.{2}g := 1 end; end.",
+    "specification s; type t = record f: integer end; r = record t: integer; u: array [1..2] of t end; var v: r; initialize begin v.u[1].{2}g := 1 end; end.",
+    "specification s; type t = integer; var v: 1..t; initialize begin v.{2}f := 1 end; end.",
     // of another kind
     "specification s; initialize begin {3}abs := 1 end; end.",
     "specification s; initialize begin {3}succ := 1 end; end.",
@@ -84,6 +88,9 @@ const TEXTS: [&str; 88] = [
     "specification s; var n: integer; trans priority {3}n begin end; end.",
     "specification s; channel c(r, q); by r: x(a: integer); y; ip p: c(q); trans when p.{3}r begin end; end.",
     "specification s; body b for {3}b; end; end.",
+    "specification s; channel c(a, b); by a: m(t: integer; u: {3}t); end.",
+    "specification s; channel c(a, b); by a: m(x: {3}c); end.",
+    "specification s; module integer(x: {3}integer); end; end.",
     // of another kind, and what stands behind such a name is not judged
     "specification s; var n: integer; v: {3}n; initialize begin v.f := 1 end; end.",
     "specification s; var n: integer; v: array [1..2] of {3}n; initialize begin v[1].f := 1 end; end.",

@@ -2,11 +2,10 @@
 
 use estelle_printer::spell;
 use estelle_tree::{Sequence, Span, Spec, Text};
-use spec_accept::accept;
 use spec_maker::make;
 use std::alloc::{AllocError, Global};
 use std::test::Fail;
-use test_texts::{RING_OF_TWO, WORKED, tree};
+use test_texts::{RING_OF_TWO, WORKED, accepted, tree};
 
 /// How the text of the ring of 11 stations ends, from its module variables on.
 const END_OF_ELEVEN: &str =
@@ -101,7 +100,7 @@ fn is_in_order(alloc: Global, made: Spec) -> Result<bool, AllocError> {
     let text = spell(alloc, &made)?;
     let read = is_read_back(alloc, &made, &text);
     let placed = has_places(&made, text.items().len().min(1_000_000) as u32);
-    Ok(placed && read && accept(alloc, made).is_ok())
+    Ok(placed && read && accepted(alloc, text.items()).is_some())
 }
 
 #[test]

@@ -9,7 +9,7 @@ use test_texts::WORKED;
 use transition_expand::{ExpandError, expand};
 
 /// Texts. A comment of two digits stands right before the node at which that rule is reported.
-const TEXTS: [&str; 55] = [
+const TEXTS: [&str; 60] = [
     // kept
     "specification s systemprocess; channel c(a, b); by a: m; ip p: c(b); trans delay(1) begin end; when p.m begin end; trans when p.m begin end; delay(2, 3) begin end; end.",
     "specification s systemprocess; const c = -1; trans priority 0 begin end; priority -c begin end; priority +3 begin end; end.",
@@ -17,9 +17,6 @@ const TEXTS: [&str; 55] = [
     "specification s systemprocess; trans any i: -2..0 do priority -i begin end; end.",
     "specification s systemprocess; trans any i: 3..1 do priority -i begin end; end.",
     "specification s systemprocess; trans any i: -1..0 do provided true begin end; trans any i: 0..1 do priority i begin end; end.",
-    // without a type it is at fault itself
-    "specification s systemprocess; trans any i: boolean do priority -i begin end; end.",
-    "specification s systemprocess; trans priority -true begin end; end.",
     "specification s systemprocess; trans any c: char; e: (red, green); k: 'a'..'c' do begin end; end.",
     "specification s systemprocess; trans any i: 1..4096 do begin end; end.",
     "specification s systemprocess; trans any i: 0..63; j: 1..64 do begin end; end.",
@@ -46,12 +43,19 @@ const TEXTS: [&str; 55] = [
     "specification s systemprocess; trans any i: 0..1 do priority {31}-i begin end; end.",
     "specification s systemprocess; trans any j: 0..1; i: boolean do priority {31}i begin end; end.",
     "specification s systemprocess; trans any i: (red, green) do priority {31}i begin end; end.",
+    "specification s systemprocess; trans any i: boolean do priority {31}-i begin end; end.",
+    "specification s systemprocess; trans any i: integer do priority {31}i begin end; end.",
+    "specification s systemprocess; trans priority {31}-true begin end; end.",
+    "specification s systemprocess; const c = -true; trans priority {31}c begin end; end.",
     "specification s systemprocess; trans any j, i, k: -1..1 do provided true priority {31}i begin end; end.",
     "specification s systemprocess; trans any i: 0..1 do priority i begin end; trans any i: -1..0 do priority {31}i begin end; end.",
     "specification s systemprocess; trans priority 1 begin end; priority {31}-1 begin end; trans priority -2 begin end; end.",
     // 32
     "specification s systemprocess; trans any i: {32}integer do begin end; end.",
     "specification s systemprocess; type t = integer; trans any i: {32}t do begin end; end.",
+    "specification s systemprocess; type t = 1..true; trans any i: {32}t do begin end; end.",
+    "specification s systemprocess; const c = -true; type t = 1..c; trans any i: {32}t do begin end; end.",
+    "specification s systemprocess; trans any i: {32}1..true do priority i begin end; end.",
     "specification s systemprocess; type t = set of 1..2; trans any i: {32}t do begin end; end.",
     "specification s systemprocess; type t = array [1..2] of integer; trans any i: {32}t do begin end; end.",
     "specification s systemprocess; type t = record f: integer end; trans any j: 1..2; i: {32}t do begin end; end.",

@@ -8,8 +8,10 @@ use std::alloc::Global;
 use std::test::Fail;
 
 /// Texts. A comment of two digits stands right before the node at which that rule is reported.
-const TEXTS: [&str; 131] = [
+const TEXTS: [&str; 135] = [
     // kept
+    "specification s; type t = record f: integer end; r = record t: boolean; u: t end; var v: r; initialize begin v.t := true; v.u.f := 1 end; end.",
+    "specification s; type t = record f: integer end; module m; end; body b for m; var v: record u: t; w: (t, q) end; initialize begin v.u.f := 1; v.w := t end; end; end.",
     "specification s; type t = 1..3; var v: t; n: integer; initialize begin v := n; n := v; v := v + n end; end.",
     "specification s; var a, c: array [1..2] of integer; initialize begin a := c; a[1] := c[2] end; end.",
     "specification s; type t = array [1..2] of integer; u = t; var a: t; c: u; initialize begin a := c end; end.",
@@ -26,6 +28,8 @@ const TEXTS: [&str; 131] = [
     "specification s; type o = 1..1; t = array [o, o, o, o, o, o, o, o, o, o, o, o, o, o, o, o, o, o, o, o, o, o, o, o, o, o, o, o, o, o, o, o, o, o, o, o, o, o, o, o, o, o, o, o, o, o, o, o, o, o, o, o, o, o, o, o, o, o, o, o, o, o, o, o, o, o, o, o, o, o, o, o, o, o, o, o, o, o, o, o, o, o, o, o, o, o, o, o, o, o, o, o, o, o, o, o, o, o, o, o, o, o, o, o, o, o, o, o, o, o, o, o, o, o, o, o, o, o, o, o, o, o, o, o, o, o, o, o, o, o, o, o, o, o, o, o, o, o, o, o, o, o, o, o, o, o, o, o, o, o, o, o, o, o, o, o, o, o, o, o, o, o, o, o, o, o, o, o, o, o, o, o, o, o, o, o, o, o, o, o, o, o, o, o, o, o, o, o, o, o, o, o, o, o, o, o, o, o, o, o] of integer; end.",
     // 40: operations
     "specification s; var n: integer; b: boolean; initialize begin n := {40}n + b end; end.",
+    "specification s; var n: integer; initialize begin n := [not {40}2] end; end.",
+    "specification s; type t = record f: integer end; r = record t: integer; u: t end; var v: r; initialize begin v.u.f := {40}true end; end.",
     "specification s; var n: integer; b: boolean; initialize begin n := {40}b + n end; end.",
     "specification s; var n: integer; b: boolean; initialize begin n := {40}n + n + b end; end.",
     "specification s; var n: integer; b: boolean; initialize begin n := {40}-n + b end; end.",

@@ -6,7 +6,8 @@ use Rattle.std.specs.Map.{lookup}
 use Rattle.std.specs.Str.{bytes_eq}
 use Rattle.indexmap.specs.IndexMap.{insert_entry}
 use Rattle.scope_rules.specs.declared.declaration.Declared.{Declared}
-use Rattle.scope_rules.specs.Scopes.{Word, Scope, Level, in_names, kept_at, declared, earlier, put, is_further}
+use Rattle.scope_rules.specs.Visible.{Word, Scope, Level, in_names, member_names, earlier, is_further}
+use Rattle.scope_rules.specs.Scopes.{declared, put}
 use Rattle.scope_names.specs.Common.{first_of, at_shares, shares, shares_level, shares_scope}
 
 -- one more scope, which is the innermost of these
@@ -31,7 +32,7 @@ unless false b e = refl
 
 pub scope_shares_empty : (kept : List (ℕ × Scope)) (without : Scope) (levels : List Level) → shares_scope kept [] without levels ≡ false
 scope_shares_empty kept without [] = refl
-scope_shares_empty kept without (l ∷ outer) = neither (shares_level kept [] without l) _ (neither (shares l.names [] without) _ (shares_empty l.names without) (shares_empty (kept_at kept l.within) without)) (unless (is_further l.form) _ (scope_shares_empty kept without outer))
+scope_shares_empty kept without (l ∷ outer) = neither (shares_level kept [] without l) _ (neither (shares l.names [] without) _ (shares_empty l.names without) (shares_empty (member_names kept l.within) without)) (unless (is_further l.form) _ (scope_shares_empty kept without outer))
 
 -- keys that are seen as their bytes
 pub lookup_map : {K A : Type 0} (items : K → List ℕ) (w : Word) (es : List (K × A)) → lookup (λ k. bytes_eq w (items k)) es ≡ lookup (bytes_eq w) (map (λ e. (items e.0, e.1)) es)

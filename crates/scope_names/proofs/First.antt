@@ -1,7 +1,7 @@
 -- The breach that is noted is the one that is reported of all that is broken.
 use Rattle.std.proofs.Common.{◌≡◌, ◌≢◌, ℕ, ◌⊎◌, inl, inr, Bool, true, false, nat_eq, ◌||◌, ◌&&◌, if◌then◌else◌, List, [], ◌∷◌, ◌++◌, Option, Some, None, ap, ◌∙◌, sym, refl, subst, arith}
 use Rattle.std.specs.Prelude.{not, IsSome}
-use Rattle.std.specs.Option.{is_some, option_or}
+use Rattle.std.specs.Option.{is_some}
 use Rattle.std.proofs.lemmas.Bool.Decides.{nat_tests}
 use Rattle.estelle_tree.specs.declared.span.Span.{Span}
 use Rattle.estelle_tree.specs.declared.tree.name.Name.{Name}
@@ -14,7 +14,10 @@ use Rattle.scope_rules.specs.declared.refusal.Breach.{Breach}
 use Rattle.scope_rules.specs.Least.{breach, only_if, is_before, noted, IsFirst}
 use Rattle.scope_rules.specs.Kinds.{may_be}
 use Rattle.scope_rules.specs.TypeEvents.{Events}
-use Rattle.scope_rules.specs.Scopes.{Scopes, Scope, Level, Word, start, after, after_one, in_scope, in_scope_of, in_level, in_names, kept_at, is_further, meaning, reached, received, inside_of, declare_one, Sought, sought}
+use Rattle.scope_rules.specs.declared.declaration.Members.{Members}
+use Rattle.scope_rules.specs.declared.declaration.Members.TheVariants as members
+use Rattle.scope_rules.specs.Visible.{Scopes, Scope, Level, Word, earliest, in_scope, in_scope_of, in_level, in_names, member, member_names, is_further, inside_named, brought_by, received, inside_of}
+use Rattle.scope_rules.specs.Scopes.{start, after, after_one, declare_one, Sought, sought}
 use Rattle.scope_rules.specs.NameRules.{IsOne, Somewhere, later, is_listed, names_listed, SecondOf, UnlistedParameter, SecondParameter, DeclaredTwice, NotVisible, OfOtherKind, StatesAtFault, OfOtherHeader, Broken, Breaks}
 use Rattle.scope_rules.proofs.First.{before_self, first_noted, first_same, first_of_none}
 use Rattle.scope_names.proofs.Lists.{listed_found}
@@ -61,10 +64,10 @@ twice_first s x = by (in_scope s x.word) refl
       all = λ c p. let m : d ≡ p.1.0 = (let w = p.1.1.0 in cc) in (breach 1 (later d.at x.span), refl, subst (λ y. is_before y (breach 1 (later d.at x.span)) ≡ false) (sym (made c 1 (later d.at x.span) p.0 (subst (λ y. c.span ≡ later y.at x.span) (sym m) p.1.1.1))) (before_self (breach 1 (later d.at x.span))));
     }
 
-Seconds : Scopes → List Name → Denotes → Option ℕ → Breach → Type 0
+Seconds : Scopes → List Name → Denotes → Members → Breach → Type 0
 Seconds s xs k inside b = (b.number ≡ 1) × SecondOf s xs k inside b.span
 
-twices_first : (P : Breach → Type 0) (first : Option Breach) (s : Scopes) (xs : List Name) (k : Denotes) (inside : Option ℕ) → IsFirst P first → IsFirst (λ b. P b ⊎ Seconds s xs k inside b) (twices first s xs k inside)
+twices_first : (P : Breach → Type 0) (first : Option Breach) (s : Scopes) (xs : List Name) (k : Denotes) (inside : Members) → IsFirst P first → IsFirst (λ b. P b ⊎ Seconds s xs k inside b) (twices first s xs k inside)
 unfolding Seconds Second
 twices_first P first s [] k inside f = first_same P (λ b. P b ⊎ Seconds s [] k inside b) first (λ b p. inl p) (λ b h. elim h [ inl p ↦ p | inr n ↦ absurd n.1 ]) f
 twices_first P first s (x ∷ xs) k inside f =
@@ -88,25 +91,25 @@ right_of : (a b : Bool) → (a && b) ≡ true → b ≡ true
 right_of true b e = e
 right_of false b e = absurd cc
 
-Listed : Scopes → ℕ → List Name → Breach → Type 0
-Listed s parameters xs b = (b.number ≡ 1) × ((x : Name) × (IsOne x xs × IsSome (in_names x.word (kept_at s.kept parameters)) × IsSome (in_scope s x.word) × (b.span ≡ x.span)))
+Listed : Scopes → Members → List Name → Breach → Type 0
+Listed s parameters xs b = (b.number ≡ 1) × ((x : Name) × (IsOne x xs × IsSome (member s parameters x.word) × IsSome (in_scope s x.word) × (b.span ≡ x.span)))
 
-One : Scopes → ℕ → Name → Breach → Type 0
+One : Scopes → Members → Name → Breach → Type 0
 One s parameters x b = (is_second s parameters x ≡ true) × ((b.number ≡ 1) × (b.span ≡ x.span))
 
-listed_first : (P : Breach → Type 0) (first : Option Breach) (s : Scopes) (parameters : ℕ) (xs : List Name) → IsFirst P first → IsFirst (λ b. P b ⊎ Listed s parameters xs b) (listed_twice first s parameters xs)
+listed_first : (P : Breach → Type 0) (first : Option Breach) (s : Scopes) (parameters : Members) (xs : List Name) → IsFirst P first → IsFirst (λ b. P b ⊎ Listed s parameters xs b) (listed_twice first s parameters xs)
 unfolding Listed One
 listed_first P first s parameters [] f = first_same P (λ b. P b ⊎ Listed s parameters [] b) first (λ b p. inl p) (λ b h. elim h [ inl p ↦ p | inr n ↦ absurd n.1.1.0 ]) f
 listed_first P first s parameters (x ∷ xs) f =
     let one = first_noted P (One s parameters x) first (only_if (is_second s parameters x) (breach 1 x.span)) f (first_if (is_second s parameters x) 1 x.span) in
     let rest = listed_first (λ b. P b ⊎ One s parameters x b) (noted first (only_if (is_second s parameters x) (breach 1 x.span))) s parameters xs one in
     first_same (λ b. (P b ⊎ One s parameters x b) ⊎ Listed s parameters xs b) (λ b. P b ⊎ Listed s parameters (x ∷ xs) b) (listed_twice first s parameters (x ∷ xs))
-    (λ b h. elim h [ inl q ↦ (elim q [ inl p ↦ inl p | inr w ↦ inr (w.1.0, (x, (inl refl, left_of (is_some (in_names x.word (kept_at s.kept parameters))) (is_some (in_scope s x.word)) w.0, right_of (is_some (in_names x.word (kept_at s.kept parameters))) (is_some (in_scope s x.word)) w.0, w.1.1))) ]) | inr w ↦ inr (w.0, (w.1.0, (inr w.1.1.0, w.1.1.1, w.1.1.2, w.1.1.3))) ])
+    (λ b h. elim h [ inl q ↦ (elim q [ inl p ↦ inl p | inr w ↦ inr (w.1.0, (x, (inl refl, left_of (is_some (member s parameters x.word)) (is_some (in_scope s x.word)) w.0, right_of (is_some (member s parameters x.word)) (is_some (in_scope s x.word)) w.0, w.1.1))) ]) | inr w ↦ inr (w.0, (w.1.0, (inr w.1.1.0, w.1.1.1, w.1.1.2, w.1.1.3))) ])
     (λ b h. elim h [ inl p ↦ inl (inl p) | inr w ↦ here b w.0 w.1.0 w.1.1.0 w.1.1.1 w.1.1.2 w.1.1.3 ])
     rest
   where
-    here : (b : Breach) → b.number ≡ 1 → (y : Name) → IsOne y (x ∷ xs) → IsSome (in_names y.word (kept_at s.kept parameters)) → IsSome (in_scope s y.word) → b.span ≡ y.span → (P b ⊎ One s parameters x b) ⊎ Listed s parameters xs b
-    here b n y (inl e) p q a = inl (inr (both (is_some (in_names x.word (kept_at s.kept parameters))) (is_some (in_scope s x.word)) (subst (λ z. is_some (in_names z.word (kept_at s.kept parameters)) ≡ true) e p) (subst (λ z. is_some (in_scope s z.word) ≡ true) e q), (n, subst (λ z. b.span ≡ z.span) e a)))
+    here : (b : Breach) → b.number ≡ 1 → (y : Name) → IsOne y (x ∷ xs) → IsSome (member s parameters y.word) → IsSome (in_scope s y.word) → b.span ≡ y.span → (P b ⊎ One s parameters x b) ⊎ Listed s parameters xs b
+    here b n y (inl e) p q a = inl (inr (both (is_some (member s parameters x.word)) (is_some (in_scope s x.word)) (subst (λ z. is_some (member s parameters z.word) ≡ true) e p) (subst (λ z. is_some (in_scope s z.word) ≡ true) e q), (n, subst (λ z. b.span ≡ z.span) e a)))
     here b n y (inr e) p q a = inr (n, (y, (e, p, q, a)))
 
 negated : (b : Bool) → not b ≡ true → b ≡ false
@@ -123,17 +126,19 @@ of_others w others xs h = left_of (is_some (in_names w others)) _ h
 not_listed : (w : Word) (others : Scope) (xs : List Name) → is_among w others (listed_scope [] xs) ≡ true → is_listed w xs ≡ false
 not_listed w others xs h = sym (listed_found w xs) ∙ negated (is_some (in_names w (listed_scope [] xs))) (right_of (is_some (in_names w others)) _ h)
 
-some_else : (a b : Option Declared) → IsSome (option_or a b) → IsSome a ⊎ IsSome b
+some_else : (a b : Option Declared) → IsSome (earliest a b) → IsSome a ⊎ IsSome b
 some_else None b h = inr h
 some_else (Some d) b h = inl refl
 
-else_left : (a b : Option Declared) → IsSome a → IsSome (option_or a b)
+else_left : (a b : Option Declared) → IsSome a → IsSome (earliest a b)
 else_left None b h = absurd cc
-else_left (Some d) b h = refl
+else_left (Some d) None h = refl
+else_left (Some d) (Some e) h = refl
 
-else_right : (a b : Option Declared) → IsSome b → IsSome (option_or a b)
+else_right : (a b : Option Declared) → IsSome b → IsSome (earliest a b)
 else_right None b h = h
-else_right (Some d) b h = refl
+else_right (Some d) None h = refl
+else_right (Some d) (Some e) h = refl
 
 -- a name of these others, which is not left out, in the innermost scope
 InScope : List (ℕ × Scope) → Scope → Scope → List Level → Type 0
@@ -143,23 +148,23 @@ scope_common : (kept : List (ℕ × Scope)) (others without : Scope) (levels : L
 unfolding InScope
 scope_common kept others without [] h = absurd cc
 scope_common kept others without (l ∷ outer) h = elim (either (shares_level kept others without l) (if is_further l.form then shares_scope kept others without outer else false) h) [
-  | inl p ↦ (elim (either (shares l.names others without) (shares (kept_at kept l.within) others without) p) [
-    | inl q ↦ (let w = shares_common l.names others without q in (w.0, (w.1.0, else_left _ _ (else_left _ (in_names w.0 (kept_at kept l.within)) w.1.1))))
-    | inr q ↦ (let w = shares_common (kept_at kept l.within) others without q in (w.0, (w.1.0, else_left _ _ (else_right (in_names w.0 l.names) _ w.1.1))))
+  | inl p ↦ (elim (either (shares l.names others without) (shares (member_names kept l.within) others without) p) [
+    | inl q ↦ (let w = shares_common l.names others without q in (w.0, (w.1.0, else_left _ _ (else_left _ (in_names w.0 (member_names kept l.within)) w.1.1))))
+    | inr q ↦ (let w = shares_common (member_names kept l.within) others without q in (w.0, (w.1.0, else_left _ _ (else_right (in_names w.0 l.names) _ w.1.1))))
   ])
   | inr q ↦ further (is_further l.form) q (λ r. scope_common kept others without outer r)
 ]
   where
-    further : (b : Bool) → (if b then shares_scope kept others without outer else false) ≡ true → (shares_scope kept others without outer ≡ true → (w : Word) × ((is_among w others without ≡ true) × IsSome (in_scope_of kept w outer))) → (w : Word) × ((is_among w others without ≡ true) × IsSome (option_or (in_level kept w l) (if b then in_scope_of kept w outer else None)))
+    further : (b : Bool) → (if b then shares_scope kept others without outer else false) ≡ true → (shares_scope kept others without outer ≡ true → (w : Word) × ((is_among w others without ≡ true) × IsSome (in_scope_of kept w outer))) → (w : Word) × ((is_among w others without ≡ true) × IsSome (earliest (in_level kept w l) (if b then in_scope_of kept w outer else None)))
     further true q rest = let w = rest q in (w.0, (w.1.0, else_right (in_level kept w.0 l) _ w.1.1))
     further false q rest = absurd cc
 
 common_scope : (kept : List (ℕ × Scope)) (others without : Scope) (levels : List Level) (w : Word) → is_among w others without ≡ true → IsSome (in_scope_of kept w levels) → shares_scope kept others without levels ≡ true
 common_scope kept others without [] w p q = absurd cc
 common_scope kept others without (l ∷ outer) w p q = elim (some_else (in_level kept w l) (if is_further l.form then in_scope_of kept w outer else None) q) [
-  | inl a ↦ or_left (shares_level kept others without l) _ (elim (some_else (in_names w l.names) (in_names w (kept_at kept l.within)) a) [
-    | inl b ↦ or_left (shares l.names others without) (shares (kept_at kept l.within) others without) (common_shares w l.names others without p b)
-    | inr b ↦ or_right (shares l.names others without) (shares (kept_at kept l.within) others without) (common_shares w (kept_at kept l.within) others without p b)
+  | inl a ↦ or_left (shares_level kept others without l) _ (elim (some_else (in_names w l.names) (in_names w (member_names kept l.within)) a) [
+    | inl b ↦ or_left (shares l.names others without) (shares (member_names kept l.within) others without) (common_shares w l.names others without p b)
+    | inr b ↦ or_right (shares l.names others without) (shares (member_names kept l.within) others without) (common_shares w (member_names kept l.within) others without p b)
   ])
   | inr a ↦ or_right (shares_level kept others without l) _ (further (is_further l.form) a (λ r. common_scope kept others without outer w p r))
 ]
@@ -168,23 +173,23 @@ common_scope kept others without (l ∷ outer) w p q = elim (some_else (in_level
     further true h rest = rest h
     further false h rest = absurd cc
 
-Unlisted : Scopes → ℕ → Name → List Name → Breach → Type 0
+Unlisted : Scopes → Members → Name → List Name → Breach → Type 0
 Unlisted s parameters interaction listed b = (b.number ≡ 1) × (UnlistedParameter s parameters listed × (b.span ≡ interaction.span))
 
-unlisted_first : (s : Scopes) (parameters : ℕ) (interaction : Name) (listed : List Name) → IsFirst (Unlisted s parameters interaction listed) (unlisted_twice s parameters interaction (listed_scope [] listed))
+unlisted_first : (s : Scopes) (parameters : Members) (interaction : Name) (listed : List Name) → IsFirst (Unlisted s parameters interaction listed) (unlisted_twice s parameters interaction (listed_scope [] listed))
 unfolding Unlisted InScope
 unlisted_first s parameters interaction listed =
-    let others = kept_at s.kept parameters in
+    let others = member_names s.kept parameters in
     let without = listed_scope [] listed in
     first_same (λ b. (shares_scope s.kept others without s.levels ≡ true) × ((b.number ≡ 1) × (b.span ≡ interaction.span))) (Unlisted s parameters interaction listed) (unlisted_twice s parameters interaction (listed_scope [] listed))
     (λ b w. (w.1.0, (let n = scope_common s.kept others without s.levels w.0 in (n.0, (of_others n.0 others listed n.1.0, n.1.1, not_listed n.0 others listed n.1.0)), w.1.1)))
     (λ b w. (common_scope s.kept others without s.levels w.1.0.0 (among w.1.0.0 others listed w.1.0.1.0 w.1.0.1.2) w.1.0.1.1, (w.0, w.1.1)))
     (first_if (shares_scope s.kept others without s.levels) 1 interaction.span)
 
-Parameter : Scopes → ℕ → Name → List Name → Breach → Type 0
+Parameter : Scopes → Members → Name → List Name → Breach → Type 0
 Parameter s parameters interaction listed b = (b.number ≡ 1) × SecondParameter s parameters interaction listed b.span
 
-parameter_first : (s : Scopes) (parameters : ℕ) (interaction : Name) (listed : List Name) → IsFirst (Parameter s parameters interaction listed) (parameter_twice s parameters interaction listed)
+parameter_first : (s : Scopes) (parameters : Members) (interaction : Name) (listed : List Name) → IsFirst (Parameter s parameters interaction listed) (parameter_twice s parameters interaction listed)
 unfolding Parameter Listed Unlisted nothing
 parameter_first s parameters interaction listed =
     first_same (λ b. Listed s parameters listed b ⊎ Unlisted s parameters interaction listed b) (Parameter s parameters interaction listed) (parameter_twice s parameters interaction listed)
@@ -269,8 +274,8 @@ states_first at false initial transitions = first_same (λ b. ((initial || trans
     (λ b w. (elim w.1.0 as (λ _. (initial || transitions) ≡ true) [ inl v ↦ absurd (let e = v.0 in cc) | inr v ↦ (elim v.1 as (λ _. (initial || transitions) ≡ true) [ inl i ↦ or_left initial transitions i | inr t ↦ or_right initial transitions t ]) ], (w.0, w.1.1)))
     (first_if (initial || transitions) 4 at)
 
-Other_header : Option ℕ → Option ℕ → Span → Breach → Type 0
-Other_header x y at e = (e.number ≡ 5) × ((h : ℕ) × (k : ℕ) × ((x ≡ Some h) × (y ≡ Some k) × (h ≢ k) × (e.span ≡ at)))
+Other_header : Members → Members → Span → Breach → Type 0
+Other_header x y at e = (e.number ≡ 5) × ((h : ℕ) × (k : ℕ) × ((x ≡ members.KeptAt h) × (y ≡ members.KeptAt k) × (h ≢ k) × (e.span ≡ at)))
 
 unequal : (m n : ℕ) → not (nat_eq m n) ≡ true → m ≢ n
 unequal m n h e = grind (arith, nat_tests)
@@ -278,11 +283,13 @@ unequal m n h e = grind (arith, nat_tests)
 unequal_test : (m n : ℕ) → m ≢ n → not (nat_eq m n) ≡ true
 unequal_test m n h = grind (arith, nat_tests)
 
-header_first : (x y : Option ℕ) (at : Span) → IsFirst (Other_header x y at) (header_fault x y at)
+header_first : (x y : Members) (at : Span) → IsFirst (Other_header x y at) (header_fault x y at)
 unfolding Other_header
-header_first None y at = first_of_none (Other_header None y at) (λ b w. let e = w.1.2.0 in cc)
-header_first (Some h) None at = first_of_none (Other_header (Some h) None at) (λ b w. let e = w.1.2.1 in cc)
-header_first (Some h) (Some k) at = first_same (λ e. (not (nat_eq h k) ≡ true) × ((e.number ≡ 5) × (e.span ≡ at))) (Other_header (Some h) (Some k) at) (only_if (not (nat_eq h k)) (breach 5 at))
+header_first members.Nothing y at = first_of_none (Other_header members.Nothing y at) (λ b w. let e = w.1.2.0 in cc)
+header_first members.AtFault y at = first_of_none (Other_header members.AtFault y at) (λ b w. let e = w.1.2.0 in cc)
+header_first (members.KeptAt h) members.Nothing at = first_of_none (Other_header (members.KeptAt h) members.Nothing at) (λ b w. let e = w.1.2.1 in cc)
+header_first (members.KeptAt h) members.AtFault at = first_of_none (Other_header (members.KeptAt h) members.AtFault at) (λ b w. let e = w.1.2.1 in cc)
+header_first (members.KeptAt h) (members.KeptAt k) at = first_same (λ e. (not (nat_eq h k) ≡ true) × ((e.number ≡ 5) × (e.span ≡ at))) (Other_header (members.KeptAt h) (members.KeptAt k) at) (only_if (not (nat_eq h k)) (breach 5 at))
     (λ e w. (w.1.0, (h, k, (refl, refl, unequal h k w.0, w.1.1))))
     (λ e w. let m : w.1.0 ≡ h = (let q = w.1.2.0 in cc) in let n : w.1.1 ≡ k = (let q = w.1.2.1 in cc) in (unequal_test h k (subst (λ x. x ≢ k) m (subst (λ x. w.1.0 ≢ x) n w.1.2.2)), (w.0, w.1.2.3)))
     (first_if (not (nat_eq h k)) 5 at)
@@ -329,7 +336,7 @@ event_first s (Open f) = quiet s (Open f) (λ b. still b s (Open f) refl (λ w. 
 event_first s Close = quiet s Close (λ b. still b s Close refl (λ w. w) (λ w. w) (λ w. w))
 event_first s (Keep span) = quiet s (Keep span) (λ b. still b s (Keep span) refl (λ w. w) (λ w. w) (λ w. w))
 event_first s (Import h) = quiet s (Import h) (λ b. still b s (Import h) refl (λ w. w) (λ w. w) (λ w. w))
-event_first s (Array at of) = quiet s (Array at of) (λ b. still b s (Array at of) refl (λ w. w) (λ w. w) (λ w. w))
+event_first s (Array at components) = quiet s (Array at components) (λ b. still b s (Array at components) refl (λ w. w) (λ w. w) (λ w. w))
 event_first s (Receive ip interaction listed) = first_same (Parameter s (received s ip interaction) interaction (names_listed listed)) (λ b. Broken b s (Receive ip interaction listed)) (breach_at s (Receive ip interaction listed))
     (λ b w. inl w)
     (λ b w. elim (none_sought b s (Receive ip interaction listed) refl w) [ inl v ↦ v | inr v ↦ absurd (elim v as (λ _. ⊥) [ inl u ↦ u.1 | inr u ↦ u.1 ]) ])
@@ -340,10 +347,10 @@ event_first s (Declare names k inside) = first_same (Seconds s names k (inside_o
     (first_only (Seconds s names k (inside_of s inside)) (twices None s names k (inside_of s inside)) (twices_first nothing None s names k (inside_of s inside) first_nothing))
 event_first s (Use x n steps) = used_first s (Use x n steps) (λ b w. w) (λ b w. w) (λ b w. w)
 event_first s (By role) = used_first s (By role) (λ b w. w) (λ b w. w) (λ b w. w)
-event_first s (Init modvar body) = first_same (Other_header (reached need.ModuleVariable (meaning s modvar.word)) (reached need.Body (meaning s body.word)) body.span) (λ b. Broken b s (Init modvar body)) (breach_at s (Init modvar body))
+event_first s (Init modvar body) = first_same (Other_header (inside_named s modvar need.ModuleVariable) (brought_by s (inside_named s body need.Body)) body.span) (λ b. Broken b s (Init modvar body)) (breach_at s (Init modvar body))
     (λ b w. inr (inr (inr (inr w))))
-    (λ b w. elim (none_sought b s (Init modvar body) refl w) [ inl v ↦ absurd v.1 | inr v ↦ (elim v as (λ _. Other_header (reached need.ModuleVariable (meaning s modvar.word)) (reached need.Body (meaning s body.word)) body.span b) [ inl u ↦ absurd u.1 | inr u ↦ u ]) ])
-    (header_first (reached need.ModuleVariable (meaning s modvar.word)) (reached need.Body (meaning s body.word)) body.span)
+    (λ b w. elim (none_sought b s (Init modvar body) refl w) [ inl v ↦ absurd v.1 | inr v ↦ (elim v as (λ _. Other_header (inside_named s modvar need.ModuleVariable) (brought_by s (inside_named s body need.Body)) body.span b) [ inl u ↦ absurd u.1 | inr u ↦ u ]) ])
+    (header_first (inside_named s modvar need.ModuleVariable) (brought_by s (inside_named s body need.Body)) body.span)
 event_first s (States at declared initial transitions) = first_same (States_at at declared initial transitions) (λ b. Broken b s (States at declared initial transitions)) (breach_at s (States at declared initial transitions))
     (λ b w. inr (inr (inr (inl w))))
     (λ b w. elim (none_sought b s (States at declared initial transitions) refl w) [ inl v ↦ absurd v.1 | inr v ↦ (elim v as (λ _. States_at at declared initial transitions b) [ inl u ↦ u | inr u ↦ absurd u.1 ]) ])

@@ -8,12 +8,14 @@ use Rattle.std.specs.Cmp.Lexicographic.{bytes_decides}
 use Rattle.estelle_tree.specs.declared.tree.name.Name.{Name}
 use Rattle.scope_rules.specs.declared.declaration.Denotes.TheVariants as d
 use Rattle.scope_rules.specs.declared.declaration.Need.TheVariants as need
+use Rattle.scope_rules.specs.declared.declaration.Members.TheVariants as members
 use Rattle.scope_rules.specs.declared.declaration.Declared.{Declared}
 use Rattle.scope_rules.specs.declared.event.Step.{Step}
 use Rattle.scope_rules.specs.declared.refusal.Breach.{Breach}
 use Rattle.scope_rules.specs.Kinds.{is_role}
 use Rattle.scope_rules.specs.Least.{noted}
-use Rattle.scope_rules.specs.Scopes.{Word, Scope, Scopes, Sought, in_names, declared, declaration, earlier, sought_name, sought_role, sought_steps}
+use Rattle.scope_rules.specs.Visible.{Word, Scope, Scopes, in_names, earlier}
+use Rattle.scope_rules.specs.Scopes.{Sought, declared, declaration, sought_name, sought_role, sought_steps}
 use Rattle.scope_rules.specs.NameRules.{is_listed, used}
 use Rattle.scope_names.specs.Noted.{listed_scope, misused, misuses}
 
@@ -25,7 +27,7 @@ pub used-append : (xs ys : List Sought) → flat_map used (xs ++ ys) ≡ flat_ma
 used-append [] ys = refl
 used-append (x ∷ xs) ys = ap (λ us. used x ++ us) (used-append xs ys) ∙ sym (append_assoc (used x) (flat_map used xs) (flat_map used ys))
 
-pub nowhere : (s : Scopes) (steps : List Step) → sought_steps s None steps ≡ []
+pub nowhere : (s : Scopes) (steps : List Step) → sought_steps s members.AtFault steps ≡ []
 nowhere s [] = refl
 nowhere s (x ∷ more) = refl
 
@@ -65,7 +67,7 @@ listed_found_from w names [] = or_false (is_some (in_names w names))
     or_false true = refl
     or_false false = refl
 listed_found_from w names (x ∷ xs) =
-    listed_found_from w (declared x.word (declaration x d.Variable (Some 0)) names) xs ∙ ap (λ b. b || is_listed w xs) (declared_found w x.word (declaration x d.Variable (Some 0)) names) ∙ exchanged (bytes_eq w x.word) (is_some (in_names w names)) (is_listed w xs)
+    listed_found_from w (declared x.word (declaration x d.Variable members.Nothing) names) xs ∙ ap (λ b. b || is_listed w xs) (declared_found w x.word (declaration x d.Variable members.Nothing) names) ∙ exchanged (bytes_eq w x.word) (is_some (in_names w names)) (is_listed w xs)
   where
     exchanged : (a b c : Bool) → ((a || b) || c) ≡ (b || (a || c))
     exchanged true true c = refl

@@ -5,7 +5,7 @@ use Rattle.std.specs.Option.{is_some}
 use Rattle.std.specs.Str.{bytes_eq}
 use Rattle.std.specs.Cmp.Lexicographic.{bytes_decides, nat_list_eq_equiv}
 use Rattle.scope_rules.specs.declared.declaration.Declared.{Declared}
-use Rattle.scope_rules.specs.Scopes.{Word, Scope, in_names}
+use Rattle.scope_rules.specs.Visible.{Word, Scope, in_names}
 use Rattle.scope_names.specs.Common.{is_among, shares}
 
 pub either : (a b : Bool) → (a || b) ≡ true → (a ≡ true) ⊎ (b ≡ true)

@@ -2,7 +2,7 @@
 use Rattle.std.specs.Prelude.{ℕ, Bool, false, ◌||◌, ◌&&◌, not, if◌then◌else◌, List, [], ◌∷◌, Option, Some, None, slice_get}
 use Rattle.std.specs.Option.{is_some}
 use Rattle.scope_rules.specs.declared.declaration.Declared.{Declared}
-use Rattle.scope_rules.specs.Scopes.{Word, Scope, Level, in_names, kept_at, is_further, earlier}
+use Rattle.scope_rules.specs.Visible.{Word, Scope, Level, in_names, member_names, is_further, earlier}
 
 -- of two declarations of one name, the one that a scope has
 abbrev pub first_of : Option Declared → Declared → Declared
@@ -27,7 +27,7 @@ shares [] others without = false
 shares (e ∷ es) others without = is_among e.0 others without || shares es others without
 
 abbrev pub shares_level : List (ℕ × Scope) → Scope → Scope → Level → Bool
-shares_level kept others without l = shares l.names others without || shares (kept_at kept l.within) others without
+shares_level kept others without l = shares l.names others without || shares (member_names kept l.within) others without
 
 -- some of these names stands in the innermost scope
 abbrev pub shares_scope : List (ℕ × Scope) → Scope → Scope → List Level → Bool

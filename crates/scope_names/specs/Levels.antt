@@ -1,5 +1,5 @@
 -- An open scope as the definitions have it.
-use Rattle.scope_rules.specs.Scopes.{Level}
+use Rattle.scope_rules.specs.Visible.{Level}
 use Rattle.scope_names.specs.declared.table.OpenScope.{OpenScope}
 
 abbrev pub level_of : OpenScope → Level

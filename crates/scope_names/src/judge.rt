@@ -3,6 +3,8 @@
 ghost use Rattle.std.specs.Prelude.{◌≡◌, ◌++◌, [], None, IfOk, OnOk};
 ghost use Rattle.std.specs.List.{flat_map};
 ghost use Rattle.scope_rules.specs.declared.event.Event.TheVariants as event;
+ghost use Rattle.scope_rules.specs.Kinds.{is_noted};
+ghost use Rattle.scope_rules.specs.Visible as visible;
 ghost use Rattle.scope_rules.specs.Scopes as spec;
 ghost use Rattle.scope_rules.specs.NameRules.{used, used_at, later, names_listed};
 ghost use Rattle.scope_names.specs.Noted as noting;
@@ -10,56 +12,51 @@ ghost use Rattle.scope_names.specs.Noted as noting;
 use crate::names::NameTable;
 use crate::table::Table;
 use estelle_tree::{Items, Name, Sequence, Span, Use};
-use scope_rules::{Breach, Declared, Denotes, Event, Inside, Need, Step, may_be, noted, only_if};
+use scope_rules::{
+    Breach, Declared, Denotes, Event, Inside, Members, Need, Step, may_be, noted, only_if,
+};
 use std::alloc::{AllocError, Global};
 
-/// The place for which the names behind a dot are kept, where a name means what its place needs and its own declaration
-/// is not at fault.
-fn reached(need: Need, found: Option<Declared>) -> Option<u32>
-    ensures { result ≡ spec.reached need found }
+/// What a name brings, where it means what its place needs.
+fn reached(need: Need, found: Option<Declared>) -> Members
+    ensures { result ≡ visible.reached need found }
 {
     match found {
-        None => None,
+        None => Members::AtFault,
         Some(d) => if may_be(need, d.denotes) {
             d.inside
         } else {
-            None
+            Members::AtFault
         },
     }
 }
 
-fn inside_named(table: &Table, name: &Name, need: Need) -> Option<u32>
-    ensures { result ≡ spec.inside_named table.now name.now need }
+fn inside_named(table: &Table, name: &Name, need: Need) -> Members
+    ensures { result ≡ visible.inside_named table.now name.now need }
 {
     reached(need, table.meaning(name.word.items()))
 }
 
-/// The place that a declaration brings; none where what it names is at fault.
-fn inside_of(table: &Table, inside: &Inside) -> Option<u32>
-    ensures { result ≡ spec.inside_of table.now inside.now }
+/// What a declaration brings.
+fn inside_of(table: &Table, inside: Inside) -> Members
+    ensures { result ≡ visible.inside_of table.now inside }
 {
     match inside {
-        Inside::Nothing => Some(0),
-        Inside::At(span) => Some(span.start),
-        Inside::Named { name, need } => inside_named(table, name, *need),
+        Inside::Nothing => Members::Nothing,
+        Inside::At(span) => Members::KeptAt(span.start),
+        Inside::Brought(span) => table.brought_at(span.start),
     }
 }
 
-fn through(table: &Table, at: Option<u32>, name: &Name) -> Option<u32>
-    ensures { result ≡ spec.through table.now at name.now }
+/// The parameters of an interaction of an ip.
+fn received(table: &Table, ip: &Name, interaction: &Name) -> Members
+    ensures { result ≡ visible.received table.now ip.now interaction.now }
 {
-    match at {
-        None => None,
-        Some(at) => reached(Need::Interaction, table.member(at, name.word.items())),
-    }
-}
-
-/// The place of the parameters of an interaction of an ip.
-fn received(table: &Table, ip: &Name, interaction: &Name) -> u32
-    ensures { result ≡ spec.received table.now ip.now interaction.now }
-{
-    let at = reached(Need::Ip, table.meaning(ip.word.items()));
-    through(table, at, interaction).unwrap_or(0)
+    let of_channel = inside_named(table, ip, Need::Ip);
+    reached(
+        Need::Interaction,
+        table.member(of_channel, interaction.word.items()),
+    )
 }
 
 /// The second of two places in the text.
@@ -86,9 +83,9 @@ fn declare_one(
     alloc: Global,
     name: &Name,
     denotes: Denotes,
-    inside: Option<u32>,
+    inside: Members,
 ) -> Result<Option<Breach>, AllocError>
-    ensures breach { IfOk result (λ b. b ≡ noting.twice (spec.in_scope table.old name.now.word) name.now.span) }
+    ensures breach { IfOk result (λ b. b ≡ noting.twice (visible.in_scope table.old name.now.word) name.now.span) }
     ensures table { OnOk result (table.new ≡ spec.declare_one table.old name.now denotes inside) }
 {
     let was = table.in_scope(name.word.items());
@@ -106,7 +103,7 @@ fn declare_all(
     alloc: Global,
     names: &[Name],
     denotes: Denotes,
-    inside: Option<u32>,
+    inside: Members,
 ) -> Result<Option<Breach>, AllocError>
     ensures breach { IfOk result (λ b. b ≡ noting.twices None table.old names.now denotes inside) }
     ensures table { OnOk result (table.new ≡ spec.declare_all table.old names.now denotes inside) }
@@ -119,7 +116,7 @@ fn declare_all(
     Ok(first)
 }
 
-fn is_second(table: &Table, parameters: u32, name: &Name) -> bool
+fn is_second(table: &Table, parameters: Members, name: &Name) -> bool
     ensures { result ≡ noting.is_second table.now parameters name.now }
 {
     if table.member(parameters, name.word.items()).is_some() {
@@ -128,7 +125,7 @@ fn is_second(table: &Table, parameters: u32, name: &Name) -> bool
     false
 }
 
-fn listed_twice(table: &Table, parameters: u32, listed: &[Name]) -> Option<Breach>
+fn listed_twice(table: &Table, parameters: Members, listed: &[Name]) -> Option<Breach>
     ensures { result ≡ noting.listed_twice None table.now parameters listed.now }
 {
     let mut first = None;
@@ -148,7 +145,7 @@ fn table_of(alloc: Global, listed: &[Name]) -> Result<NameTable, AllocError>
         let d = Declared {
             at: name.span,
             denotes: Denotes::Variable,
-            inside: Some(0),
+            inside: Members::Nothing,
         };
         names.declare(alloc, name.word.items(), d)?;
     }
@@ -158,7 +155,7 @@ fn table_of(alloc: Global, listed: &[Name]) -> Result<NameTable, AllocError>
 fn parameter_twice(
     table: &Table,
     alloc: Global,
-    parameters: u32,
+    parameters: Members,
     interaction: &Name,
     listed: &[Name],
 ) -> Result<Option<Breach>, AllocError>
@@ -173,7 +170,7 @@ fn parameter_twice(
 fn received_twice(
     table: &Table,
     alloc: Global,
-    parameters: u32,
+    parameters: Members,
     interaction: &Name,
     listed: &Option<Items<Name>>,
 ) -> Result<Option<Breach>, AllocError>
@@ -223,43 +220,57 @@ fn note_role(role: &Name, found: Option<Declared>, uses: &mut Items<Use>) -> Res
 }
 
 /// What is reported of one step and of what stands before it.
-fn judge_step(table: &Table, at: u32, step: &Step, first: Option<Breach>) -> Option<Breach>
-    ensures { result ≡ noting.misuses first (spec.sought_step table.now at step.now) }
+fn judge_step(table: &Table, among: Members, step: &Step, first: Option<Breach>) -> Option<Breach>
+    ensures { result ≡ noting.misuses first (spec.sought_step table.now among step.now) }
 {
     match step {
         Step::Index | Step::Role(_) => first,
         Step::Member { name, need } => noted(
             first,
-            misused(name, *need, table.member(at, name.word.items())),
+            misused(name, *need, table.member(among, name.word.items())),
         ),
     }
 }
 
 /// Notes what the name in one step means.
-fn note_step(table: &Table, at: u32, step: &Step, uses: &mut Items<Use>) -> Result<(), AllocError>
-    ensures { OnOk result (uses.new ≡ uses.old ++ flat_map used (spec.sought_step table.now at step.now)) }
+fn note_step(
+    table: &Table,
+    among: Members,
+    step: &Step,
+    uses: &mut Items<Use>,
+) -> Result<(), AllocError>
+    ensures { OnOk result (uses.new ≡ uses.old ++ flat_map used (spec.sought_step table.now among step.now)) }
 {
     match step {
         Step::Index => Ok(()),
-        Step::Member { name, .. } => note_use(uses, name, table.member(at, name.word.items())),
-        Step::Role(role) => note_role(role, table.member(at, role.word.items()), uses),
+        Step::Member { name, .. } => note_use(uses, name, table.member(among, name.word.items())),
+        Step::Role(role) => note_role(role, table.member(among, role.word.items()), uses),
     }
 }
 
-/// The place that a step leads to.
-fn next_place(table: &Table, at: u32, step: &Step) -> Option<u32>
-    ensures { result ≡ spec.next_place table.now at step.now }
+/// What a step brings.
+fn after_step(table: &Table, among: Members, step: &Step) -> Members
+    ensures { result ≡ spec.after_step table.now among step.now }
 {
     match step {
-        Step::Index => table.component(at),
-        Step::Member { name, need } => reached(*need, table.member(at, name.word.items())),
-        Step::Role(_) => None,
+        Step::Index => table.brought_by(among),
+        Step::Member { name, need } => reached(*need, table.member(among, name.word.items())),
+        Step::Role(_) => Members::Nothing,
+    }
+}
+
+fn is_at_fault(members: Members) -> bool
+    ensures { result ≡ noting.is_at_fault members }
+{
+    match members {
+        Members::AtFault => true,
+        Members::Nothing | Members::KeptAt(_) => false,
     }
 }
 
 fn judge_steps(
     table: &Table,
-    from: Option<u32>,
+    from: Members,
     steps: &[Step],
     start: Option<Breach>,
     uses: &mut Items<Use>,
@@ -268,15 +279,14 @@ fn judge_steps(
     ensures uses { OnOk result (uses.new ≡ uses.old ++ flat_map used (spec.sought_steps table.now from steps.now)) }
 {
     let mut first = start;
-    let mut at = from;
+    let mut among = from;
     for step in steps {
-        let place = match at {
-            None => return Ok(first),
-            Some(place) => place,
-        };
-        note_step(table, place, step, uses)?;
-        first = judge_step(table, place, step, first);
-        at = next_place(table, place, step);
+        if is_at_fault(among) {
+            return Ok(first);
+        }
+        note_step(table, among, step, uses)?;
+        first = judge_step(table, among, step, first);
+        among = after_step(table, among, step);
     }
     Ok(first)
 }
@@ -297,12 +307,33 @@ fn judge_use(
     judge_steps(table, reached(need, found), steps, breach, uses)
 }
 
+/// Notes what the name of a type, a channel or a header brings.
+fn note_name(table: &mut Table, name: &Name, need: Need) -> Result<(), AllocError>
+    ensures { OnOk result (table.new ≡ spec.note_name table.old name.now need) }
+{
+    if is_noted(need) {
+        let members = inside_named(table, name, need);
+        table.bring(name.span.start, members)?;
+    }
+    Ok(())
+}
+
+/// Whether what a name brings that stands here is noted.
+fn is_noted(need: Need) -> bool
+    ensures { result ≡ is_noted need }
+{
+    match need {
+        Need::Type | Need::Channel | Need::Header => true,
+        _ => false,
+    }
+}
+
 /// The headers of a module variable and a body differ.
-fn header_fault(variable: Option<u32>, body: Option<u32>, at: Span) -> Option<Breach>
+fn header_fault(variable: Members, body: Members, at: Span) -> Option<Breach>
     ensures { result ≡ noting.header_fault variable body at }
 {
     match (variable, body) {
-        (Some(of), Some(header)) => only_if(of != header, 5, at),
+        (Members::KeptAt(of), Members::KeptAt(header)) => only_if(of != header, 5, at),
         _ => None,
     }
 }
@@ -341,8 +372,8 @@ pub fn judge(
             Ok(None)
         }
         Event::Import(header) => {
-            let at = inside_named(table, header, Need::Header).unwrap_or(0);
-            table.join(at)?;
+            let inside = inside_named(table, header, Need::Header);
+            table.join(inside)?;
             Ok(None)
         }
         Event::Receive {
@@ -350,14 +381,14 @@ pub fn judge(
             interaction,
             listed,
         } => {
-            let at = received(table, ip, interaction);
-            let breach = received_twice(table, alloc, at, interaction, listed)?;
-            table.join(at)?;
+            let parameters = received(table, ip, interaction);
+            let breach = received_twice(table, alloc, parameters, interaction, listed)?;
+            table.join(parameters)?;
             Ok(breach)
         }
         Event::Array { at, components } => {
-            let inside = inside_of(table, components);
-            table.put_component(at.start, inside)?;
+            let members = inside_of(table, *components);
+            table.bring(at.start, members)?;
             Ok(None)
         }
         Event::Declare {
@@ -365,17 +396,22 @@ pub fn judge(
             denotes,
             inside,
         } => {
-            let at = inside_of(table, inside);
-            declare_all(table, alloc, names.items(), *denotes, at)
+            let members = inside_of(table, *inside);
+            declare_all(table, alloc, names.items(), *denotes, members)
         }
-        Event::Use { name, need, steps } => judge_use(table, name, *need, steps.items(), uses),
+        Event::Use { name, need, steps } => {
+            let breach = judge_use(table, name, *need, steps.items(), uses)?;
+            note_name(table, name, *need)?;
+            Ok(breach)
+        }
         Event::By(role) => {
             note_role(role, table.in_scope(role.word.items()), uses)?;
             Ok(None)
         }
         Event::Init { modvar, body } => {
             let variable = inside_named(table, modvar, Need::ModuleVariable);
-            Ok(header_fault(variable, inside_named(table, body, Need::Body), body.span))
+            let header = table.brought_by(inside_named(table, body, Need::Body));
+            Ok(header_fault(variable, header, body.span))
         }
         Event::States {
             at,

@@ -4,6 +4,7 @@ ghost use Rattle.std.specs.Prelude.{◌≡◌, [], OnOk};
 ghost use Rattle.std.specs.Option.{option_copied};
 ghost use Rattle.std.specs.Map.{lookup};
 ghost use Rattle.std.specs.Str.{bytes_eq};
+ghost use Rattle.scope_rules.specs.Visible as visible;
 ghost use Rattle.scope_rules.specs.Scopes as spec;
 ghost use Rattle.scope_names.specs.Common as common;
 
@@ -25,7 +26,7 @@ impl Drop for NameTable {
 
 impl Model for NameTable {
     ghost use Rattle.std.specs.Prelude.{map};
-    ghost use Rattle.scope_rules.specs.Scopes.{Scope};
+    ghost use Rattle.scope_rules.specs.Visible.{Scope};
 
     ghost Value = { Scope };
 
@@ -33,8 +34,8 @@ impl Model for NameTable {
 }
 
 /// The one of two declarations that comes first in the text.
-fn earlier(d: Declared, e: Declared) -> Declared
-    ensures { result ≡ spec.earlier d e }
+pub fn earlier(d: Declared, e: Declared) -> Declared
+    ensures { result ≡ visible.earlier d e }
 {
     if e.at.start < d.at.start { e } else { d }
 }
@@ -67,7 +68,7 @@ impl NameTable {
 
     /// What a name is declared as.
     pub fn find(&self, word: &[u8]) -> Option<Declared>
-        ensures { result ≡ spec.in_names word.now self.now }
+        ensures { result ≡ visible.in_names word.now self.now }
     {
         self.names.get(word).copied()
     }

@@ -5,6 +5,7 @@ ghost use Rattle.scope_rules.specs.declared.refusal.Breach.{Breach};
 ghost use Rattle.scope_rules.specs.Least.{Refuses};
 ghost use Rattle.scope_rules.specs.Scopes.{start};
 ghost use Rattle.scope_rules.specs.NameRules as rules;
+ghost use Rattle.scope_rules.specs.NamesInUse.{IsComplete};
 ghost use Rattle.scope_names.specs.Noted.{least};
 
 use crate::judge::judge;
@@ -33,6 +34,8 @@ fn scan(alloc: Global, events: &[Event]) -> Result<(Items<Use>, Option<Breach>),
 /// these rules that is broken, with the first node in the text that breaks it.
 pub fn resolve(alloc: Global, spec: &Spec) -> Result<Names, Refusal>
     ensures names { IfOk result (λ names. names.uses ≡ rules.names_of spec.now) }
+    // Behind a dot, too, no name is left without its declaration.
+    ensures complete { IfOk result (λ names. IsComplete spec.now names.uses) }
     ensures kept { OnOk result ((b : Breach) → ¬ (rules.NameRuleBroken spec.now b)) }
     ensures refused { IfErr result (Refuses (rules.NameRuleBroken spec.now)) }
 {

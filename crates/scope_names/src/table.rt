@@ -2,14 +2,15 @@
 
 ghost use Rattle.std.specs.Prelude.{◌≡◌, ◌||◌, map, reverse, nat_eq, OnOk, IfOk, false};
 ghost use Rattle.scope_rules.specs.Kinds.{is_private, is_of_channel};
+ghost use Rattle.scope_rules.specs.Visible as visible;
 ghost use Rattle.scope_rules.specs.Scopes as spec;
 ghost use Rattle.scope_rules.specs.declared.event.Event.TheVariants.{Open, Close, Keep};
 ghost use Rattle.scope_names.specs.Common as common;
 ghost use Rattle.scope_names.specs.Levels.{level_of};
 
-use crate::names::NameTable;
+use crate::names::{NameTable, earlier};
 use indexmap::IndexMap;
-use scope_rules::{Declared, Denotes, ScopeForm};
+use scope_rules::{Declared, Denotes, Members, ScopeForm};
 use std::alloc::{AllocError, Global};
 use std::marker::Model;
 
@@ -18,7 +19,7 @@ use std::marker::Model;
 pub struct OpenScope {
     form: ScopeForm,
     names: NameTable,
-    within: u32,
+    within: Members,
 }
 
 /// What stands after some events, seen as the definitions have it.
@@ -27,17 +28,17 @@ pub struct Table {
     /// From the outermost to the innermost.
     levels: Vec<OpenScope>,
     kept: IndexMap<u32, NameTable>,
-    components: IndexMap<u32, Option<u32>>,
+    brought: IndexMap<u32, Members>,
 }
 
 impl Model for Table {
     ghost use Rattle.std.specs.Prelude.{map, reverse};
-    ghost use Rattle.scope_rules.specs.Scopes.{Scopes};
+    ghost use Rattle.scope_rules.specs.Visible.{Scopes};
     ghost use Rattle.scope_names.specs.Levels.{level_of};
 
     ghost Value = { Scopes };
 
-    ghost view = { λ t. record { levels = reverse (map level_of t.levels.items); kept = t.kept.entries; components = t.components.entries } };
+    ghost view = { λ t. record { levels = reverse (map level_of t.levels.items); kept = t.kept.entries; brought = t.brought.entries } };
 }
 
 fn is_private(denotes: Denotes) -> bool
@@ -64,7 +65,7 @@ fn is_of_channel(denotes: Denotes) -> bool
 }
 
 fn is_further(form: ScopeForm) -> bool
-    ensures { result ≡ spec.is_further form }
+    ensures { result ≡ visible.is_further form }
 {
     match form {
         ScopeForm::Further => true,
@@ -73,7 +74,7 @@ fn is_further(form: ScopeForm) -> bool
 }
 
 fn is_body(form: ScopeForm) -> bool
-    ensures { result ≡ spec.is_body form }
+    ensures { result ≡ visible.is_body form }
 {
     match form {
         ScopeForm::Body => true,
@@ -83,7 +84,7 @@ fn is_body(form: ScopeForm) -> bool
 
 /// What a name means among those that are kept for a place.
 fn in_kept(kept: &IndexMap<u32, NameTable>, at: u32, word: &[u8]) -> Option<Declared>
-    ensures { result ≡ spec.in_names word.now (spec.kept_at kept.now.entries at) }
+    ensures { result ≡ visible.in_names word.now (visible.kept_at kept.now.entries at) }
 {
     match kept.get(&at) {
         None => None,
@@ -91,18 +92,36 @@ fn in_kept(kept: &IndexMap<u32, NameTable>, at: u32, word: &[u8]) -> Option<Decl
     }
 }
 
-fn in_level(kept: &IndexMap<u32, NameTable>, level: &OpenScope, word: &[u8]) -> Option<Declared>
-    ensures { result ≡ spec.in_level kept.now.entries word.now (level_of level.now) }
+/// What a name means among members.
+fn in_members(kept: &IndexMap<u32, NameTable>, members: Members, word: &[u8]) -> Option<Declared>
+    ensures { result ≡ visible.in_names word.now (visible.member_names kept.now.entries members) }
 {
-    match level.names.find(word) {
-        Some(found) => Some(found),
-        None => in_kept(kept, level.within, word),
+    match members {
+        Members::KeptAt(at) => in_kept(kept, at, word),
+        Members::Nothing | Members::AtFault => None,
     }
+}
+
+/// The one that comes first in the text, where there may be none.
+fn earliest(first: Option<Declared>, second: Option<Declared>) -> Option<Declared>
+    ensures { result ≡ visible.earliest first second }
+{
+    match (first, second) {
+        (None, second) => second,
+        (first, None) => first,
+        (Some(d), Some(e)) => Some(earlier(d, e)),
+    }
+}
+
+fn in_level(kept: &IndexMap<u32, NameTable>, level: &OpenScope, word: &[u8]) -> Option<Declared>
+    ensures { result ≡ visible.in_level kept.now.entries word.now (level_of level.now) }
+{
+    earliest(level.names.find(word), in_members(kept, level.within, word))
 }
 
 /// What was found, where it is a name alone.
 fn alone(found: Option<Declared>) -> Option<Declared>
-    ensures { result ≡ spec.alone found }
+    ensures { result ≡ visible.alone found }
 {
     match found {
         None => None,
@@ -116,7 +135,7 @@ fn alone(found: Option<Declared>) -> Option<Declared>
 
 /// What was found outside of a body, or in it, is meant or hidden.
 fn seen(outside: bool, found: Declared) -> Option<Declared>
-    ensures { result ≡ spec.seen outside found }
+    ensures { result ≡ visible.seen outside found }
 {
     if outside {
         if is_private(found.denotes) {
@@ -131,7 +150,7 @@ fn find_meaning(
     levels: &[OpenScope],
     word: &[u8],
 ) -> Option<Declared>
-    ensures { result ≡ spec.meaning_of kept.now.entries word.now false (reverse (map level_of levels.now)) }
+    ensures { result ≡ visible.meaning_of kept.now.entries word.now false (reverse (map level_of levels.now)) }
 {
     let mut outside = false;
     let mut i = levels.len();
@@ -151,20 +170,19 @@ fn find_in_scope(
     levels: &[OpenScope],
     word: &[u8],
 ) -> Option<Declared>
-    ensures { result ≡ spec.in_scope_of kept.now.entries word.now (reverse (map level_of levels.now)) }
+    ensures { result ≡ visible.in_scope_of kept.now.entries word.now (reverse (map level_of levels.now)) }
 {
+    let mut first = None;
     let mut i = levels.len();
     while 0 < i {
         i -= 1;
         let level = &levels[i];
-        if let Some(found) = in_level(kept, level, word) {
-            return Some(found);
-        }
+        first = earliest(first, in_level(kept, level, word));
         if !is_further(level.form) {
-            return None;
+            return first;
         }
     }
-    None
+    first
 }
 
 /// Whether some name of a scope stands among these, and is not left out.
@@ -179,7 +197,33 @@ fn level_shares(
     if level.names.shares(others, without) {
         return true;
     }
-    match kept.get(&level.within) {
+    members_share(kept, level.within, others, without)
+}
+
+/// Whether some name of these members stands among others, and is not left out.
+fn members_share(
+    kept: &IndexMap<u32, NameTable>,
+    members: Members,
+    others: &NameTable,
+    without: &NameTable,
+) -> bool
+    ensures { result ≡ common.shares (visible.member_names kept.now.entries members) others.now without.now }
+{
+    match members {
+        Members::KeptAt(at) => kept_shares(kept, at, others, without),
+        Members::Nothing | Members::AtFault => false,
+    }
+}
+
+fn kept_shares(
+    kept: &IndexMap<u32, NameTable>,
+    at: u32,
+    others: &NameTable,
+    without: &NameTable,
+) -> bool
+    ensures { result ≡ common.shares (visible.kept_at kept.now.entries at) others.now without.now }
+{
+    match kept.get(&at) {
         None => false,
         Some(names) => names.shares(others, without),
     }
@@ -214,7 +258,7 @@ impl Table {
         Table {
             levels: Vec::new(alloc),
             kept: IndexMap::new(alloc),
-            components: IndexMap::new(alloc),
+            brought: IndexMap::new(alloc),
         }
     }
 
@@ -224,7 +268,7 @@ impl Table {
         self.levels.push(OpenScope {
             form,
             names: NameTable::new(alloc),
-            within: 0,
+            within: Members::Nothing,
         })?;
         Ok(())
     }
@@ -244,13 +288,13 @@ impl Table {
         Ok(())
     }
 
-    /// Makes the names that are kept for a place belong to the innermost scope too.
-    pub fn join(&mut self, at: u32) -> Result<(), AllocError>
-        ensures { OnOk result (self.new ≡ spec.join_at self.old at) }
+    /// Makes members belong to the innermost scope too.
+    pub fn join(&mut self, members: Members) -> Result<(), AllocError>
+        ensures { OnOk result (self.new ≡ spec.join_at self.old members) }
     {
         match self.levels.pop() {
             Some(level) => {
-                self.levels.push(within(level, at))?;
+                self.levels.push(within(level, members))?;
                 Ok(())
             }
             None => Ok(()),
@@ -270,38 +314,47 @@ impl Table {
         }
     }
 
-    /// Notes for which place the names behind a dot are kept at components of an array type.
-    pub fn put_component(&mut self, at: u32, inside: Option<u32>) -> Result<(), AllocError>
-        ensures { OnOk result (self.new ≡ spec.component_at self.old at inside) }
+    /// Notes what stands there brings.
+    pub fn bring(&mut self, at: u32, members: Members) -> Result<(), AllocError>
+        ensures { OnOk result (self.new ≡ spec.bring_at self.old at members) }
     {
-        self.components.insert(at, inside)?;
+        self.brought.insert(at, members)?;
         Ok(())
     }
 
     /// What a name is declared as in the innermost scope so far.
     pub fn in_scope(&self, word: &[u8]) -> Option<Declared>
-        ensures { result ≡ spec.in_scope self.now word.now }
+        ensures { result ≡ visible.in_scope self.now word.now }
     {
         find_in_scope(&self.kept, self.levels.as_slice(), word)
     }
 
     /// What a name means.
     pub fn meaning(&self, word: &[u8]) -> Option<Declared>
-        ensures { result ≡ spec.meaning self.now word.now }
+        ensures { result ≡ visible.meaning self.now word.now }
     {
         find_meaning(&self.kept, self.levels.as_slice(), word)
     }
 
-    /// What a name means among those that are kept for a place.
-    pub fn member(&self, at: u32, word: &[u8]) -> Option<Declared>
-        ensures { result ≡ spec.member self.now at word.now }
+    /// What a name means among members.
+    pub fn member(&self, members: Members, word: &[u8]) -> Option<Declared>
+        ensures { result ≡ visible.member self.now members word.now }
     {
-        in_kept(&self.kept, at, word)
+        in_members(&self.kept, members, word)
     }
 
-    /// Whether some name of the innermost scope is among those that are kept for a place, and is not left out.
-    pub fn shares(&self, at: u32, without: &NameTable) -> bool
-        ensures { result ≡ common.shares_scope self.now.kept (spec.kept_at self.now.kept at) without.now self.now.levels }
+    /// Whether some name of the innermost scope is among members, and is not left out.
+    pub fn shares(&self, members: Members, without: &NameTable) -> bool
+        ensures { result ≡ common.shares_scope self.now.kept (visible.member_names self.now.kept members) without.now self.now.levels }
+    {
+        match members {
+            Members::KeptAt(at) => self.shares_kept(at, without),
+            Members::Nothing | Members::AtFault => false,
+        }
+    }
+
+    fn shares_kept(&self, at: u32, without: &NameTable) -> bool
+        ensures { result ≡ common.shares_scope self.now.kept (visible.kept_at self.now.kept at) without.now self.now.levels }
     {
         match self.kept.get(&at) {
             None => false,
@@ -309,13 +362,24 @@ impl Table {
         }
     }
 
-    /// The place for the components of an array type; none where that is at fault.
-    pub fn component(&self, at: u32) -> Option<u32>
-        ensures { result ≡ spec.component self.now at }
+    /// What was noted there.
+    pub fn brought_at(&self, at: u32) -> Members
+        ensures { result ≡ visible.brought_at self.now at }
     {
-        match self.components.get(&at) {
-            None => Some(0),
-            Some(inside) => *inside,
+        match self.brought.get(&at) {
+            None => Members::Nothing,
+            Some(members) => *members,
+        }
+    }
+
+    /// What is noted where these members are kept.
+    pub fn brought_by(&self, members: Members) -> Members
+        ensures { result ≡ visible.brought_by self.now members }
+    {
+        match members {
+            Members::KeptAt(at) => self.brought_at(at),
+            Members::Nothing => Members::Nothing,
+            Members::AtFault => Members::AtFault,
         }
     }
 }
@@ -337,13 +401,13 @@ fn names_of(level: OpenScope) -> NameTable
     level.names
 }
 
-fn within(level: OpenScope, at: u32) -> OpenScope
-    ensures { level_of result ≡ spec.join_level at (level_of level) }
+fn within(level: OpenScope, members: Members) -> OpenScope
+    ensures { level_of result ≡ spec.join_level members (level_of level) }
 {
     OpenScope {
         form: level.form,
         names: level.names,
-        within: at,
+        within: members,
     }
 }
 

@@ -5,7 +5,7 @@ ghost use Rattle.scope_rules.specs.DeclarationEvents as spec;
 ghost use Rattle.scope_names_events.specs.Writing.{write};
 
 use crate::node::{Node, chain, optional};
-use crate::types::{inside, inside_type_name, write_all_typed};
+use crate::types::{inside, write_all_typed};
 use crate::writer::Writer;
 use estelle_tree::{
     BlockDecl, ConstDef, Formal, Formals, Name, NameList, Routine, RoutineForm, Sequence, TypeDef,
@@ -27,8 +27,7 @@ impl Node for TypeDef {
 
     fn write(&self, out: &mut Writer) -> Result<(), AllocError> {
         self.type_expr.write(out)?;
-        let inside = inside(out.alloc, &self.type_expr)?;
-        out.declare(&self.name, Denotes::Type, inside)
+        out.declare(&self.name, Denotes::Type, inside(&self.type_expr))
     }
 }
 
@@ -53,7 +52,7 @@ pub fn write_parameters(
     ensures { OnOk result (out.new ≡ write out.old (spec.parameters names.now type_name.now)) }
 {
     out.use_alone(Need::Type, type_name)?;
-    let inside = inside_type_name(out.alloc, type_name)?;
+    let inside = Inside::Brought(type_name.span);
     out.declare_all(names.names.items(), Denotes::Variable, inside)
 }
 

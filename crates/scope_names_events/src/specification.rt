@@ -105,10 +105,7 @@ impl Node for IpDecl {
             need: Need::Channel,
             steps,
         })?;
-        let inside = Inside::Named {
-            name: copy_name(out.alloc, &self.channel)?,
-            need: Need::Channel,
-        };
+        let inside = Inside::Brought(self.channel.span);
         out.declare_all(self.names.names.items(), Denotes::Ip, inside)
     }
 }
@@ -118,10 +115,7 @@ impl Node for ModvarDecl {
 
     fn write(&self, out: &mut Writer) -> Result<(), AllocError> {
         out.use_alone(Need::Header, &self.header)?;
-        let inside = Inside::Named {
-            name: copy_name(out.alloc, &self.header)?,
-            need: Need::Header,
-        };
+        let inside = Inside::Brought(self.header.span);
         out.declare_all(self.names.names.items(), Denotes::ModuleVariable, inside)
     }
 }
@@ -258,11 +252,7 @@ fn write_body_head(
 ) -> Result<(), AllocError>
     ensures { OnOk result (out.new ≡ write out.old (spec.body_head name.now header.now span (spec.parts parts.now))) }
 {
-    let inside = Inside::Named {
-        name: copy_name(out.alloc, header)?,
-        need: Need::Header,
-    };
-    out.declare(name, Denotes::Body, inside)?;
+    out.declare(name, Denotes::Body, Inside::At(header.span))?;
     out.use_alone(Need::Header, header)?;
     write_states(span, parts, out)?;
     out.push(Event::Open(ScopeForm::Body))?;

@@ -1,6 +1,6 @@
 //! Constants and types.
 
-ghost use Rattle.std.specs.Prelude.{◌≡◌, ◌∷◌, [], OnOk, IfOk, drop};
+ghost use Rattle.std.specs.Prelude.{◌≡◌, ◌∷◌, [], OnOk, drop};
 ghost use Rattle.std.specs.List.{flat_map};
 ghost use Rattle.scope_rules.specs.declared.declaration.Denotes.TheVariants as d;
 ghost use Rattle.scope_rules.specs.declared.event.Event.TheVariants.{Declare};
@@ -8,10 +8,10 @@ ghost use Rattle.scope_rules.specs.TypeEvents as spec;
 ghost use Rattle.scope_names_events.specs.Writing.{write};
 
 use crate::node::{Node, chain};
-use crate::writer::{Writer, copy_name};
-use estelle_tree::{Const, Name, Ordinal, Sequence, Span, TypeExpr, TypedNames};
+use crate::writer::Writer;
+use estelle_tree::{Const, Ordinal, Sequence, Span, TypeExpr, TypedNames};
 use scope_rules::{Denotes, Event, Inside, Need, ScopeForm};
-use std::alloc::{AllocError, Global};
+use std::alloc::AllocError;
 
 impl Node for Const {
     ghost events = { spec.const_events };
@@ -43,33 +43,23 @@ impl Node for Ordinal {
     }
 }
 
-/// What a type name brings behind a dot.
-pub fn inside_type_name(alloc: Global, name: &Name) -> Result<Inside, AllocError>
-    ensures { IfOk result (λ inside. inside ≡ spec.of_type_name name.now) }
-{
-    Ok(Inside::Named {
-        name: copy_name(alloc, name)?,
-        need: Need::Type,
-    })
-}
-
-fn inside_ordinal(alloc: Global, ordinal: &Ordinal) -> Result<Inside, AllocError>
-    ensures { IfOk result (λ inside. inside ≡ spec.inside_ordinal ordinal.now) }
+fn inside_ordinal(ordinal: &Ordinal) -> Inside
+    ensures { result ≡ spec.inside_ordinal ordinal.now }
 {
     match ordinal {
-        Ordinal::Name(name) => inside_type_name(alloc, name),
-        Ordinal::Enumeration { .. } | Ordinal::Subrange { .. } => Ok(Inside::Nothing),
+        Ordinal::Name(name) => Inside::Brought(name.span),
+        Ordinal::Enumeration { .. } | Ordinal::Subrange { .. } => Inside::Nothing,
     }
 }
 
 /// What a type brings behind a dot.
-pub fn inside(alloc: Global, type_expr: &TypeExpr) -> Result<Inside, AllocError>
-    ensures { IfOk result (λ inside. inside ≡ spec.inside type_expr.now) }
+pub fn inside(type_expr: &TypeExpr) -> Inside
+    ensures { result ≡ spec.inside type_expr.now }
 {
     match type_expr {
-        TypeExpr::Ordinal(ordinal) => inside_ordinal(alloc, ordinal),
-        TypeExpr::Array { span, .. } | TypeExpr::Fields { span, .. } => Ok(Inside::At(*span)),
-        TypeExpr::Set { .. } => Ok(Inside::Nothing),
+        TypeExpr::Ordinal(ordinal) => inside_ordinal(ordinal),
+        TypeExpr::Array { span, .. } | TypeExpr::Fields { span, .. } => Inside::At(*span),
+        TypeExpr::Set { .. } => Inside::Nothing,
     }
 }
 
@@ -109,7 +99,7 @@ fn write_fields(sections: &[TypedNames], out: &mut Writer) -> Result<(), AllocEr
     ensures { OnOk result (out.new ≡ write out.old (flat_map (λ x. Declare (spec.section x).0.names d.Field (spec.section x).1.0 ∷ []) sections.now)) }
 {
     for section in sections {
-        let inside = inside(out.alloc, &section.type_expr)?;
+        let inside = inside(&section.type_expr);
         out.declare_all(section.names.names.items(), Denotes::Field, inside)?;
     }
     Ok(())
@@ -129,7 +119,7 @@ fn write_type(type_expr: &TypeExpr, out: &mut Writer) -> Result<(), AllocError>
         } => {
             chain(indices.items(), out)?;
             write_type(component.get(), out)?;
-            let components = inside(out.alloc, component.get())?;
+            let components = inside(component.get());
             write_arrays(*span, behind_first(indices.items()), components, out)
         }
         TypeExpr::Fields { fields, span, .. } => {
@@ -165,7 +155,7 @@ pub fn write_typed(typed: &TypedNames, denotes: Denotes, out: &mut Writer) -> Re
     ensures { OnOk result (out.new ≡ write out.old (spec.typed_names denotes typed.now)) }
 {
     typed.type_expr.write(out)?;
-    let inside = inside(out.alloc, &typed.type_expr)?;
+    let inside = inside(&typed.type_expr);
     out.declare_all(typed.names.names.items(), denotes, inside)
 }
 

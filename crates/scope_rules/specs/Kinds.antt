@@ -41,6 +41,13 @@ may_be need.Origin d.State = true
 may_be need.Origin d.StateSet = true
 may_be n k = false
 
+-- what a name brings that stands here is noted, for the declarations that name it
+abbrev pub is_noted : Need → Bool
+is_noted need.Type = true
+is_noted need.Channel = true
+is_noted need.Header = true
+is_noted n = false
+
 -- what an inner body does not see of the bodies around it: their variables, module variables, ips, states and state sets
 abbrev pub is_private : Denotes → Bool
 is_private d.Variable = true

@@ -1,4 +1,4 @@
--- The refusal: of all breaches the one with the least number of a rule, and of those of one rule the first in the text.
+-- The refusal: of all breaches the one with the least number of a rule, and of those of one rule the first node in the text.
 use Rattle.std.specs.Prelude.{◌≡◌, ℕ, Bool, false, nat_eq, nat_lt, ◌||◌, ◌&&◌, if◌then◌else◌, Option, Some, None}
 use Rattle.estelle_tree.specs.declared.span.Span.{Span}
 use Rattle.scope_rules.specs.declared.refusal.Breach.{Breach}
@@ -13,9 +13,13 @@ breach number at = record { number = number; span = at }
 abbrev pub only_if : Bool → Breach → Option Breach
 only_if broken b = if broken then Some b else None
 
--- a breach is reported rather than another: its rule has a lesser number, or its node stands earlier and breaks the same rule
+-- a node stands before another: it starts earlier, or it starts there too and is the outer one
+abbrev pub stands_before : Span → Span → Bool
+stands_before a b = nat_lt a.start b.start || (nat_eq a.start b.start && nat_lt b.end a.end)
+
+-- a breach is reported rather than another: its rule has a lesser number, or its node stands before and breaks the same rule
 abbrev pub is_before : Breach → Breach → Bool
-is_before a b = nat_lt a.number b.number || (nat_eq a.number b.number && nat_lt a.span.start b.span.start)
+is_before a b = nat_lt a.number b.number || (nat_eq a.number b.number && stands_before a.span b.span)
 
 -- of all breaches P, this is the one that is reported
 pub record IsLeast (P : Breach → Type 0) (b : Breach) : Type 0 where

@@ -6,5 +6,7 @@ pub mod StatementEvents
 pub mod DeclarationEvents
 pub mod ClauseEvents
 pub mod SpecificationEvents
+pub mod Visible
 pub mod Scopes
 pub mod NameRules
+pub mod NamesInUse

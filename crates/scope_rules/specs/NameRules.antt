@@ -15,7 +15,10 @@ use Rattle.scope_rules.specs.declared.refusal.Breach.{Breach}
 use Rattle.scope_rules.specs.Kinds.{may_be}
 use Rattle.scope_rules.specs.TypeEvents.{Events}
 use Rattle.scope_rules.specs.SpecificationEvents.{events}
-use Rattle.scope_rules.specs.Scopes.{Scopes, start, after, after_one, in_scope, in_names, kept_at, meaning, reached, received, inside_of, declare_one, Sought, sought}
+use Rattle.scope_rules.specs.declared.declaration.Members.{Members}
+use Rattle.scope_rules.specs.declared.declaration.Members.TheVariants as members
+use Rattle.scope_rules.specs.Visible.{Scopes, in_scope, member, inside_named, brought_by, received, inside_of}
+use Rattle.scope_rules.specs.Scopes.{start, after, after_one, declare_one, Sought, sought}
 
 -- x is one of xs
 abbrev pub IsOne : {A : Type 0} → A → List A → Type 0
@@ -37,7 +40,7 @@ abbrev pub later : Span → Span → Span
 later a b = if nat_lt b.start a.start then a else b
 
 -- of names that are declared one after another, one is declared in the scope before, and this is the second of the two
-abbrev pub SecondOf : Scopes → List Name → Denotes → Option ℕ → Span → Type 0
+abbrev pub SecondOf : Scopes → List Name → Denotes → Members → Span → Type 0
 SecondOf s [] k inside at = ⊥
 SecondOf s (x ∷ xs) k inside at = ((d : Declared) × ((in_scope s x.word ≡ Some d) × (at ≡ later d.at x.span))) ⊎ SecondOf (declare_one s x k inside) xs k inside at
 
@@ -51,15 +54,15 @@ is_listed w [] = false
 is_listed w (x ∷ xs) = bytes_eq w x.word || is_listed w xs
 
 -- a name in the list behind an interaction is a parameter's, and named as what stands on the way already
-abbrev pub ListedParameter : Scopes → ℕ → List Name → Span → Type 0
-ListedParameter s parameters listed at = (x : Name) × (IsOne x listed × IsSome (in_names x.word (kept_at s.kept parameters)) × IsSome (in_scope s x.word) × (at ≡ x.span))
+abbrev pub ListedParameter : Scopes → Members → List Name → Span → Type 0
+ListedParameter s parameters listed at = (x : Name) × (IsOne x listed × IsSome (member s parameters x.word) × IsSome (in_scope s x.word) × (at ≡ x.span))
 
 -- a parameter that the list lacks is named as what stands on the way already
-abbrev pub UnlistedParameter : Scopes → ℕ → List Name → Type 0
-UnlistedParameter s parameters listed = (w : List ℕ) × (IsSome (in_names w (kept_at s.kept parameters)) × IsSome (in_scope s w) × (is_listed w listed ≡ false))
+abbrev pub UnlistedParameter : Scopes → Members → List Name → Type 0
+UnlistedParameter s parameters listed = (w : List ℕ) × (IsSome (member s parameters w) × IsSome (in_scope s w) × (is_listed w listed ≡ false))
 
 -- a parameter of an interaction is named as what stands on the way already: at its name in the list behind the interaction, and where none stands there, at the interaction
-abbrev pub SecondParameter : Scopes → ℕ → Name → List Name → Span → Type 0
+abbrev pub SecondParameter : Scopes → Members → Name → List Name → Span → Type 0
 SecondParameter s parameters interaction listed at = ListedParameter s parameters listed at ⊎ (UnlistedParameter s parameters listed × (at ≡ interaction.span))
 
 abbrev pub DeclaredTwice : Span → Scopes → Event → Type 0
@@ -86,7 +89,7 @@ StatesAtFault at s e = ⊥
 -- ---- 5: an `init` names a body of another header than the module variable's
 
 abbrev pub OfOtherHeader : Span → Scopes → Event → Type 0
-OfOtherHeader at s (Init modvar body) = (h : ℕ) × (k : ℕ) × ((reached need.ModuleVariable (meaning s modvar.word) ≡ Some h) × (reached need.Body (meaning s body.word) ≡ Some k) × (h ≢ k) × (at ≡ body.span))
+OfOtherHeader at s (Init modvar body) = (h : ℕ) × (k : ℕ) × ((inside_named s modvar need.ModuleVariable ≡ members.KeptAt h) × (brought_by s (inside_named s body need.Body) ≡ members.KeptAt k) × (h ≢ k) × (at ≡ body.span))
 OfOtherHeader at s e = ⊥
 
 -- ---- the rules of a specification

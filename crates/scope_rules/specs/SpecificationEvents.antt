@@ -28,7 +28,7 @@ use Rattle.estelle_tree.specs.Required.{identifiers}
 use Rattle.scope_rules.specs.declared.declaration.Denotes.{Denotes}
 use Rattle.scope_rules.specs.declared.declaration.Denotes.TheVariants as d
 use Rattle.scope_rules.specs.declared.declaration.Need.TheVariants as need
-use Rattle.scope_rules.specs.declared.declaration.Inside.TheVariants.{Nothing, At, Named}
+use Rattle.scope_rules.specs.declared.declaration.Inside.TheVariants.{Nothing, At, Brought}
 use Rattle.scope_rules.specs.declared.event.ScopeForm.TheVariants as scope
 use Rattle.scope_rules.specs.declared.event.Step.TheVariants as step
 use Rattle.scope_rules.specs.declared.event.Event.{Event}
@@ -60,11 +60,11 @@ channel c = declare c.name d.Channel (At c.name.span) ++ (Open scope.Inner ∷ r
 
 -- ips bring the roles and the interactions of their channel behind a dot
 abbrev pub ip_decl : IpDecl → Events
-ip_decl p = Use p.channel need.Channel (step.Role p.role ∷ []) ∷ Declare p.names.names d.Ip (Named p.channel need.Channel) ∷ []
+ip_decl p = Use p.channel need.Channel (step.Role p.role ∷ []) ∷ Declare p.names.names d.Ip (Brought p.channel.span) ∷ []
 
 -- module variables bring the inside of their header behind a dot
 abbrev pub modvar_decl : ModvarDecl → Events
-modvar_decl m = use_alone need.Header m.header ++ Declare m.names.names d.ModuleVariable (Named m.header need.Header) ∷ []
+modvar_decl m = use_alone need.Header m.header ++ Declare m.names.names d.ModuleVariable (Brought m.header.span) ∷ []
 
 abbrev pub stateset_def : StatesetDef → Events
 stateset_def s = flat_map (use_alone need.State) s.states.names ++ declare s.name d.StateSet Nothing
@@ -108,9 +108,9 @@ pub record Saying : Type 0 where
 abbrev pub states_of : Span → Saying → Events
 states_of at p = States at p.declared p.initial p.transitions ∷ []
 
--- a body is a scope, to which the inside of its header belongs; its own name is visible in it
+-- a body is a scope, to which the inside of its header belongs; its own name is visible in it, and it brings what is noted where its header is named
 abbrev pub body_head : Name → Name → Span → Saying → Events
-body_head name header span parts = declare name d.Body (Named header need.Header) ++ (use_alone need.Header header ++ (states_of span parts ++ Open scope.Body ∷ Import header ∷ []))
+body_head name header span parts = declare name d.Body (At header.span) ++ (use_alone need.Header header ++ (states_of span parts ++ Open scope.Body ∷ Import header ∷ []))
 
 abbrev pub body_layer : Body-F Declaring Events Saying → Events
 body_layer b = body_head b.name b.header b.span b.parts ++ (b.parts.events ++ Close ∷ [])

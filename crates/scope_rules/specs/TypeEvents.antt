@@ -19,7 +19,7 @@ use Rattle.scope_rules.specs.declared.declaration.Denotes.TheVariants as d
 use Rattle.scope_rules.specs.declared.declaration.Need.{Need}
 use Rattle.scope_rules.specs.declared.declaration.Need.TheVariants as need
 use Rattle.scope_rules.specs.declared.declaration.Inside.{Inside}
-use Rattle.scope_rules.specs.declared.declaration.Inside.TheVariants.{Nothing, At, Named}
+use Rattle.scope_rules.specs.declared.declaration.Inside.TheVariants.{Nothing, At, Brought}
 use Rattle.scope_rules.specs.declared.event.ScopeForm.TheVariants as form
 use Rattle.scope_rules.specs.declared.event.Event.{Event}
 use Rattle.scope_rules.specs.declared.event.Event.TheVariants.{Open, Keep, Array, Declare, Use}
@@ -37,7 +37,7 @@ declare x k inside = Declare (x ∷ []) k inside ∷ []
 
 -- what a type name brings behind a dot
 abbrev pub of_type_name : Name → Inside
-of_type_name t = Named t need.Type
+of_type_name t = Brought t.span
 
 -- a constant uses the name that stands in it
 abbrev pub const_events : Const → Events

@@ -3,7 +3,7 @@
 ghost use Rattle.std.specs.Prelude.{◌≡◌};
 ghost use Rattle.scope_rules.specs.Kinds as kinds;
 
-use estelle_tree::{Name, Span};
+use estelle_tree::Span;
 
 /// What a name denotes.
 #[derive(Clone, Copy, Debug, PartialEq, Eq)]
@@ -64,14 +64,25 @@ pub enum Need {
 }
 
 /// Where the names are that a declaration brings behind a dot.
-#[derive(Drop)]
+#[derive(Clone, Copy, Debug, PartialEq, Eq)]
 pub enum Inside {
     /// It brings none.
     Nothing,
     /// They are kept for the type or the name that stands there.
     At(Span),
-    /// They are those of what this name means, where it is of the kind that is needed.
-    Named { name: Name, need: Need },
+    /// They are those that were noted where this name of a type, a channel or a header stands.
+    Brought(Span),
+}
+
+/// What stands behind a dot.
+#[derive(Clone, Copy, Debug, PartialEq, Eq)]
+pub enum Members {
+    /// No names.
+    Nothing,
+    /// The names that are kept for this place.
+    KeptAt(u32),
+    /// Those of a type, a header or a channel that is at fault: they are not judged.
+    AtFault,
 }
 
 /// A name as it is declared.
@@ -80,9 +91,8 @@ pub struct Declared {
     /// The name in its declaration; 0..0 for a required identifier.
     pub at: Span,
     pub denotes: Denotes,
-    /// The place for which the names behind its dot are kept, 0 for no names; none where its declaration names a type,
-    /// a header or a channel that is at fault.
-    pub inside: Option<u32>,
+    /// What stands behind its dot.
+    pub inside: Members,
 }
 
 /// Whether a name that denotes this may stand where that is needed.

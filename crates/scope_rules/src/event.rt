@@ -53,7 +53,8 @@ pub enum Event {
         denotes: Denotes,
         inside: Inside,
     },
-    /// A name is used, with what stands behind it.
+    /// A name is used, with what stands behind it. What the name of a type, a channel or a header brings is noted where
+    /// it stands.
     Use {
         name: Name,
         need: Need,

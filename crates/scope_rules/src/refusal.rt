@@ -31,11 +31,18 @@ impl From<AllocError> for Refusal {
     }
 }
 
+/// Whether one node stands before another; of two that start at one place the outer one does.
+fn stands_before(a: Span, b: Span) -> bool
+    ensures { result ≡ least.stands_before a b }
+{
+    a.start < b.start || (a.start == b.start && b.end < a.end)
+}
+
 /// Whether one breach is reported rather than another.
 fn is_before(a: Breach, b: Breach) -> bool
     ensures { result ≡ least.is_before a b }
 {
-    a.number < b.number || (a.number == b.number && a.span.start < b.span.start)
+    a.number < b.number || (a.number == b.number && stands_before(a.span, b.span))
 }
 
 /// A breach where something is so.

@@ -1,7 +1,8 @@
 -- What is computed of a pending firing, and the room that is made for it.
-use Rattle.std.proofs.Common.{◌≡◌, ℕ, ◌+◌, ◌<◌, List, get_or, Option, Some, refl, sym, ap, subst, ◌∙◌, length}
+use Rattle.std.proofs.Common.{◌≡◌, ℕ, ◌+◌, ◌*◌, ◌<◌, ◌≤◌, List, arith, get_or, Option, Some, refl, sym, ap, subst, ◌∙◌, length}
 use Rattle.std.specs.Prelude.{Contains, slice_get}
 use Rattle.std.specs.FinMap as map
+use Rattle.std.proofs.Math.Nat.{mul-le-mul_left}
 use Rattle.estelle_tree.specs.declared.transition.Pair.{Pair}
 use Rattle.estelle_tree.specs.Paths.{Path}
 use Rattle.estelle_tree.specs.Timers.{pair}
@@ -14,6 +15,10 @@ use Rattle.estelle_model.specs.Jobs.{Answers, IsJobIn}
 use Rattle.estelle_model_legality.specs.Jobs as legal
 use Rattle.estelle_model_legality.specs.Situations.{IsLegal}
 use Rattle.estelle_model_legality.proofs.Taken.{taken}
+use Rattle.estelle_model_legality.proofs.Conditions.{taken_meets}
+use Rattle.run_history.specs.Histories.{fires}
+use Rattle.situation_units.specs.Counting.{births_of, births_at}
+use Rattle.situation.proofs.Firings.{once_more}
 use Rattle.effect_log.specs.declared.shared.Shared.{Shared}
 use Rattle.effect_log.specs.declared.notes.Notes.{Notes}
 use Rattle.effect_log.specs.Standing.{Stands, AreQueuesOf}
@@ -63,20 +68,31 @@ module _ {H : Type 0} where
   pub pending_now : (c : Course H) (k : ℕ) → GoesOn k c → (p : Pair) → Contains c.pending.items p → Contains (now c).pending p
   pending_now c k opened p there = subst (λ (ps : List Pair). Contains ps p) opened.is_open.holds.pending there
 
+  -- more children can be born than a firing has units
+  has_room : (c : Course H) → IsOpenCourse c → fires c.history.entries < c.limits.turns → legal.HasRoom c.limits.budget (now c)
+  has_room c o below p i there =
+      let b = c.limits.budget in
+      let f = fires c.history.entries in
+      let is : births_at p (now c) ≡ i.births = ap births_of there in
+      let one : b * (f + 1 + 1) ≡ b * (f + 1) + b = once_more b (f + 1) in
+      let most : b * (f + 1 + 1) ≤ b * (c.limits.turns + 1) = mul-le-mul_left b (omega (arith, below)) in
+      omega (arith, is, o.going.within.births p, one, most, o.room)
+
   -- what was computed of its job is computed of it
-  pub computed_so : (c : Course H) (k : ℕ) → GoesOn k c → (at : ℕ) (p : Pair) → slice_get c.pending.items at ≡ Some p → Contains c.pending.items p → (job : Job) → job ≡ legal.job_of c.program.now (now c) c.tickets c.limits.budget p
+  pub computed_so : (c : Course H) (k : ℕ) → GoesOn k c → fires c.history.entries < c.limits.turns → (at : ℕ) (p : Pair) → slice_get c.pending.items at ≡ Some p → Contains c.pending.items p → (job : Job) → job ≡ legal.job_of c.program.now (now c) c.tickets c.limits.budget p
       → (done : Done) → Answers c.program.now job done → (shared : Shared) (notes : Notes) → HasRoomFor done.outcome shared notes → IsComputedAt at (with_room c shared notes) done
-  computed_so c k opened at p is there job job_is done answers shared notes room =
+  computed_so c k opened below at p is there job job_is done answers shared notes room =
       let s = c.program.now in
       let g = now c in
       let b = c.limits.budget in
+      let meets : legal.IsJob s job = subst (legal.IsJob s) (sym job_is) (taken_meets s g opened.is_open.going.under_way.legal c.tickets b (has_room c opened.is_open below) p (pending_now c k opened p there)) in
       let in_it : IsJobIn s g job = subst (IsJobIn s g) (sym job_is) (taken s g opened.is_open.going.under_way.legal c.tickets b p (pending_now c k opened p there)) in (
         p,
         is,
         record {
           pending = there;
           job = job;
-          is_for = record { path = ap (λ (j : Job). j.path) job_is; trans = ap (λ (j : Job). j.trans) job_is; units = ap (λ (j : Job). j.budget) job_is; in_it = in_it };
+          is_for = record { path = ap (λ (j : Job). j.path) job_is; trans = ap (λ (j : Job). j.trans) job_is; units = ap (λ (j : Job). j.budget) job_is; in_it = in_it; meets = meets };
           answers = answers;
           room = room;
         },

@@ -12,7 +12,6 @@ pub mod Listed
 pub mod Answering
 pub mod Delayed
 pub mod Found
-pub mod Images
 pub mod Firings
 pub mod Starts
 pub mod Begun

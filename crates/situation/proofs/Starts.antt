@@ -1,11 +1,9 @@
 -- The start of a run: it is put, or it faults.
-use Rattle.std.proofs.Common.{◌≡◌, ℕ, zero, suc, ◌+◌, ◌*◌, ◌^◌, ◌<◌, ◌≤◌, cond, Bool, true, false, List, [], ◌∷◌, ◌++◌, Option, Some, None, refl, sym, ap, subst, ◌∙◌, arith}
-use Rattle.std.specs.Prelude.{option_map, map as each}
+use Rattle.std.proofs.Common.{◌≡◌, ℕ, zero, suc, ◌+◌, ◌*◌, ◌^◌, ◌<◌, ◌≤◌, List, [], ◌∷◌, ◌++◌, Option, Some, None, refl, sym, ap, subst, ◌∙◌, arith}
+use Rattle.std.specs.Prelude.{map as each}
 use Rattle.std.specs.FinMap as map
 use Rattle.std.proofs.Math.Nat.{mul-le-mul_left}
 use Rattle.pascal_values.specs.declared.fault.Fault as fault
-use Rattle.std.specs.Ordering.{eq_by_cmp}
-use Rattle.estelle_tree.specs.Paths.{Path, path_cmp}
 use Rattle.estelle_tree.specs.Timers.{pair}
 use Rattle.estelle_model.specs.declared.event.Event.{Event}
 use Rattle.estelle_model.specs.declared.event.Event.TheVariants.{Start, Fault}
@@ -16,13 +14,11 @@ use Rattle.estelle_model.specs.declared.job.Job.{Job}
 use Rattle.estelle_model.specs.declared.job.Done.{Done}
 use Rattle.estelle_model.specs.declared.job.Outcome.{Outcome}
 use Rattle.estelle_model.specs.declared.job.Outcome.TheVariants as outcome
-use Rattle.estelle_model.specs.Bodies.{BodyAlone}
-use Rattle.estelle_model.specs.Core.{Instance, Instances}
 use Rattle.estelle_model.specs.Effects.{StatementEffect}
 use Rattle.estelle_model.specs.Transitions.{Transition}
-use Rattle.estelle_model.specs.Subject.{Subject, body, new_instance}
+use Rattle.estelle_model.specs.Subject.{Subject}
 use Rattle.estelle_model.specs.Situation.{Situation, Acting, acting_after}
-use Rattle.estelle_model.specs.Firing.{Firing, Failed, begun, start, bare, alone, transition_at}
+use Rattle.estelle_model.specs.Firing.{Firing, Failed, begun, start, bare, transition_at}
 use Rattle.estelle_model.specs.Jobs.{IsAnswer, IsPut, Answers, AnswersAt, put, after_all, taken_by, all_logged}
 use Rattle.estelle_model.specs.Runs.{Begins, situation, started}
 use Rattle.estelle_model.specs.Choosers.{Draw}
@@ -30,7 +26,6 @@ use Rattle.estelle_model.specs.Schedule.{begins}
 use Rattle.estelle_model_legality.specs.Instances.{LeadsToStates}
 use Rattle.estelle_model_legality.specs.Keeping.{HasStarted}
 use Rattle.estelle_model_legality.specs.Situations.{IsLegal}
-use Rattle.estelle_model.proofs.Maps.{total}
 use Rattle.effect_log.specs.Putting.{log_of, parts_of, effects_of, IsJobAt, AnswersIn, begun_by, after_put}
 use Rattle.effect_log.specs.Rooms.{outputs_in}
 use Rattle.effect_log.proofs.Answered.{log-is}
@@ -43,7 +38,8 @@ use Rattle.situation_steps.specs.declared.systems.System.{System}
 use Rattle.situation_steps.specs.Systems.{systems_of, first_kept}
 use Rattle.situation_steps.specs.Laws.{first_time, HasBegun}
 use Rattle.situation_steps.proofs.Starting.{starts_go_on}
-use Rattle.situation_units.specs.Counting.{births_of, births_at, IsWithinUnits}
+use Rattle.situation_units.specs.Counting.{IsWithinUnits}
+use Rattle.situation_units.proofs.Bare.{no_births}
 use Rattle.situation_units.proofs.Weighing.{starts_are_within}
 use Rattle.situation.specs.Runs.{noted, ending, AllSettled, IsWithin, IsGoing, IsClosed, IsTold, AreReached}
 use Rattle.situation.specs.Worlds.{HasOnlyStarted}
@@ -69,27 +65,7 @@ no_tickets s budget = record {
 none_settled : AllSettled []
 none_settled k n m o = too_short (record { by = o.by; what = what.Take k m n }) o.before o.after o.take.stands
 
--- ---- the instance before it
-
-abbrev none_at_all : Instances
-none_at_all = map.empty
-
-births_of_none : (q : Path) → births_of (map.get none_at_all q) ≡ 0
-births_of_none q = ap births_of (map.get-empty path_cmp q)
-
-births_alone : (q : Path) (i : Instance) → i.births ≡ 0 → births_of (map.get (map.insert none_at_all [] i) q) ≡ 0
-births_alone q i none = by (eq_by_cmp path_cmp q []) (map.get-insert total none_at_all [] i q)
-  where
-    by : (c : Bool) → map.get (map.insert none_at_all [] i) q ≡ cond c (Some i) (map.get none_at_all q) → births_of (map.get (map.insert none_at_all [] i) q) ≡ 0
-    by true e = ap births_of e ∙ none
-    by false e = ap births_of e ∙ births_of_none q
-
-no_births : (s : Subject) (q : Path) → births_at q (bare s) ≡ 0
-no_births s q = by (body s 0)
-  where
-    by : (o : Option BodyAlone) → births_of (map.get (alone (option_map (λ (b : BodyAlone). new_instance s 0 b []) o)) q) ≡ 0
-    by None = births_of_none q
-    by (Some b) = births_alone q (new_instance s 0 b []) refl
+-- ---- the situation before it
 
 -- timers and what is pending stay
 timers_stay : (es : List StatementEffect) (a : Acting) → (after_all es a).situation.timers ≡ a.situation.timers

@@ -14,6 +14,7 @@ use Rattle.estelle_model.specs.Runs.{IsRun, situation}
 use Rattle.estelle_model.specs.Ends.{Stops}
 use Rattle.estelle_model.specs.Choosers.{Draw}
 use Rattle.estelle_model.specs.Schedule.{Reaches, IsPlannedEnd, IsScheduled}
+use Rattle.estelle_model_legality.specs.Jobs.{IsJob}
 use Rattle.estelle_model_legality.specs.Keeping.{HasStarted}
 use Rattle.estelle_model_legality.specs.Situations.{IsLegal}
 use Rattle.run_history.specs.declared.entry.Entry.{Entry}
@@ -112,9 +113,10 @@ pub record IsStopped {C : Type 0} (draw : Draw C) (chooser : C) (clock : Option 
 
 -- ---- what is computed
 
--- it is the job of a pending firing in a situation
+-- it is the job of a pending firing in a situation, and meets the condition of a job
 pub record IsJobFor (s : Subject) (g : Situation) (budget : ℕ) (p : Pair) (job : Job) : Type 0 where
   pub path : job.path ≡ p.path
   pub trans : job.trans ≡ p.trans
   pub units : job.budget ≡ budget
   pub in_it : IsJobIn s g job
+  pub meets : IsJob s job

@@ -115,7 +115,8 @@ pub(crate) fn begin<'a, H: Chooser + Drop>(
     ensures { IfOk result (IsBegun H.draw program.now limits chooser) }
 {
     let mut course = fresh(alloc, program, limits, chooser)?;
-    let done = fire_plain(alloc, program, start_job(alloc, limits.budget))?;
+    let job = start_job(alloc, program, limits.budget)?;
+    let done = fire_plain(alloc, program, job)?;
     course.history.reserve(2)?;
     course.reserve(alloc, &done)?;
     course.start(alloc, done);

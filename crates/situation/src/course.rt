@@ -317,6 +317,7 @@ impl<H: Chooser + Drop> Course<'_, H> {
     /// Computes a pending firing, and makes the room for it.
     fn compute(&mut self, alloc: Global, at: usize) -> Result<Done, AllocError>
         requires open { GoesOn 3 self.old }
+        requires below { fires self.old.history.entries < self.old.limits.turns }
         requires there { at < length self.old.pending.items }
         ensures computed { IfOk result (IsComputedAt at self.new) }
         ensures open { GoesOn 3 self.new }

@@ -4,18 +4,17 @@ ghost use Rattle.std.specs.Prelude.{◌≡◌, ◌<◌, ◌≤◌, ◌+◌, ◌*
 ghost use Rattle.outside.specs.Counts.{Rose};
 ghost use Rattle.estelle_model.specs.declared.event.End.TheVariants.{Clock as ByClock};
 ghost use Rattle.estelle_model.specs.Delays.{has_delays};
-ghost use Rattle.estelle_model_legality.specs.Instances.{LeadsToStates};
 ghost use Rattle.situation.specs.Runs.{IsStopped};
 ghost use Rattle.estelle_model.specs.Subject.{subject};
 
 use crate::begin::begin;
 use crate::course::Course;
 use crate::limits::{Limits, Stepped};
-use body_walker::Program;
+use accepted_program::AcceptedProgram;
 use estelle_model::{End, Run};
-use estelle_tree::{Names, Spec};
 use outside::{Chooser, Clock};
 use run_history::into_run;
+use spec_accept::Checked;
 use std::alloc::{AllocError, Global};
 
 impl<H: Chooser + Drop> Course<'_, H> {
@@ -36,22 +35,21 @@ impl<H: Chooser + Drop> Course<'_, H> {
     }
 }
 
-/// Runs a program to its end.
+/// Runs the program of an accepted specification to its end.
 fn run<C: Clock, H: Chooser + Drop>(
     alloc: Global,
-    program: &Program,
+    program: &AcceptedProgram,
     limits: Limits,
     clock: &mut C,
     chooser: H,
 ) -> Result<(Run, End), AllocError>
-    requires leads { LeadsToStates program.now }
     requires room { limits.budget * (limits.turns + 1) < 2 ^ 63 }
     ensures stopped { IfOk result (λ r. IsStopped H.draw chooser (C.moment clock.old) program.now limits.budget limits.turns r.0.events r.1) }
     ensures cause { IfOk result (λ r. r.1 ≡ ByClock → Rose (C.faults clock.old) (C.faults clock.new)) }
     ensures later { C.faults clock.old ≤ C.faults clock.new }
     ensures unasked { has_delays program.now ≡ false → clock.new ≡ clock.old }
 {
-    let mut course = begin(alloc, program, limits, chooser)?;
+    let mut course = begin(alloc, program.program(), limits, chooser)?;
     loop {
         if let Stepped::Ended(_) = course.step(alloc, clock)? {
             return course.told(alloc);
@@ -59,22 +57,21 @@ fn run<C: Clock, H: Chooser + Drop>(
     }
 }
 
-/// Runs a specification to its end. The clock is asked only where a transition has a delay. The error is want of memory.
+/// Runs an accepted specification to its end. The clock is asked only where a transition has a delay. The error is want of
+/// memory.
 pub fn execute<C: Clock, H: Chooser + Drop>(
     alloc: Global,
-    spec: &Spec,
-    names: &Names,
+    checked: &Checked,
     limits: Limits,
     clock: &mut C,
     chooser: H,
 ) -> Result<(Run, End), AllocError>
-    requires leads { LeadsToStates (subject spec.now names.now) }
     requires room { limits.budget * (limits.turns + 1) < 2 ^ 63 }
-    ensures stopped { IfOk result (λ r. IsStopped H.draw chooser (C.moment clock.old) (subject spec.now names.now) limits.budget limits.turns r.0.events r.1) }
+    ensures stopped { IfOk result (λ r. IsStopped H.draw chooser (C.moment clock.old) (subject checked.now.spec checked.now.names) limits.budget limits.turns r.0.events r.1) }
     ensures cause { IfOk result (λ r. r.1 ≡ ByClock → Rose (C.faults clock.old) (C.faults clock.new)) }
     ensures later { C.faults clock.old ≤ C.faults clock.new }
-    ensures unasked { has_delays (subject spec.now names.now) ≡ false → clock.new ≡ clock.old }
+    ensures unasked { has_delays (subject checked.now.spec checked.now.names) ≡ false → clock.new ≡ clock.old }
 {
-    let program = Program::new(alloc, spec, names)?;
+    let program = AcceptedProgram::new(alloc, checked)?;
     run(alloc, &program, limits, clock, chooser)
 }

@@ -5,13 +5,12 @@ ghost use Rattle.estelle_model.specs.Delays.{has_delays};
 ghost use Rattle.estelle_model.specs.Runs.{IsRun};
 ghost use Rattle.estelle_model_fates.specs.Fates.{HaveOneFate};
 ghost use Rattle.estelle_model_fates.specs.Order.{AreFirstInFirstOut};
-ghost use Rattle.estelle_model_legality.specs.Instances.{LeadsToStates};
 ghost use Rattle.run_history.specs.Histories.{project};
 
 use crate::begin;
 use crate::course::Course;
 use crate::limits::{Limits, Stepped};
-use body_walker::Program;
+use accepted_program::AcceptedProgram;
 use estelle_model::End;
 use estelle_model_fates::{first_in_is_first_out, outputs_have_one_fate};
 use outside::{Chooser, Clock};
@@ -50,12 +49,11 @@ impl<'a, C: Clock + Drop, H: Chooser + Drop> World<'a, C, H> {
     /// Runs the start. The refusal is want of memory.
     pub fn begin(
         alloc: Global,
-        program: &'a Program<'a>,
+        program: &'a AcceptedProgram<'a>,
         limits: Limits,
         clock: C,
         chooser: H,
     ) -> Result<World<'a, C, H>, C>
-        requires leads { LeadsToStates program.now }
         requires room { limits.budget * (limits.turns + 1) < 2 ^ 63 }
         ensures keeps { IfOk result IsOfRun }
         ensures of { IfOk result (IsWithinLimits program.now limits) }
@@ -64,7 +62,7 @@ impl<'a, C: Clock + Drop, H: Chooser + Drop> World<'a, C, H> {
         ensures unasked { IfOk result (λ world. world.clock ≡ clock) }
         ensures clock { IfErr result (λ refused. refused ≡ clock) }
     {
-        match begin::begin(alloc, program, limits, chooser) {
+        match begin::begin(alloc, program.program(), limits, chooser) {
             Ok(course) => Ok(World { course, clock }),
             Err(_) => Err(clock),
         }

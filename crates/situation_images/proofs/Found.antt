@@ -51,7 +51,7 @@ module _ (s : Subject) (g : Situation) (legal : IsLegal s g) (a : IpAddr) where
 
   pub nothing_waits : point s g.core.instances a ≡ None → queue s g a ≡ []
   nothing_waits none =
-      filter-alike (λ w. one_queue s g.core.instances a w.at) (λ w. false) g.mail (λ w m. let may = legal.mail.each w (contained g.mail w m) in not_in none w (may.at, may.there))
+      filter-alike (λ w. one_queue s g.core.instances a w.at) (λ w. false) g.mail (λ w m. let may = (legal.mail.each w (contained g.mail w m)).arrives in not_in none w (may.at, may.there))
       ∙ filter-nothing (λ w. false) g.mail (λ w. refl)
 
 some_is : {A : Type 0} (o : Option A) → is_some o ≡ true → (x : A) × (o ≡ Some x)

@@ -1,10 +1,9 @@
 -- The job of a pending firing: what it receives, and its image.
-use Rattle.std.proofs.Common.{◌≡◌, Bool, true, false, T, List, [], ◌∷◌, map as each, Option, Some, None, refl, sym, ap, subst, ◌∙◌}
+use Rattle.std.proofs.Common.{◌≡◌, map as each, Option, Some, None, refl, sym, ap, ◌∙◌}
 use Rattle.std.specs.Prelude.{option_map, Contains}
 use Rattle.std.specs.FinMap as map
-use Rattle.std.specs.FinMap.{is_sorted}
 use Rattle.estelle_tree.specs.declared.transition.Pair.{Pair}
-use Rattle.estelle_tree.specs.Paths.{Path, path_cmp, is_inside}
+use Rattle.estelle_tree.specs.Paths.{Path, is_inside}
 use Rattle.module_tree.specs.Trees as trees
 use Rattle.estelle_model.specs.declared.image.Part.{Part}
 use Rattle.estelle_model.specs.Core.{Instance}
@@ -16,7 +15,8 @@ use Rattle.estelle_model.specs.Jobs.{part_of_entry, found_by, received_by}
 use Rattle.estelle_model.specs.Asked.{head_of}
 use Rattle.estelle_model_legality.specs.Situations.{IsLegal}
 use Rattle.estelle_model_legality.specs.Jobs.{item_of}
-use Rattle.body_walker_state.specs.InOrder.{InOrder, entries_of}
+use Rattle.body_walker_state.specs.InOrder.{InOrder}
+use Rattle.body_walker.proofs.JobLemmas.{shown_in_order}
 use Rattle.effect_log.specs.Standing.{kept_of}
 use Rattle.situation_images.specs.Instances.{IsTreeOf, IsOfBody, parts_of}
 use Rattle.situation_images.proofs.Found.{item_found}
@@ -39,17 +39,5 @@ of_body t g of p part is = by (map.get g.core.instances p) refl (is ∙ ap (opti
     by None e h = absurd (cc)
     by (Some i) e h = let same : part ≡ part_of_entry (p, i) = cc in (i, e, sym (ap (λ (q : Part). q.body) same))
 
--- ---- in path order
-
-entries_back : (es : List (Path × Instance)) → entries_of (each part_of_entry es) ≡ es
-entries_back [] = refl
-entries_back (e ∷ es) = ap (λ ds. e ∷ ds) (entries_back es)
-
-holds : (b : Bool) → T b → b ≡ true
-holds true h = refl
-holds false h = absurd h
-
 pub in_order : (g : Situation) (m : Path) → InOrder (parts_of g m)
-in_order g m =
-    let inside = map.retain_keys g.core.instances (is_inside m) in
-    holds _ (subst (λ es. T (is_sorted path_cmp es)) (sym (entries_back (map.entries inside))) (map.entries_sorted inside))
+in_order g m = shown_in_order (map.retain_keys g.core.instances (is_inside m))

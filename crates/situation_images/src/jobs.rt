@@ -1,6 +1,6 @@
 //! The job of a pending firing.
 
-ghost use Rattle.std.specs.Prelude.{◌≡◌, ℕ, [], None, IfOk, Contains};
+ghost use Rattle.std.specs.Prelude.{◌≡◌, ℕ, IfOk, Contains};
 ghost use Rattle.estelle_model.specs.Situation.{Situation};
 ghost use Rattle.estelle_model_legality.specs.Jobs as legal;
 ghost use Rattle.estelle_model_legality.specs.Situations.{IsLegal};
@@ -9,10 +9,11 @@ ghost use Rattle.effect_log.specs.Standing.{Stands};
 
 use crate::heads::copied_head;
 use crate::images::image_of;
+use body_walker::root_image;
 use body_walker_program::Program;
 use effect_log::Shared;
-use estelle_model::{Image, Interaction, Job, Pair};
-use estelle_tree::{Items, Path};
+use estelle_model::{Interaction, Job, Pair};
+use estelle_tree::Path;
 use std::alloc::{AllocError, Global};
 
 /// What a pending firing receives, as a copy.
@@ -41,6 +42,7 @@ pub fn job_of(
 ) -> Result<Job, AllocError>
     ensures job { (g : Situation) → Stands program.now shared.now g → IsLegal program.now g → Contains g.pending pair.now → IfOk result (λ job. job ≡ legal.job_of program.now g ticket budget pair.now) }
     ensures in_order { (g : Situation) → Stands program.now shared.now g → IsLegal program.now g → IfOk result (λ job. InOrder job.image.parts) }
+    ensures condition { (g : Situation) → Stands program.now shared.now g → IsLegal program.now g → legal.HasRoom budget g → Contains g.pending pair.now → IfOk result (λ job. legal.IsJob program.now job) }
 {
     Ok(Job {
         ticket,
@@ -52,19 +54,19 @@ pub fn job_of(
     })
 }
 
-/// The job of the initialization, which needs no image.
-pub fn start_job(alloc: Global, budget: u32) -> Job
-    ensures { result ≡ record { ticket = 0; path = []; trans = 0; image = record { parts = []; links = [] }; head = None; budget = budget } }
+/// The job of the initialization: the specification's own instance as it is made, alone.
+pub fn start_job(alloc: Global, program: &Program, budget: u32) -> Result<Job, AllocError>
+    ensures job { IfOk result (λ job. job ≡ legal.start_job program.now budget) }
+    ensures condition { IfOk result (λ job. legal.IsJob program.now job) }
 {
-    Job {
+    let path = Path::root(alloc);
+    let image = root_image(alloc, program.bodies())?;
+    Ok(Job {
         ticket: 0,
-        path: Path::root(alloc),
+        path,
         trans: 0,
-        image: Image {
-            parts: Items::new(alloc),
-            links: Items::new(alloc),
-        },
+        image,
         head: None,
         budget,
-    }
+    })
 }

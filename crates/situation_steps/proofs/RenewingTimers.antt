@@ -3,9 +3,9 @@ use Rattle.std.proofs.Common.{◌≡◌, ◌⊎◌, ℕ, zero, suc, ◌+◌, ◌
 use Rattle.std.specs.Prelude.{◌||◌, fold, flat_map}
 use Rattle.std.specs.List.{list_any, range_with_len, IsDistinct, AllByRecursion}
 use Rattle.std.specs.FinMap as map
-use Rattle.std.specs.FinMap.{find, is_sorted}
+use Rattle.std.specs.FinMap.{is_sorted}
 use Rattle.std.specs.Cmp.{eq_by_cmp_equiv}
-use Rattle.std.specs.Ordering.{eq_by_cmp, is_lt}
+use Rattle.std.specs.Ordering.{eq_by_cmp}
 use Rattle.std.proofs.lemmas.Bool.{cases_lt}
 use Rattle.std.proofs.lemmas.Option.{slice_get_within}
 use Rattle.estelle_tree.specs.declared.transition.Pair.{Pair}
@@ -22,11 +22,11 @@ use Rattle.estelle_model.specs.Situation.{Situation}
 use Rattle.estelle_model.specs.Firing.{transition_at, guard}
 use Rattle.estelle_model.specs.Delays.{is_delayed, has_delay, delayed_of, delayed_in, wanted_by, wanted}
 use Rattle.estelle_model.proofs.Pairs.{pairs_total, pairs_apart}
-use Rattle.estelle_model.proofs.Maps.{left_of, right_of, not_equal, equal_of}
+use Rattle.estelle_model.proofs.Maps.{left_of, right_of, equal_of}
 use Rattle.estelle_model.proofs.PrivateParts.{get_inside}
 use Rattle.estelle_model_legality.proofs.Lists.{not_both, not_true}
-use Rattle.estelle_model_legality.proofs.Lookups.{same_is, same_itself}
-use Rattle.estelle_model_legality.proofs.Members.{Has, has_append, has_filter, filter_has, has_any, any_has}
+use Rattle.estelle_model_legality.proofs.Entries.{below_has, entry_found, found_entry}
+use Rattle.estelle_model_legality.proofs.Members.{Has, has_each, each_has, has_append, has_filter, filter_has, has_any, any_has}
 
 -- ---- what is in a list
 
@@ -51,16 +51,6 @@ flat_has f (x ∷ xs) y h = elim (has_append (f x) (flat_map f xs) y h) [
   | inr k ↦ let r = flat_has f xs y k in (r.0, inr r.1, r.2)
 ]
 
-pub has_each : {A B : Type 0} (f : A → B) (xs : List A) (x : A) → Has xs x → Has (each f xs) (f x)
-has_each f [] x h = absurd h
-has_each f (z ∷ xs) x (inl e) = inl (ap f e)
-has_each f (z ∷ xs) x (inr h) = inr (has_each f xs x h)
-
-pub each_has : {A B : Type 0} (f : A → B) (xs : List A) (y : B) → Has (each f xs) y → (x : A) × (Has xs x) × (f x ≡ y)
-each_has f [] y h = absurd h
-each_has f (x ∷ xs) y (inl e) = (x, inl refl, e)
-each_has f (x ∷ xs) y (inr h) = let r = each_has f xs y h in (r.0, inr r.1, r.2)
-
 pub range_has : (len a n : ℕ) → a ≤ n → n < a + len → Has (range_with_len a len) n
 range_has zero a n low high = absurd (omega arith)
 range_has (suc len) a n low high = by (cases_lt a n) (λ less. range_has len (a + 1) n (omega arith) (omega arith))
@@ -73,31 +63,6 @@ has_range : (len a n : ℕ) → Has (range_with_len a len) n → a ≤ n
 has_range zero a n h = absurd h
 has_range (suc len) a n (inl e) = omega arith
 has_range (suc len) a n (inr h) = let more = has_range len (a + 1) n h in omega arith
-
--- ---- entries
-
-not_below : (p q : Path) → T (is_lt (path_cmp p q)) → p ≡ q → ⊥
-not_below p q less e = not_both (eq_by_cmp path_cmp p q) (ap (λ (r : Path). eq_by_cmp path_cmp p r) (sym e) ∙ same_itself p) (not_equal (path_cmp p q) less)
-
-below_has : (p : Path) (es : List (Path × Instance)) → T (map.Entries.below_all path_cmp p es) → (e : Path × Instance) → Has es e → p ≡ e.0 → ⊥
-below_has p [] h e has is = has
-below_has p (x ∷ es) h e (inl same) is = not_below p x.0 (left_of (is_lt (path_cmp p x.0)) _ h) (is ∙ ap (λ (y : Path × Instance). y.0) (sym same))
-below_has p (x ∷ es) h e (inr has) is = below_has p es (right_of (is_lt (path_cmp p x.0)) _ h) e has is
-
-entry_found : (es : List (Path × Instance)) → T (is_sorted path_cmp es) → (e : Path × Instance) → Has es e → find path_cmp e.0 es ≡ Some e.1
-entry_found [] h e has = absurd has
-entry_found (x ∷ es) h e (inl same) = ap (λ (b : Bool). cond b (Some x.1) (find path_cmp e.0 es)) (ap (λ (y : Path × Instance). eq_by_cmp path_cmp e.0 y.0) same ∙ same_itself e.0) ∙ ap (λ (y : Path × Instance). Some y.1) same
-entry_found (x ∷ es) h e (inr has) =
-    let apart : eq_by_cmp path_cmp e.0 x.0 ≡ false = not_true (eq_by_cmp path_cmp e.0 x.0) (λ t. below_has x.0 es (left_of (map.Entries.below_all path_cmp x.0 es) _ h) e has (sym (same_is e.0 x.0 t))) in
-    ap (λ (b : Bool). cond b (Some x.1) (find path_cmp e.0 es)) apart ∙ entry_found es (right_of (map.Entries.below_all path_cmp x.0 es) _ h) e has
-
-found_entry : (es : List (Path × Instance)) (q : Path) (i : Instance) → find path_cmp q es ≡ Some i → Has es (q, i)
-found_entry [] q i h = absurd (cc)
-found_entry (x ∷ es) q i h = by (found_entry es q i) (eq_by_cmp path_cmp q x.0) refl h
-  where
-    by : (find path_cmp q es ≡ Some i → Has es (q, i)) → (b : Bool) → eq_by_cmp path_cmp q x.0 ≡ b → cond b (Some x.1) (find path_cmp q es) ≡ Some i → Has (x ∷ es) (q, i)
-    by more true e is = let same : x.1 ≡ i = cc in inl (λ j. (sym (same_is q x.0 e) j, same j))
-    by more false e is = inr (more is)
 
 -- ---- pairs
 

@@ -28,7 +28,7 @@ use Rattle.situation_steps.specs.declared.systems.System.{System}
 use Rattle.situation_steps.specs.declared.systems.Time.{Time}
 use Rattle.situation_steps.specs.Systems.{systems_of, is_awaiting, count_inside, IsKept, is_due, IsFirstDueAt}
 use Rattle.situation_steps.specs.UnderWay.{IsUnderWay}
-use Rattle.situation_steps.proofs.RenewingTimers.{has_each, each_has}
+use Rattle.estelle_model_legality.proofs.Members.{has_each, each_has}
 
 -- ---- lists
 

@@ -1,23 +1,15 @@
 //! The units that firings and guards have, and runs by another chooser.
 
-ghost use Rattle.std.specs.Prelude.{ℕ, ◌-◌, IfSome};
-ghost use Rattle.estelle_tree.specs.Lexed.{FollowOneAnother};
-ghost use Rattle.estelle_tree.specs.Spells.{Spells};
-ghost use Rattle.estelle_model_legality.specs.Instances.{LeadsToStates};
-ghost use Rattle.estelle_model.specs.Subject.{subject};
+ghost use Rattle.std.specs.Prelude.{ℕ, ◌-◌};
 
-use accepted_states::accepted_lead_to_states;
-use estelle_lexer::Tokens;
 use estelle_model::{End, Event, Run};
-use estelle_parser::parse;
-use estelle_tree::{Sequence, Spec};
+use estelle_tree::Sequence;
 use outside::{Chooser, FirstChooser, VirtualClock};
 use pascal_values::Fault;
 use situation::{Limits, execute};
-use spec_accept::{Checked, accept};
 use std::alloc::Global;
 use std::test::Fail;
-use test_texts::{WORKED, counter_with, tokens_of};
+use test_texts::{WORKED, accepted, counter_with};
 use trace_text::write;
 
 /// A function that is true and takes so many units and one more.
@@ -97,28 +89,6 @@ const BUDGETS: [(&str, &str, &str, usize, End); 11] = [
     ),
 ];
 
-fn accepted_of(alloc: Global, found: &Tokens, spec: Spec) -> Option<Checked>
-    requires spelled { Spells spec found.now.items }
-    requires spans { FollowOneAnother 0 found.now.items found.now.rest }
-    ensures { IfSome result (λ checked. LeadsToStates (subject checked.spec checked.names)) }
-{
-    accepted_lead_to_states();
-    match accept(alloc, spec) {
-        Ok(checked) => Some(checked),
-        Err(_) => None,
-    }
-}
-
-pub(crate) fn accepted(alloc: Global, text: &[u8]) -> Option<Checked>
-    ensures { IfSome result (λ checked. LeadsToStates (subject checked.spec checked.names)) }
-{
-    let found = tokens_of(alloc, text)?;
-    match parse(alloc, &found) {
-        Ok(spec) => accepted_of(alloc, &found, spec),
-        Err(_) => None,
-    }
-}
-
 /// The chooser that picks the last candidate each time.
 #[derive(Clone, Copy)]
 pub(crate) struct LastChooser;
@@ -139,15 +109,7 @@ fn run_of<H: Chooser + Drop>(alloc: Global, text: &[u8], chooser: H) -> Option<(
         budget: 5,
     };
     let mut clock = VirtualClock { moment: 0 };
-    execute(
-        alloc,
-        &checked.spec,
-        &checked.names,
-        limits,
-        &mut clock,
-        chooser,
-    )
-    .ok()
+    execute(alloc, &checked, limits, &mut clock, chooser).ok()
 }
 
 fn firings(events: &[Event]) -> usize {

@@ -3,7 +3,7 @@
 ghost use Rattle.std.specs.Prelude.{◌≡◌, ◌+◌, ◌∷◌, [], ℕ, ◌-◌, IfOk, IfSome, true};
 ghost use Rattle.module_tree.specs.Trees.{births_at};
 
-use crate::firings::{LastChooser, accepted};
+use crate::firings::LastChooser;
 use body_walker::Program;
 use delay_timers::Timers;
 use effect_log::Shared;
@@ -19,6 +19,7 @@ use spec_accept::Checked;
 use std::alloc::{AllocError, Global};
 use std::process::Abort;
 use std::test::Fail;
+use test_texts::accepted;
 
 /// Bodies 1 to 5 for its children: one that does nothing, one of several priorities, one that waits, and two whose guards
 /// fault.

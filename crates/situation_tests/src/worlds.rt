@@ -1,10 +1,7 @@
 //! Worlds of two cells: what their steps do, what they tell at their end, and the clock that they give back.
 
-ghost use Rattle.estelle_model_legality.specs.Instances.{LeadsToStates};
-ghost use Rattle.estelle_model.specs.Subject.{subject};
-
-use crate::firings::{accepted, is_trace};
-use body_walker::Program;
+use crate::firings::is_trace;
+use accepted_program::AcceptedProgram;
 use estelle_model::End;
 use outside::{FirstChooser, VirtualClock};
 use run_history::{History, count_fires, project};
@@ -12,7 +9,7 @@ use situation::{Limits, Stepped, World};
 use spec_accept::Checked;
 use std::alloc::{AllocError, Global};
 use std::process::Abort;
-use test_texts::WORKED;
+use test_texts::{WORKED, accepted};
 
 /// The clock that each world is given. No transition has a delay, so nobody asks it.
 const CLOCK: VirtualClock = VirtualClock { moment: 7 };
@@ -55,11 +52,9 @@ const ROWS: [Row; 3] = [
 
 fn begun<'a>(
     alloc: Global,
-    program: &'a Program<'a>,
+    program: &'a AcceptedProgram<'a>,
     turns: u32,
-) -> Option<World<'a, VirtualClock, FirstChooser>>
-    requires { LeadsToStates program.now }
-{
+) -> Option<World<'a, VirtualClock, FirstChooser>> {
     let limits = Limits { turns, budget: 100 };
     World::begin(alloc, program, limits, CLOCK, FirstChooser).ok()
 }
@@ -112,9 +107,7 @@ fn is_finished(
     clock == CLOCK && count_fires(&history) == fires && is_told(alloc, &history, end, trace)
 }
 
-fn is_run(alloc: Global, program: &Program, row: &Row) -> bool
-    requires { LeadsToStates program.now }
-{
+fn is_run(alloc: Global, program: &AcceptedProgram, row: &Row) -> bool {
     let (turns, steps, fires, trace) = row;
     match begun(alloc, program, *turns) {
         Some(mut world) => {
@@ -126,9 +119,7 @@ fn is_run(alloc: Global, program: &Program, row: &Row) -> bool
     }
 }
 
-fn is_given_up(alloc: Global, program: &Program) -> bool
-    requires { LeadsToStates program.now }
-{
+fn is_given_up(alloc: Global, program: &AcceptedProgram) -> bool {
     match begun(alloc, program, 10_000) {
         Some(mut world) => {
             goes(alloc, &mut world, &[Stepped::Selected]) && world.give_up() == CLOCK
@@ -137,19 +128,15 @@ fn is_given_up(alloc: Global, program: &Program) -> bool
     }
 }
 
-fn all_run(rt: &impl Abort, alloc: Global, program: &Program)
-    requires { LeadsToStates program.now }
-{
+fn all_run(rt: &impl Abort, alloc: Global, program: &AcceptedProgram) {
     for row in &ROWS {
         assert!(rt; is_run(alloc, program, row), "{} turns", row.0);
     }
     assert!(rt; is_given_up(alloc, program));
 }
 
-fn all_run_by(rt: &impl Abort, alloc: Global, checked: &Checked) -> Result<(), AllocError>
-    requires { LeadsToStates (subject checked.now.spec checked.now.names) }
-{
-    let program = Program::new(alloc, &checked.spec, &checked.names)?;
+fn all_run_by(rt: &impl Abort, alloc: Global, checked: &Checked) -> Result<(), AllocError> {
+    let program = AcceptedProgram::new(alloc, checked)?;
     all_run(rt, alloc, &program);
     Ok(())
 }

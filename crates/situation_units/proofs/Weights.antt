@@ -133,7 +133,7 @@ module _ (W : Situation → ℕ) (weighs : Weighs W) (subject : Subject) (meant 
   one_ip p _ f h t = tt
 
   output_one : (p x : Name) (values : List Value) (a : IpAddr) (t : Running Acting) → More W 1 (Unit {0}) t (output_at Acting on_situation subject meant p x values a t)
-  output_one p x values a t = one_needs (λ c. is_sent_at (point subject c.instances a) (meant x) && are_values_of (types_received (meant x)) values) (make Acting on_situation subject meant (effect.Output a p.word x.word values)) t
+  output_one p x values a t = one_needs (λ c. is_sent_at (point subject c.instances a) x.word (meant x) && are_values_of (types_received (meant x)) values) (make Acting on_situation subject meant (effect.Output a p.word x.word values)) t
       (omega (arith, weighs.output a p.word x.word values t.state.situation))
 
   made_one : (o : Option (Option Path)) (p : Path) (k : ℕ) (i : Instance) → i.births ≡ 0 → (t : Running Acting) → More W 1 (Unit {0}) t ((checked (empty_in o) >> make Acting on_situation subject meant (effect.Create p k i)) t)

@@ -1,7 +1,10 @@
 -- The static rules of a specification.
-use Rattle.std.specs.Prelude.{◌⊎◌, Option, Some, None, Result, Ok, Err}
+use Rattle.std.specs.Prelude.{ℕ, List, ◌⊎◌, Option, Some, None, Result, Ok, Err}
 use Rattle.estelle_tree.specs.declared.names.Names.{Names}
+use Rattle.estelle_tree.specs.declared.token.Placed.{Placed}
 use Rattle.estelle_tree.specs.declared.tree.specification.Spec.{Spec}
+use Rattle.estelle_tree.specs.Lexed.{FollowOneAnother}
+use Rattle.estelle_tree.specs.Spells.{Spells}
 use Rattle.scope_rules.specs.declared.refusal.Breach.{Breach}
 use Rattle.scope_rules.specs.declared.refusal.Refusal.{Refusal}
 use Rattle.scope_rules.specs.declared.refusal.Refusal.TheVariants.{Rule, Memory}
@@ -26,6 +29,13 @@ MeaningRuleBroken spec names b = ((AttributeRuleBroken spec names b ⊎ ChannelR
 -- a rule is broken; the rules from 10 on speak only of specifications whose names keep the rules 1 to 5
 abbrev pub RuleBroken : Spec → Breach → Type 0
 RuleBroken spec b = NameRuleBroken spec b ⊎ (KeepsNames spec × MeaningRuleBroken spec (names spec) b)
+
+-- a tree that was read: it spells, with its spans, tokens of which none is empty, one behind another
+pub record IsSpelled (spec : Spec) : Type 0 where
+  pub tokens : List Placed
+  pub rest : ℕ
+  pub spells : Spells spec tokens
+  pub follow : FollowOneAnother 0 tokens rest
 
 -- the breach that a refusal tells; want of memory tells none
 abbrev pub told : Result (Unit {0}) Refusal → Result (Option Breach) Refusal

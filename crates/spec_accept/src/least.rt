@@ -7,7 +7,6 @@ ghost use Rattle.spec_accept.specs.Rules as rules;
 
 use crate::checked::Checked;
 use estelle_tree::{Names, Spec};
-use flat_transitions::flat_list;
 use scope_names::resolve;
 use scope_rules::{Breach, Refusal, noted};
 use std::alloc::Global;
@@ -35,11 +34,11 @@ fn first_breach(alloc: Global, spec: &Spec, names: &Names) -> Result<Option<Brea
     Ok(noted(noted(noted(attributes, channels), transitions), types))
 }
 
-/// The specification with what its names mean and its flat transitions, where none of the rules is broken; else the
-/// least rule that is broken, with the first node in the text that breaks it. The specification is dropped then.
+/// The specification with what its names mean, where none of the rules is broken; else the least rule that is broken,
+/// with the first node in the text that breaks it. The specification is dropped then.
 pub fn accept(alloc: Global, spec: Spec) -> Result<Checked, Refusal>
-    // What an accepted one keeps is what its type says: no rule is broken, the names are the tree's, and so are the
-    // flat transitions.
+    requires spelled { rules.IsSpelled spec }
+    // What an accepted one keeps is what its type says: it was read, no rule is broken, and the names are the tree's.
     ensures accepted { IfOk result (λ found. found.spec ≡ spec) }
     ensures refused { IfErr result (Refuses (rules.RuleBroken spec)) }
 {
@@ -48,17 +47,11 @@ pub fn accept(alloc: Global, spec: Spec) -> Result<Checked, Refusal>
         Err(refusal) => return Err(refusal),
     };
     match first_breach(alloc, &spec, &names) {
-        Ok(None) => {}
-        Ok(Some(breach)) => {
-            return Err(Refusal::Rule {
-                number: breach.number,
-                span: breach.span,
-            });
-        }
-        Err(refusal) => return Err(refusal),
-    }
-    match flat_list(alloc, &spec, &names) {
-        Ok(flat) => Ok(Checked { spec, names, flat }),
-        Err(_) => Err(Refusal::Memory),
+        Ok(None) => Ok(Checked { spec, names }),
+        Ok(Some(breach)) => Err(Refusal::Rule {
+            number: breach.number,
+            span: breach.span,
+        }),
+        Err(refusal) => Err(refusal),
     }
 }

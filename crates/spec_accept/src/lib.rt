@@ -2,8 +2,7 @@
 //! clauses and numbers of transitions, and on types and routines.
 //!
 //! It stands on `scope_names`, `attribute_rules`, `channel_roles`, `transition_expand` and `pascal_check`, each of which reports
-//! the least of its own rules, on `scope_rules` for what a refusal is, and on `flat_list` for the flat transitions of what is
-//! accepted. `accept` reports the least of all.
+//! the least of its own rules, and on `scope_rules` for what a refusal is. `accept` reports the least of all.
 #![tactic(auto)]
 
 mod checked;

@@ -23,7 +23,10 @@ use Rattle.effect_log.specs.Rooms.{HasRoomFor, SeesTheSame, NotesTheSame}
 use Rattle.situation_images.specs.Putting.{MayBePut}
 use Rattle.situation_units.proofs.Weighing.{starts_are_within}
 use Rattle.trace_check.specs.declared.replay.Replay.{Replay}
-use Rattle.trace_check.specs.Going.{Holds, first_job}
+use Rattle.situation_units.specs.Counting.{births_at}
+use Rattle.situation_units.proofs.Bare.{no_births}
+use Rattle.trace_check.specs.Going.{Holds}
+use Rattle.estelle_model_legality.specs.Jobs.{start_job}
 use Rattle.trace_check.specs.Replays.{NoneNoted, IsKept, IsNext, HasGoneOn, IsFresh, IsOf, HasBegun, MayBegin, FailsFirst}
 use Rattle.trace_check.proofs.Replaying.{stands_same, noted_same}
 use Rattle.trace_check.proofs.Starting.{start_answers, start_is, start_fails, started_holds, started_made, no_start, no_first_selection, no_first_firing, first_told, first_faulted, no_first_select, no_first_fire, no_first_fault, start_told, first_is, start_goes}
@@ -53,6 +56,9 @@ module _ (r : Replay) (done : Done) (may : MayBegin r done) (is : IsRan done.out
   few_made : a.situation.made ≤ b
   few_made = let u = (starts_are_within s b _ _ _ _ (start_is s b done may.answers is)).made in omega (arith, u)
 
+  few_births : (p : Path) → births_at p a.situation ≤ b
+  few_births p = let u : births_at p a.situation ≤ births_at p (bare s) + b = (starts_are_within s b _ _ _ _ (start_is s b done may.answers is)).births p in omega (arith, u, no_births s p)
+
   pub may_put_first : MayBePut s r.shared r.notes done (bare s)
   may_put_first = record {
     ran = is;
@@ -78,7 +84,7 @@ module _ (r : Replay) (done : Done) (may : MayBegin r done) (is : IsRan done.out
           leads = may.leads;
           few = may.few;
           room = may.room;
-          going = start_goes s b done may.answers is r.events.now outs drops here may.leads same dropped few_made;
+          going = start_goes s b done may.answers is r.events.now outs drops here may.leads same dropped few_made few_births;
           holds = subst (λ (g : Situation). Holds s g x.shared r.timers r.pending.items r.moment) (sym (first_is s b done may.answers is r.events.now outs drops here)) holds;
           empty = empty;
         });
@@ -131,7 +137,7 @@ module _ (r : Replay) (fresh : IsFresh r) (own : fault.Fault) (fails : FailsFirs
 -- ---- before it
 
 pub may_begin : (s : Subject) (budget : ℕ) (events : List Event) (f k : Replay) (done : Done) → IsFresh f → IsOf s budget events f → LeadsToStates s → length events < 2 ^ 31 → budget * length events < 2 ^ 63 → (first : Event) → slice_get events 0 ≡ Some first
-    → Answers s (first_job budget) done → SeesTheSame f.shared k.shared → NotesTheSame f.notes k.notes → k ≡ record f { shared = k.shared; notes = k.notes } → HasRoomFor done.outcome k.shared k.notes → MayBegin k done
+    → Answers s (start_job s budget) done → SeesTheSame f.shared k.shared → NotesTheSame f.notes k.notes → k ≡ record f { shared = k.shared; notes = k.notes } → HasRoomFor done.outcome k.shared k.notes → MayBegin k done
 may_begin s budget events f k done fresh of leads few room first at answers same noted rest room_for =
     let some : 1 ≤ length events = slice_get_within events 0 first at in
     let events_are : events ≡ f.events.now = sym of.events_are in
@@ -151,7 +157,7 @@ may_begin s budget events f k done fresh of leads few room first at answers same
       few = subst (λ (es : List Event). length es < 2 ^ 31) events_are few;
       some = subst (λ (es : List Event). 1 ≤ length es) events_are some;
       room = subst (λ (x : ℕ × List Event). x.0 * length x.1 < 2 ^ 63) its room;
-      answers = subst (λ (x : Subject × ℕ). Answers x.0 (first_job x.1) done) own answers;
+      answers = subst (λ (x : Subject × ℕ). Answers x.0 (start_job x.0 x.1) done) own answers;
       room_for = room_for;
     })
 

@@ -11,7 +11,7 @@ use Rattle.estelle_model.specs.Schedule.{counted}
 use Rattle.estelle_model_legality.proofs.Members.{Has, contains_has, has_contained, has_filter, filter_has}
 use Rattle.estelle_model_legality.proofs.Children.{there_has, has_there}
 use Rattle.situation_steps.proofs.Listed.{all_at}
-use Rattle.situation_steps.proofs.RenewingTimers.{has_each, each_has}
+use Rattle.estelle_model_legality.proofs.Members.{has_each, each_has}
 use Rattle.transition_select.specs.declared.countings.Countable.{Countable}
 use Rattle.transition_select.specs.declared.countings.Counting.{Counting}
 use Rattle.transition_select.specs.Countings.{AreCountings, IsCounting}

@@ -27,6 +27,7 @@ use Rattle.effect_log.specs.Standing.{Stands}
 use Rattle.effect_log.specs.Putting.{IsRan, begun_by, after_put, firing_of, log_of}
 use Rattle.effect_log.specs.Rooms.{outputs_in}
 use Rattle.situation_steps.specs.UnderWay.{HasRoot}
+use Rattle.situation_units.specs.Counting.{births_at}
 use Rattle.situation_steps.proofs.Going.{IsRun-push, situation-push, last-push}
 use Rattle.estelle_model_apart.proofs.Rest.{SameRest, all_rest, taken_by_core, taken_by_rest}
 use Rattle.situation_steps.proofs.Roots.{body_at, has_root, root_body, root_stays}
@@ -54,8 +55,8 @@ module _ (s : Subject) (leads : LeadsToStates s) (budget : ℕ) (events : List E
     pub next_is : situation_at s budget events (suc n) ≡ next s budget g e
     next_is = ap (situation s budget) (take_more events n e at) ∙ situation-push s budget (take n events) e going.run
 
-    pub goes_on : IsNoFault (Some e) → HasRoot (next s budget g e) → (next s budget g e).made ≤ budget * n + budget → IsGoing s budget events (suc n)
-    goes_on sound root made =
+    pub goes_on : IsNoFault (Some e) → HasRoot (next s budget g e) → (next s budget g e).made ≤ budget * n + budget → ((p : Path) → births_at p (next s budget g e) ≤ budget * n + budget) → IsGoing s budget events (suc n)
+    goes_on sound root made births =
         let is : (situation_at s budget events (suc n)).made ≡ (next s budget g e).made = ap (λ (h : Situation). h.made) next_is in
         record {
           run = next_run;
@@ -63,6 +64,7 @@ module _ (s : Subject) (leads : LeadsToStates s) (budget : ℕ) (events : List E
           legal = subst (IsLegal s) (sym next_is) (events_keep s leads budget g going.legal e applies);
           root = subst HasRoot (sym next_is) root;
           made = omega (arith, is, made, mul-suc budget n);
+          births = λ p. let same : births_at p (situation_at s budget events (suc n)) ≡ births_at p (next s budget g e) = ap (births_at p) next_is in omega (arith, same, births p, mul-suc budget n);
         }
 
     pub faults : (kind : fault.Fault) → IsFault (Some e) kind → IsFaulted s budget events (suc n) kind

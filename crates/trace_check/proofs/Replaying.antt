@@ -21,7 +21,8 @@ use Rattle.estelle_model.specs.Situation.{Situation}
 use Rattle.estelle_model.specs.Jobs.{Answers}
 use Rattle.estelle_model.specs.Runs.{Applies, IsRun, MayFire, next, selected, situation_at}
 use Rattle.estelle_model.specs.Ends.{IsNoFault, IsFault, last_event}
-use Rattle.estelle_model_legality.specs.Jobs.{job_of}
+use Rattle.estelle_model_legality.specs.Jobs.{job_of, HasRoom}
+use Rattle.situation_units.specs.Counting.{births_of, births_at, IsWithinUnits}
 use Rattle.effect_log.specs.declared.shared.Shared.{Shared}
 use Rattle.effect_log.specs.declared.notes.Notes.{Notes}
 use Rattle.effect_log.specs.Standing.{Stands, AreQueuesOf}
@@ -162,10 +163,17 @@ selected_on r n system moment takes wants o at may pending_is timers_are rest =
     (subst (λ (x : Shared). Holds s (selected s b (now r) system moment takes) x n.timers n.pending.items moment) shared holds) in
     let made = o.going.made in
     let root = o.going.root in
-    let going = goes_on s o.leads b r.events.now r.count e at o.going may.may tt (root.0, root.1, root.2) (omega (arith, made)) in
+    let going = goes_on s o.leads b r.events.now r.count e at o.going may.may tt (root.0, root.1, root.2) (omega (arith, made)) (λ p. omega (arith, o.going.births p)) in
     open_then r o e at may.may n all tt going holds_then (subst NoneNoted notes o.empty)
 
 -- ---- firings
+
+-- more children can be born than a firing has units
+pub has_room : (r : Replay) → IsOpen r → r.count < length r.events.now → HasRoom r.budget (now r)
+has_room r o below p i there =
+    let is : births_at p (now r) ≡ i.births = ap births_of there in
+    let most : r.budget * suc r.count ≤ r.budget * length r.events.now = mul-le-mul_left r.budget (omega (arith, below)) in
+    omega (arith, is, o.going.births p, most, mul-suc r.budget r.count, o.room)
 
 module _ (r : Replay) (o : IsOpen r) (m : Path) (n : ℕ) (at : ℕ) (place : IsPlaceOf (pair m n) r.pending.items at) where
   abbrev h : Situation
@@ -183,8 +191,11 @@ module _ (r : Replay) (o : IsOpen r) (m : Path) (n : ℕ) (at : ℕ) (place : Is
     not_fired kind is outs drops = none_ran r.program.now r.budget h o.going.legal m n pending_there done answers kind is outs drops
 
     module _ (is : IsRan done.outcome) where
+      few : IsWithinUnits r.budget h (after_put r.program.now h done).situation
+      few = let w = firings_are_within r.program.now r.budget h m n _ _ _ _ (ran_is r.program.now r.budget h o.going.legal m n pending_there done answers is) in record { made = w.made; births = w.births }
+
       few_made : (after_put r.program.now h done).situation.made ≤ h.made + r.budget
-      few_made = (firings_are_within r.program.now r.budget h m n _ _ _ _ (ran_is r.program.now r.budget h o.going.legal m n pending_there done answers is)).made
+      few_made = few.made
 
       -- the count of outputs keeps below the greatest
       pub few_outputs : r.count < length r.events.now → (outputs : ℕ) → outputs ≡ h.made → outputs + outputs_in (log_of done.outcome) < 2 ^ 64
@@ -212,7 +223,7 @@ module _ (r : Replay) (o : IsOpen r) (m : Path) (n : ℕ) (at : ℕ) (place : Is
           subst (λ (g : Situation). Holds s g x.shared x.timers x.pending.items x.moment) (sym then) (subst (λ (t : ℕ). Holds s to x.shared x.timers x.pending.items t) moment_is holds) in
           let made_is : (next s b h e).made ≡ (after_put s h done).situation.made = ap (λ (g : Situation). g.made) then in
           let made : (next s b h e).made ≤ b * r.count + b = omega (arith, made_is, few_made, o.going.made) in
-          let going = goes_on s o.leads b r.events.now r.count e next_at o.going applies tt (subst HasRoot (sym then) (fired_root s b h o.going.legal m n pending_there done answers is o.going.root)) made in
+          let going = goes_on s o.leads b r.events.now r.count e next_at o.going applies tt (subst HasRoot (sym then) (fired_root s b h o.going.legal m n pending_there done answers is o.going.root)) made (λ p. let same : births_at p (next s b h e) ≡ births_at p (after_put s h done).situation = ap (births_at p) then in omega (arith, same, few.births p, o.going.births p)) in
           open_then r o e next_at applies x all tt going holds_then empty
 
 -- ---- faults

@@ -30,7 +30,9 @@ use Rattle.effect_log.specs.Rooms.{outputs_in}
 use Rattle.effect_log.proofs.Answered.{puts-are-firings}
 use Rattle.situation_steps.specs.UnderWay.{HasRoot}
 use Rattle.situation_steps.proofs.Roots.{has_root, bare_root}
-use Rattle.trace_check.specs.Going.{IsGoing, IsFaulted, Holds, first_job}
+use Rattle.situation_units.specs.Counting.{births_at}
+use Rattle.trace_check.specs.Going.{IsGoing, IsFaulted, Holds}
+use Rattle.estelle_model_legality.specs.Jobs.{start_job}
 use Rattle.trace_check.proofs.Prefixes.{take_more}
 use Rattle.trace_check.proofs.Computed.{ran_so, IsPutSo, put_so, made_is}
 use Rattle.trace_check.proofs.Nexts.{stands_later, timers_same, now_same, pending_same, root_same}
@@ -55,7 +57,7 @@ module _ (s : Subject) (budget : ℕ) (events : List Event) (e : Event) (at : sl
 
 -- ---- the initialization faults
 
-pub start_fails : (s : Subject) (budget : ℕ) (done : Done) → Answers s (first_job budget) done → (kind : fault.Fault) → done.outcome ≡ outcome.Faulted kind → start s budget ≡ Failed kind done.left
+pub start_fails : (s : Subject) (budget : ℕ) (done : Done) → Answers s (start_job s budget) done → (kind : fault.Fault) → done.outcome ≡ outcome.Faulted kind → start s budget ≡ Failed kind done.left
 start_fails s budget done answers kind is = subst (λ (o : Outcome). IsAnswer s [] 0 (bare s) o done.left (start s budget)) is answers.answers
 
 module _ (s : Subject) (budget : ℕ) (events : List Event) (own : fault.Fault) (left : ℕ) (fails : start s budget ≡ Failed own left) where
@@ -80,9 +82,9 @@ module _ (s : Subject) (budget : ℕ) (events : List Event) (own : fault.Fault) 
 
 -- ---- it runs
 
-module _ (s : Subject) (budget : ℕ) (done : Done) (answers : Answers s (first_job budget) done) (is : IsRan done.outcome) where
+module _ (s : Subject) (budget : ℕ) (done : Done) (answers : Answers s (start_job s budget) done) (is : IsRan done.outcome) where
   pub start_answers : AnswersIn s (bare s) done
-  start_answers = record { job = first_job budget; at = (refl, refl); answers = answers }
+  start_answers = record { job = start_job s budget; at = (refl, refl); answers = answers }
 
   abbrev a : Acting
   a = after_put s (bare s) done
@@ -134,8 +136,8 @@ module _ (s : Subject) (budget : ℕ) (done : Done) (answers : Answers s (first_
       pub first_is : situation_at s budget events 1 ≡ started_to
       first_is = situation_first s budget events (Start outs drops) at ∙ started_is
 
-      pub start_goes : LeadsToStates s → a.outs ≡ outs → a.drops ≡ drops → a.situation.made ≤ budget → IsGoing s budget events 1
-      start_goes leads same dropped few =
+      pub start_goes : LeadsToStates s → a.outs ≡ outs → a.drops ≡ drops → a.situation.made ≤ budget → ((p : Path) → births_at p a.situation ≤ budget) → IsGoing s budget events 1
+      start_goes leads same dropped few births =
           let made : (situation_at s budget events 1).made ≡ a.situation.made = ap (λ (h : Situation). h.made) first_is in
           let legal : IsLegal s (started s (start s budget)) = subst (λ (f : Firing). IsLegal s (started s f)) (sym start_is) (subst (IsStarted s) start_is (start_is_legal s leads budget)) in
           let root = root_same s (bare s) done firing its (has_root (bare s) (bare_root s)) in
@@ -146,4 +148,5 @@ module _ (s : Subject) (budget : ℕ) (done : Done) (answers : Answers s (first_
             legal = subst (IsLegal s) (sym (situation_first s budget events (Start outs drops) at)) legal;
             root = subst HasRoot (sym first_is) kept;
             made = omega (arith, made, few);
+            births = λ p. let same : births_at p (situation_at s budget events 1) ≡ births_at p a.situation = ap (births_at p) first_is in omega (arith, same, births p);
           }

@@ -1,12 +1,11 @@
 -- What is known of the first events of a trace, and of the situation after them.
-use Rattle.std.specs.Prelude.{◌≡◌, ◌≤◌, ◌*◌, ℕ, IsTrue, List, [], take, None}
+use Rattle.std.specs.Prelude.{◌≡◌, ◌≤◌, ◌*◌, ℕ, IsTrue, List, take}
 use Rattle.pascal_values.specs.declared.fault.Fault.{Fault}
 use Rattle.estelle_tree.specs.declared.transition.Pair.{Pair}
 use Rattle.estelle_tree.specs.declared.transition.Wanted.{Wanted}
 use Rattle.estelle_tree.specs.Paths.{Path, is_inside}
 use Rattle.estelle_tree.specs.Timers.{Timers}
 use Rattle.estelle_model.specs.declared.event.Event.{Event}
-use Rattle.estelle_model.specs.declared.job.Job.{Job}
 use Rattle.estelle_model.specs.declared.job.Guard.TheVariants.{Off}
 use Rattle.estelle_model.specs.Subject.{Subject}
 use Rattle.estelle_model.specs.Situation.{Situation}
@@ -20,16 +19,18 @@ use Rattle.delay_timers.specs.Moments.{AreDifferent}
 use Rattle.effect_log.specs.declared.shared.Shared.{Shared}
 use Rattle.effect_log.specs.Standing.{Stands}
 use Rattle.situation_steps.specs.UnderWay.{HasRoot}
+use Rattle.situation_units.specs.Counting.{births_at}
 
 -- ---- the events so far
 
--- the first n events are those of a run that no fault ended, in which no more outputs were made than there were units
+-- the first n events are those of a run that no fault ended, in which no more outputs were made, and no more children of an instance, than there were units
 pub record IsGoing (s : Subject) (budget : ℕ) (events : List Event) (n : ℕ) : Type 0 where
   pub run : IsRun s budget (take n events)
   pub goes_on : IsNoFault (last_event (take n events))
   pub legal : IsLegal s (situation_at s budget events n)
   pub root : HasRoot (situation_at s budget events n)
   pub made : (situation_at s budget events n).made ≤ budget * n
+  pub births : (p : Path) → births_at p (situation_at s budget events n) ≤ budget * n
 
 -- the first n events are those of a run that this fault ended
 pub record IsFaulted (s : Subject) (budget : ℕ) (events : List Event) (n : ℕ) (kind : Fault) : Type 0 where
@@ -60,7 +61,3 @@ pub record IsFaultOf (s : Subject) (budget : ℕ) (g : Situation) (system m : Pa
 -- no transition at or below a system is enabled, and none faults
 abbrev pub AreOff : Subject → ℕ → Situation → Path → Type 0
 AreOff s budget g system = (m : Path) (n : ℕ) → IsTrue (is_inside system m) → guard s budget g m n ≡ Off
-
--- the job of the initialization
-abbrev pub first_job : ℕ → Job
-first_job budget = record { ticket = 0; path = []; trans = 0; image = record { parts = []; links = [] }; head = None; budget = budget }

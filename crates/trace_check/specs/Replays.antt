@@ -12,12 +12,12 @@ use Rattle.estelle_model.specs.Firing.{Failed, bare, start}
 use Rattle.estelle_model.specs.Jobs.{Answers}
 use Rattle.estelle_model.specs.Runs.{IsRun, situation_at}
 use Rattle.estelle_model_legality.specs.Instances.{LeadsToStates}
-use Rattle.estelle_model_legality.specs.Jobs.{job_of}
+use Rattle.estelle_model_legality.specs.Jobs.{job_of, start_job, IsJob}
 use Rattle.effect_log.specs.declared.notes.Notes.{Notes}
 use Rattle.effect_log.specs.Standing.{Stands}
 use Rattle.effect_log.specs.Rooms.{HasRoomFor}
 use Rattle.trace_check.specs.declared.replay.Replay.{Replay}
-use Rattle.trace_check.specs.Going.{IsGoing, IsFaulted, Holds, first_job}
+use Rattle.trace_check.specs.Going.{IsGoing, IsFaulted, Holds}
 
 -- ---- what is kept
 
@@ -68,9 +68,10 @@ HasJudged old new false = IsRun old.program.now old.budget (take (suc old.count)
 
 -- ---- what the functions tell each other
 
--- it is what was computed of the pending firing with this number
+-- it is what was computed of the pending firing with this number, whose job meets the condition of a job
 abbrev pub IsComputedAt : ℕ → Replay → Done → Type 0
-IsComputedAt at r done = (p : Pair) → slice_get r.pending.items at ≡ Some p → Answers r.program.now (job_of r.program.now (now r) 0 r.budget p) done
+IsComputedAt at r done = (p : Pair) → slice_get r.pending.items at ≡ Some p
+    → Answers r.program.now (job_of r.program.now (now r) 0 r.budget p) done × IsJob r.program.now (job_of r.program.now (now r) 0 r.budget p)
 
 -- the fault, if it is one
 abbrev pub failure_of : Outcome → Option fault.Fault
@@ -102,7 +103,7 @@ pub record MayBegin (r : Replay) (done : Done) : Type 0 where
   pub few : length r.events.now < 2 ^ 31
   pub some : 1 ≤ length r.events.now
   pub room : r.budget * length r.events.now < 2 ^ 63
-  pub answers : Answers r.program.now (first_job r.budget) done
+  pub answers : Answers r.program.now (start_job r.program.now r.budget) done
   pub room_for : HasRoomFor done.outcome r.shared r.notes
 
 -- the initialization comes to this fault

@@ -124,7 +124,8 @@ pub(crate) fn begin<'a>(
     ensures { IfOk result (λ begun. MatchOption begun (IsRun program.now budget (take 1 events.now) → ⊥) (HasBegun program.now budget events.now)) }
 {
     let mut replay = fresh(alloc, program, budget, events)?;
-    let done = fire_plain(alloc, program, start_job(alloc, budget))?;
+    let job = start_job(alloc, program, budget)?;
+    let done = fire_plain(alloc, program, job)?;
     replay.reserve(alloc, &done)?;
     if replay.judge_first(done, first) {
         Ok(Some(replay))

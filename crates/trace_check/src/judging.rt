@@ -12,7 +12,7 @@ ghost use Rattle.trace_check.specs.Replays.{HasBegun};
 use crate::begin::begin;
 use crate::error::JudgeError;
 use crate::replay::Replay;
-use body_walker_program::Program;
+use accepted_program::AcceptedProgram;
 use estelle_model::{End, Run};
 use estelle_model_fates::{first_in_is_first_out, outputs_have_one_fate};
 use std::alloc::Global;
@@ -22,9 +22,10 @@ fn judge_rest(alloc: Global, mut replay: Replay, count: usize, end: End) -> Resu
     requires few { count < 2 ^ 31 }
     requires all { count ≡ length replay.events.now }
     requires begun { HasBegun replay.program.now replay.budget replay.events.now replay }
+    requires leads { LeadsToStates replay.program.now }
     ensures run { IfOk result (λ _. IsRunTo replay.entry.program.now replay.entry.budget replay.entry.events.now end) }
     ensures fates { IfOk result (λ _. HaveOneFate replay.entry.program.now replay.entry.budget replay.entry.events.now) }
-    ensures order { IfOk result (λ _. LeadsToStates replay.entry.program.now → AreFirstInFirstOut replay.entry.program.now replay.entry.budget replay.entry.events.now) }
+    ensures order { IfOk result (λ _. AreFirstInFirstOut replay.entry.program.now replay.entry.budget replay.entry.events.now) }
     ensures refused { IfErr result (IsRefused replay.entry.program.now replay.entry.budget replay.entry.events.now end) }
 {
     outputs_have_one_fate();
@@ -50,23 +51,22 @@ fn judge_rest(alloc: Global, mut replay: Replay, count: usize, end: End) -> Resu
 /// apply. Of those that are, each output has exactly one fate, and interactions of one queue that were never moved leave it in order.
 pub fn judge(
     alloc: Global,
-    program: &Program,
+    program: &AcceptedProgram,
     budget: u32,
     run: &Run,
     end: End,
 ) -> Result<(), JudgeError>
-    requires leads { LeadsToStates program.now }
     requires counted { length run.now.events < 2 ^ 31 }
     ensures run { IfOk result (λ _. IsRunTo program.now budget run.now.events end) }
     ensures fates { IfOk result (λ _. HaveOneFate program.now budget run.now.events) }
-    ensures order { IfOk result (λ _. LeadsToStates program.now → AreFirstInFirstOut program.now budget run.now.events) }
+    ensures order { IfOk result (λ _. AreFirstInFirstOut program.now budget run.now.events) }
     ensures refused { IfErr result (IsRefused program.now budget run.now.events end) }
 {
     let events = run.events.as_slice();
     let Some(first) = events.first() else {
         return Err(JudgeError::NotARun { entry: 1 });
     };
-    let begun = begin(alloc, program, budget, events, first)?;
+    let begun = begin(alloc, program.program(), budget, events, first)?;
     match begun {
         None => Err(JudgeError::NotARun { entry: 1 }),
         Some(replay) => judge_rest(alloc, replay, events.len(), end),

@@ -163,6 +163,7 @@ impl Replay<'_> {
     /// Computes a pending firing.
     fn compute(&self, alloc: Global, at: usize) -> Result<Done, AllocError>
         requires open { IsOpen self.now }
+        requires below { self.now.count < length self.now.events.now }
         requires there { at < length self.now.pending.items }
         ensures { IfOk result (IsComputedAt at self.now) }
     {
@@ -278,6 +279,7 @@ impl Replay<'_> {
         kind: Fault,
     ) -> Result<bool, AllocError>
         requires open { IsOpen self.now }
+        requires below { self.now.count < length self.now.events.now }
         requires place { IsPlaceOf (pair path.now trans) self.now.pending.items at }
         ensures { IfOk result (λ faults. IsTrue faults ↔ (FiringFaults self.now.program.now self.now.budget (now self.now) path.now trans kind)) }
     {
@@ -354,7 +356,8 @@ impl Replay<'_> {
         trans: u32,
         kind: Fault,
     ) -> Result<bool, AllocError>
-        requires { IsOpen self.now }
+        requires open { IsOpen self.now }
+        requires below { self.now.count < length self.now.events.now }
         ensures { IfOk result (λ faults. IsTrue faults ↔ (FiringFaults self.now.program.now self.now.budget (now self.now) path.now trans kind ⊎ GuardFaults self.now.program.now self.now.budget (now self.now) path.now trans kind)) }
     {
         match pending::place(&self.pending, path, trans) {

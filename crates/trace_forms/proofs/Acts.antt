@@ -4,6 +4,7 @@ use Rattle.std.proofs.lemmas.Bool.{ltb-true}
 use Rattle.std.specs.Prelude.{slice_get, slice_index_or, if◌then◌else◌, nat_lt, is_none, not, filter}
 use Rattle.std.specs.List.{AllByRecursion}
 use Rattle.std.specs.FinMap as fin
+use Rattle.std.specs.Str.{bytes_eq}
 use Rattle.pascal_values.specs.declared.fault.Fault.{Fault}
 use Rattle.pascal_values.specs.declared.fault.Fault.TheVariants as fault
 use Rattle.pascal_values.specs.declared.value.Value.{Value}
@@ -356,14 +357,14 @@ module _ (n : ℕ) where
           by true is = h is
           by false is = tt
 
-      there_at : (o : Option Instance) (k : ℕ) (x : Meaning) → is_sent_at (point_of subject o k) x ≡ true → (i : Instance) × (o ≡ Some i)
-      there_at (Some i) k x e = (i, refl)
-      there_at None k (Interaction kind) e = absurd (let wrong : false ≡ true = e in cc)
-      there_at None k x e = absurd (let wrong : false ≡ true = e in cc)
+      there_at : (o : Option Instance) (k : ℕ) (word : List ℕ) (x : Meaning) → is_sent_at (point_of subject o k) word x ≡ true → (i : Instance) × (o ≡ Some i)
+      there_at (Some i) k word x e = (i, refl)
+      there_at None k word (Interaction kind) e = absurd (let wrong : false ≡ true = (and_both (bytes_eq kind.word word) false e).1 in cc)
+      there_at None k word x e = absurd (let wrong : false ≡ true = e in cc)
 
       output_at_sound : (p x : Name) → (is_name p.word && is_name x.word) ≡ true → (values : List Value) → AllRise values → (a : IpAddr) → N (output_at Acting on_situation subject meant p x values a)
       unfolding outs_after instances_after mail_after
-      output_at_sound p x names values rise a t h = one_needs (Unit {0}) Any (λ c. is_sent_at (point subject c.instances a) (meant x) && are_values_of (types_received (meant x)) values) (make Acting on_situation subject meant (effect.Output a p.word x.word values)) t made
+      output_at_sound p x names values rise a t h = one_needs (Unit {0}) Any (λ c. is_sent_at (point subject c.instances a) x.word (meant x) && are_values_of (types_received (meant x)) values) (make Acting on_situation subject meant (effect.Output a p.word x.word values)) t made
         where
           out : Out
           out = record { path = a.path; ip = p.word; name = x.word; values = values; lost = is_none (route t.state.situation.core.links a) }
@@ -374,10 +375,10 @@ module _ (n : ℕ) where
           same : instances_after (effect.Output a p.word x.word values) t.state.situation.core.instances ≡ t.state.situation.core.instances
           same = refl
 
-          made : (is_sent_at (point subject t.state.situation.core.instances a) (meant x) && are_values_of (types_received (meant x)) values) ≡ true → Comes Acting I {A = Unit {0}} Any (make Acting on_situation subject meant (effect.Output a p.word x.word values) t)
+          made : (is_sent_at (point subject t.state.situation.core.instances a) x.word (meant x) && are_values_of (types_received (meant x)) values) ≡ true → Comes Acting I {A = Unit {0}} Any (make Acting on_situation subject meant (effect.Output a p.word x.word values) t)
           made e =
-              let b = and_both (is_sent_at (point subject t.state.situation.core.instances a) (meant x)) _ e in
-              let i = there_at (fin.get t.state.situation.core.instances a.path) a.ip (meant x) b.0 in
+              let b = and_both (is_sent_at (point subject t.state.situation.core.instances a) x.word (meant x)) _ e in
+              let i = there_at (fin.get t.state.situation.core.instances a.path) a.ip x.word (meant x) b.0 in
               let w = and_both (is_name p.word) (is_name x.word) names in (
                 tt,
                 record {

@@ -1,5 +1,5 @@
 -- The constants that types and variables declare: they are known behind the declarations that a run makes of them.
-use Rattle.std.proofs.Common.{◌≡◌, ◌∙◌, ℕ, zero, suc, List, [], ◌∷◌, ◌++◌, map, None, refl, sym, subst, append-nil, inl, inr, drop}
+use Rattle.std.proofs.Common.{◌≡◌, ◌∙◌, ℕ, zero, suc, List, [], ◌∷◌, ◌++◌, map, refl, sym, subst, append-nil, inl, inr, drop}
 use Rattle.std.specs.Prelude.{flat_map}
 use Rattle.std.specs.List.{AllByRecursion}
 use Rattle.std.proofs.lemmas.List.Folds.{flat_map-map}
@@ -24,6 +24,7 @@ use Rattle.estelle_tree.specs.Declarations.{AreVars}
 use Rattle.scope_rules.specs.declared.declaration.Denotes.{Denotes}
 use Rattle.scope_rules.specs.declared.declaration.Denotes.TheVariants as d
 use Rattle.scope_rules.specs.declared.declaration.Inside.{Inside}
+use Rattle.scope_rules.specs.declared.declaration.Members.TheVariants as members
 use Rattle.scope_rules.specs.declared.event.Event.TheVariants.{Open, Keep, Declare}
 use Rattle.scope_rules.specs.declared.event.ScopeForm.TheVariants as scope
 use Rattle.scope_rules.specs.TypeEvents as naming
@@ -52,7 +53,7 @@ use Rattle.trace_forms.proofs.Sight.{Text, text_later, Within, Brings, AllBring,
 
 -- names that are neither constants nor types
 module _ (K : Known) (kind : Denotes) (no_constant : kind ≡ d.Constant → ⊥) (no_type : kind ≡ d.Type → ⊥) where
-  pub others_known : (xs : List Name) → AllByRecursion (λ (x : Name). NameKnown K x.word (declaration x kind None)) xs
+  pub others_known : (xs : List Name) → AllByRecursion (λ (x : Name). NameKnown K x.word (declaration x kind members.Nothing)) xs
   others_known [] = tt
   others_known (x ∷ xs) = ((λ e. absurd (no_constant e), λ e. absurd (no_type e)), others_known xs)
 
@@ -152,7 +153,7 @@ module _ (names : List Used) (env : Env) where
       }
 
   -- they are constants that are known
-  values_known : (K : Known) (xs : List Name) → AllByRecursion (λ (x : Name). IsOne (d.Constant, x.span.start) K) xs → Each Ends xs → AllByRecursion (λ (x : Name). NameKnown K x.word (declaration x d.Constant None)) xs
+  values_known : (K : Known) (xs : List Name) → AllByRecursion (λ (x : Name). IsOne (d.Constant, x.span.start) K) xs → Each Ends xs → AllByRecursion (λ (x : Name). NameKnown K x.word (declaration x d.Constant members.Nothing)) xs
   values_known K [] o e = tt
   values_known K (x ∷ xs) o e = ((λ is. (λ g. o.0, λ g. absurd (let f = sym g ∙ e.0 in cc)), λ is. absurd (cc)), values_known K xs o.1 e.1)
 

@@ -353,7 +353,7 @@ module _ (env : Env) where
   parameters_shallow ps = all_flat (λ (s : Section). Denotes Shallow s.1) (λ (x : Params). map (λ (g : ParamGroup). of_named_type g.names.names g.type_name) x.groups) (λ x. groups_shallow x.groups) (option_to_list ps)
 
   inter_says : (channel : ℕ) (by : Senders) (x : Inter) → AllSay (inter_declares channel by x)
-  inter_says channel by x = all_append SaysTold (sections_declare local 0 (parameter_sections x.params)) (declare x.name (λ known. mean.Interaction (record { channel = channel; senders = by; parameters = section_types known (parameter_sections x.params) })) ∷ []) (sections_say local (λ known n t r. (tt, tt)) 0 (parameter_sections x.params)) (λ known k. ((tt, sections_are Shallow known k (parameter_sections x.params) (parameters_shallow x.params)), tt), tt)
+  inter_says channel by x = all_append SaysTold (sections_declare local 0 (parameter_sections x.params)) (declare x.name (λ known. mean.Interaction (record { channel = channel; word = x.name.word; senders = by; parameters = section_types known (parameter_sections x.params) })) ∷ []) (sections_say local (λ known n t r. (tt, tt)) 0 (parameter_sections x.params)) (λ known k. ((tt, sections_are Shallow known k (parameter_sections x.params) (parameters_shallow x.params)), tt), tt)
 
   pub channel_says : (c : ChannelTree) → AllSay (channel_declares c)
   channel_says c = (λ known k. ((tt, tt), tt), (λ known k. ((tt, tt), tt), (λ known k. ((tt, tt), tt), all_flat SaysTold (group_declares c) (λ g. all_flat SaysTold (inter_declares c.name.span.start (senders c g)) (inter_says c.name.span.start (senders c g)) g.inters) c.groups)))

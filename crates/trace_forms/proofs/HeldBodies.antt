@@ -1,5 +1,5 @@
 -- The bodies of a specification, one in another: what the declarations of a run need is known before them.
-use Rattle.std.proofs.Common.{◌≡◌, ◌∙◌, ℕ, zero, suc, ◌+◌, ◌<◌, ◌≤◌, Bool, true, false, nat_eq, List, [], ◌∷◌, ◌++◌, map, length, Option, Some, None, refl, ap, sym, subst, arith, append-nil}
+use Rattle.std.proofs.Common.{◌≡◌, ◌∙◌, ℕ, zero, suc, ◌+◌, ◌≤◌, Bool, nat_eq, List, [], ◌∷◌, ◌++◌, map, length, Option, Some, None, refl, ap, sym, subst, arith, append-nil}
 use Rattle.std.specs.Prelude.{◌^◌, flat_map, option_to_list}
 use Rattle.std.specs.List.{AllByRecursion}
 use Rattle.std.proofs.lemmas.List.Folds.{flat_map-map}
@@ -20,7 +20,7 @@ use Rattle.estelle_tree.specs.declared.tree.specification.Parts.{Parts, out-Part
 use Rattle.estelle_tree.specs.declared.tree.specification.Decl.{Decl, out-Decl, map-Decl}
 use Rattle.estelle_tree.specs.declared.tree.specification.Decl.TheOpen.{Decl-F}
 use Rattle.estelle_tree.specs.declared.tree.specification.Spec.{Spec}
-use Rattle.estelle_tree.specs.Input.{Input, input, next, after_first}
+use Rattle.estelle_tree.specs.Input.{Input, input}
 use Rattle.estelle_tree.specs.Required.{identifiers}
 use Rattle.estelle_tree.specs.Spans.{DeclLayer}
 use Rattle.estelle_tree.specs.Spelling.{Chain}
@@ -30,17 +30,19 @@ use Rattle.estelle_tree.specs.Lexed.{FollowOneAnother}
 use Rattle.estelle_tree.specs.Spells.{Spells, max_nesting}
 use Rattle.scope_rules.specs.declared.declaration.Denotes.TheVariants as d
 use Rattle.scope_rules.specs.declared.declaration.Need.TheVariants as need
-use Rattle.scope_rules.specs.declared.declaration.Inside.TheVariants.{Nothing, Named}
+use Rattle.scope_rules.specs.declared.declaration.Inside.TheVariants.{Nothing, At}
+use Rattle.scope_rules.specs.declared.declaration.Members.TheVariants as members
 use Rattle.scope_rules.specs.declared.event.ScopeForm.TheVariants as scope
 use Rattle.scope_rules.specs.declared.event.Event.{Event}
-use Rattle.scope_rules.specs.declared.event.Event.TheVariants.{Open, Close, Import, Declare}
+use Rattle.scope_rules.specs.declared.event.Event.TheVariants.{Open, Close, Import, Declare, Use}
 use Rattle.scope_rules.specs.declared.refusal.Breach.{Breach}
 use Rattle.scope_rules.specs.TypeEvents.{Events, typed_names}
 use Rattle.scope_rules.specs.ExpressionEvents.{optional}
 use Rattle.scope_rules.specs.DeclarationEvents as defining
 use Rattle.scope_rules.specs.DeclarationEvents.{routine_kind}
 use Rattle.scope_rules.specs.SpecificationEvents.{Declaring, Saying, ip_decl, modvar_decl, stateset_def, init, trans, states_of, decl_layer, decl, body, parts, events, denotes_required, required_event, required_events}
-use Rattle.scope_rules.specs.Scopes.{Scopes, Level, start, after, after_one}
+use Rattle.scope_rules.specs.Visible.{Scopes, Level}
+use Rattle.scope_rules.specs.Scopes.{start, after, after_one}
 use Rattle.scope_rules.specs.NameRules.{IsOne, NameRuleBroken, names_of}
 use Rattle.scope_names_events.proofs.SpecificationEquations.{decl_is, body_is, parts_is}
 use Rattle.type_rules.specs.Meanings.{Env}
@@ -60,12 +62,11 @@ use Rattle.body_table.proofs.BodyEquations as equations
 use Rattle.body_table.proofs.BodyEquations.{bodies-append}
 use Rattle.accepted_states.proofs.Lists.{Each, each_front, each_back}
 use Rattle.accepted_states.proofs.Uses.{Say, say_front, say_back, after-append, all_say}
-use Rattle.accepted_states.proofs.Scopes.{Stands, steady_next, plain_declare, plain_import, opened}
-use Rattle.accepted_states.proofs.Fine.{among, Less, less_same, less_more, less_takes, name_less}
-use Rattle.accepted_states.proofs.FineSpecification.{may_be_sys_attr_less}
+use Rattle.accepted_states.proofs.Scopes.{Stands, steady_next, plain_use, plain_declare, plain_import, opened}
+use Rattle.accepted_states.proofs.Fine.{Less, less_same, less_more, less_takes, name_less}
 use Rattle.accepted_states.proofs.Fit.{starts}
 use Rattle.accepted_states.proofs.Bodies.{nowhere, all_one, stands_more, decl_known, routines_fine, below_known}
-use Rattle.accepted_states.proofs.Leads.{reach, once, none_nowhere, heads_less, parts_less, required_stand, outermost, events_are, uses_apart}
+use Rattle.accepted_states.proofs.Leads.{once, none_nowhere, parts_less, required_stand, outermost, events_are, uses_apart}
 use Rattle.trace_forms.proofs.Lists.{all_append, all_front, all_back, all_flat}
 use Rattle.trace_forms.proofs.InSight.{KeepsAway}
 use Rattle.trace_forms.proofs.Keeps.{AllKeep}
@@ -79,7 +80,7 @@ use Rattle.trace_forms.proofs.SpelledTypes.{const_def_holds}
 use Rattle.trace_forms.proofs.Filled.{IsConstant, type_def_fills}
 use Rattle.trace_forms.proofs.Held.{Known, AllHeld, held_append}
 use Rattle.trace_forms.proofs.Idle.{IsIdle, AllIdle, idle_held, numbered_idle, sections_idle, block_idle, clause_idle}
-use Rattle.trace_forms.proofs.Sight.{Past, Text, past_later, Within, Brings, AllBring, Sight, closed, sight_known, sight_later, sight_behind, sight_one, read, sight_import, levels_closed}
+use Rattle.trace_forms.proofs.Sight.{Past, Text, Within, Brings, AllBring, Sight, closed, sight_known, sight_later, sight_behind, sight_one, read, sight_import, levels_closed}
 use Rattle.trace_forms.proofs.Adds.{others_known, add_plain, add_less, vars_add}
 use Rattle.trace_forms.proofs.Walks.{ips_bring, modvars_bring, states_bring, statesets_bring, Walked, walk_nil, walk_less, walk_adds, lines_walk, ConstReady, const_there, const_walks, TypeReady, type_walks, channel_walks, routine_walks, header_walks}
 use Rattle.trace_forms.proofs.Spelled.{decl_told, below_told, parts_formed}
@@ -171,28 +172,34 @@ module _ (names : List Used) (env : Env) (by_default : Bool) where
       inside_states = flat_map brought.states_of (out-Parts own_parts).decls
 
       abbrev named_so : Event
-      named_so = Declare ((out-Body b).name ∷ []) d.Body (Named (out-Body b).header need.Header)
+      named_so = Declare ((out-Body b).name ∷ []) d.Body (At (out-Body b).header.span)
 
-      -- the scopes behind its name, and at its parts
+      abbrev header_used : Event
+      header_used = Use (out-Body b).header need.Header []
+
+      -- the scopes behind its name and its header, and at its parts
       abbrev s1 : Scopes
       s1 = after_one s named_so
 
       abbrev s2 : Scopes
-      s2 = after_one s1 (Open scope.Body)
+      s2 = after_one s1 header_used
 
       abbrev s3 : Scopes
-      s3 = after_one s2 (Import (out-Body b).header)
+      s3 = after_one s2 (Open scope.Body)
 
-      stands_named : Stands ys scope.Body outer s1
-      stands_named = plain_declare ((out-Body b).name ∷ []) d.Body (Named (out-Body b).header need.Header) (λ e. cc) ys scope.Body outer s st
+      abbrev s4 : Scopes
+      s4 = after_one s3 (Import (out-Body b).header)
 
-      sight_named : Sight i closed K s1
-      sight_named = sight_one i closed K s named_so (λ e. cc, others_known K d.Body (λ e. cc) (λ e. cc) ((out-Body b).name ∷ [])) tt sight
+      stands_named : Stands ys scope.Body outer s2
+      stands_named = plain_use (out-Body b).header need.Header [] ys scope.Body outer s1 (plain_declare ((out-Body b).name ∷ []) d.Body (At (out-Body b).header.span) (λ e. cc) ys scope.Body outer s st)
 
-      levels : (after s (body b)).levels ≡ s1.levels
+      sight_named : Sight i closed K s2
+      sight_named = sight_one i closed K s1 header_used tt tt (sight_one i closed K s named_so (λ e. cc, others_known K d.Body (λ e. cc) (λ e. cc) ((out-Body b).name ∷ [])) tt sight)
+
+      levels : (after s (body b)).levels ≡ s2.levels
       levels =
           ap (λ es. (after s es).levels) (body_is b)
-          ∙ levels_closed ys inside_states scope.Body scope.Body outer s1 (Import (out-Body b).header ∷ inside_events) (steady_next inside_states (Import (out-Body b).header) inside_events (plain_import (out-Body b).header inside_states) (below_known by_default room own_parts h.after_head h.after_parts h.parts).going.steady) stands_named
+          ∙ levels_closed ys inside_states scope.Body scope.Body outer s2 (Import (out-Body b).header ∷ inside_events) (steady_next inside_states (Import (out-Body b).header) inside_events (plain_import (out-Body b).header inside_states) (below_known by_default room own_parts h.after_head h.after_parts h.parts).going.steady) stands_named
 
       to_parts : Less i h.after_head
       to_parts = less_more (less_takes h.word) (less_more (name_less h.names.first) (less_more (less_takes h.names.mark) (less_more (name_less h.names.second) (less_takes h.semicolon))))
@@ -200,20 +207,20 @@ module _ (names : List Used) (env : Env) (by_default : Bool) where
       forms_there : FormsAt h.after_head
       forms_there = (formed.less_more (formed.less_takes h.word) (formed.less_more (formed.name_less h.names.first) (formed.less_more (formed.less_takes h.names.mark) (formed.less_more (formed.name_less h.names.second) (formed.less_takes h.semicolon))))).pass forms
 
-      sight_there : (M : Known) → Within K M → Sight h.after_head closed M s3
-      sight_there M more = sight_later to_parts (sight_import i M s2 (sight_one i closed M s1 (Open scope.Body) tt tt (sight_known closed M more sight_named)) (out-Body b).header)
+      sight_there : (M : Known) → Within K M → Sight h.after_head closed M s4
+      sight_there M more = sight_later to_parts (sight_import i M s3 (sight_one i closed M s2 (Open scope.Body) tt tt (sight_known closed M more sight_named)) (out-Body b).header)
 
       kept_there : PlacedPartKept env (out-Body b).span.start (sites.parts own_parts)
       kept_there = (subst PlacedKept (ruled.body_sites b env at) kept.0, (subst (AllByRecursion (IsSettled env)) (ruled.body_declares b at) kept.1).1)
 
       body_walks : DeclWalked K j (after s (body b)) [] (flat_map (stand.body by_default) (b ∷ []))
       body_walks = record {
-        walked = record { known = K; held = refl; more = λ e o. o; sight = sight_behind i closed K (body b) s1.levels keeps whole levels sight_named.levels sight };
+        walked = record { known = K; held = refl; more = λ e o. o; sight = sight_behind i closed K (body b) s2.levels keeps whole levels sight_named.levels sight };
         inside = λ n M more.
             let said = subst (Say names s) (body_is b) say in
             subst (Inside n M) (sym (append-nil (stand.body by_default b) ∙ equations.body_is by_default b))
-            (all own_parts h.after_head h.after_parts h.parts M s3 s1.levels forms_there (sight_there M more) (plain_import (out-Body b).header [] scope.Body s1.levels s2 (opened ys [] scope.Body scope.Body outer s1 stands_named))
-            (say_front names s3 inside_events (Close ∷ []) said.1.1.1.1.1) (out-Body b).span.start kept_there (Some (out-Body b).name) (Some (out-Body b).header) n);
+            (all own_parts h.after_head h.after_parts h.parts M s4 s2.levels forms_there (sight_there M more) (plain_import (out-Body b).header [] scope.Body s2.levels s3 (opened ys [] scope.Body scope.Body outer s2 stands_named))
+            (say_front names s4 inside_events (Close ∷ []) said.1.1.1.1.1) (out-Body b).span.start kept_there (Some (out-Body b).name) (Some (out-Body b).header) n);
       }
 
     -- ---- declarations
@@ -369,19 +376,6 @@ required_away past (r ∷ rs) = (tt, required_away past rs)
 required_bring : AllBring [] required_events
 required_bring = all_required identifiers (λ e. absurd (cc), (λ e. absurd (cc), (λ e. absurd (cc), (λ e. tt, (λ e. tt, (λ e. tt, (λ e. absurd (cc), (λ e. absurd (cc), (λ e. absurd (cc), (λ e. absurd (cc), (λ e. absurd (cc), (λ e. absurd (cc), (λ e. absurd (cc), tt)))))))))))))
 
--- behind the first token no token begins where the text does
-zero_past : (tokens : List Placed) (rest : ℕ) → FollowOneAnother 0 tokens rest → (j : Input) → next (input tokens 0) ≡ j → Past j 0
-unfolding next
-zero_past tokens rest follow j e = ap (among (starts (nat_eq 0))) (sym e) ∙ by tokens follow
-  where
-    other : (n : ℕ) → 0 < n → (b : Bool) → nat_eq 0 n ≡ b → b ≡ false
-    other n l true e = let f = (Decides-eqb 0 n).0 e in absurd (omega (arith, f, l))
-    other n l false e = refl
-
-    by : (ts : List Placed) → FollowOneAnother 0 ts rest → among (starts (nat_eq 0)) (after_first 0 ts) ≡ 0
-    by [] f = refl
-    by (t ∷ ts) f = let a = f.1 in reach (starts (nat_eq 0)) t.span.end ts rest f.2 (λ x l m. other x.start (omega (arith, a, l)) (nat_eq 0 x.start) refl)
-
 module _ (spec : Spec) (tokens : List Placed) (rest : ℕ) (spells : Spells spec tokens) (follow : FollowOneAnother 0 tokens rest) (few : length tokens ≤ 2 ^ 32) (kept : (b : Breach) → NameRuleBroken spec b → ⊥) where
   abbrev first : Input
   first = spells.whole.after_heads
@@ -398,13 +392,6 @@ module _ (spec : Spec) (tokens : List Placed) (rest : ℕ) (spells : Spells spec
         omega (arith, a, b);
   }
 
-  zero_first : Past first 0
-  zero_first =
-      let h = spells.whole in
-      let a = zero_past tokens rest follow h.name.at h.name.mark.next in
-      let more = less_more (name_less h.name.item) (less_more (may_be_sys_attr_less spec.attr h.after_name h.after_attr h.attr) (less_more (less_takes h.semicolon) (heads_less spec.heads h.after_head h.after_heads h.heads.heads))) in
-      past_later h.name.at first more 0 a
-
   -- what is known behind all declarations of a specification that breaks no rule
   pub spec_held : (env : Env) → PlacedPartKept env spec.span.start (sites.parts spec.parts) → (L : Known) × AllHeld (names_of spec) env [] (bodies_declare 0 (bodies spec)) L
   spec_held env sites_kept =
@@ -414,9 +401,9 @@ module _ (spec : Spec) (tokens : List Placed) (rest : ℕ) (spells : Spells spec
       let last : Events = states_of spec.span (parts spec.parts) ++ Open scope.Body ∷ [] in
       let say = subst (Say names start) (events_are spec) (all_say (events spec) kept (uses_apart spec tokens rest spells follow)) in
       let r = read first closed [] names start O (tt, all_append (Brings []) required_events last required_bring (tt, (tt, tt))) (tt, all_append (KeepsAway (Past first)) required_events last (required_away (Past first) identifiers) (tt, (tt, tt)))
-      (record { text = text_first; levels = tt; zero_sound = (zero_first, tt) }) (say_front names start O (E ++ Close ∷ Close ∷ []) say) in
+      (record { text = text_first; levels = tt }) (say_front names start O (E ++ Close ∷ Close ∷ []) say) in
       let s1 = after_one start (Open scope.Inner) in
-      let st1 : Stands [] scope.Inner [] s1 = record { top = record { form = scope.Inner; names = []; within = 0 }; levels = refl; form = refl; own = tt; kept = tt } in
+      let st1 : Stands [] scope.Inner [] s1 = record { top = record { form = scope.Inner; names = []; within = members.Nothing }; levels = refl; form = refl; own = tt; kept = tt } in
       let s2 = after s1 required_events in
       let s3 = after_one s2 (Open scope.Body) in
       let st3 = opened [] [] scope.Inner scope.Body [] s2 (required_stand scope.Inner [] s1 st1) in

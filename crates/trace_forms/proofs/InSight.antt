@@ -1,27 +1,28 @@
 -- What is in sight in the open scopes: what holds of each name there, and of each name that is kept for a header that is known there.
-use Rattle.std.proofs.Common.{◌≡◌, ◌∙◌, ℕ, Bool, true, false, nat_eq, if◌then◌else◌, List, [], ◌∷◌, Option, Some, None, refl, ap, sym, subst, cond, ◌⊎◌, inl, inr}
-use Rattle.std.specs.Prelude.{◌||◌, ◌&&◌}
+use Rattle.std.proofs.Common.{◌≡◌, ◌∙◌, ℕ, Bool, true, false, nat_eq, if◌then◌else◌, List, [], ◌∷◌, Some, None, refl, ap, sym, subst, cond, ◌⊎◌, inl, inr}
 use Rattle.std.specs.Map.{lookup}
-use Rattle.std.specs.Option.{option_or, unwrap_or}
+use Rattle.std.specs.Option.{unwrap_or}
 use Rattle.std.specs.List.{AllByRecursion}
 use Rattle.std.proofs.lemmas.Bool.Decides.{Decides-eqb}
 use Rattle.estelle_tree.specs.declared.tree.name.Name.{Name}
 use Rattle.scope_rules.specs.declared.declaration.Denotes.{Denotes}
 use Rattle.scope_rules.specs.declared.declaration.Denotes.TheVariants as d
+use Rattle.scope_rules.specs.declared.declaration.Members.{Members}
+use Rattle.scope_rules.specs.declared.declaration.Members.TheVariants as members
 use Rattle.scope_rules.specs.declared.declaration.Declared.{Declared}
 use Rattle.scope_rules.specs.declared.event.ScopeForm.{ScopeForm}
 use Rattle.scope_rules.specs.declared.event.Event.{Event}
 use Rattle.scope_rules.specs.declared.event.Event.TheVariants.{Open, Close, Keep, Import, Receive, Array, Declare, Use, By, Init, States}
-use Rattle.scope_rules.specs.Kinds.{is_private}
 use Rattle.scope_rules.specs.TypeEvents.{Events}
-use Rattle.scope_rules.specs.Scopes.{Word, Scope, Level, Scopes, after, after_one, in_names, kept_at, in_level, is_body, hiding, alone, meaning, meaning_of, declaration, innermost, declare_level, declare_one, declare_all, inside_of, put, below}
-use Rattle.accepted_states.proofs.Lists.{Each}
-use Rattle.trace_forms.proofs.TypesFound.{AllNames, in_names_so, declared_so, alone_so}
+use Rattle.scope_rules.specs.Visible.{Word, Scope, Level, Scopes, kept_at, member_names, in_level, is_body, meaning, inside_of}
+use Rattle.scope_rules.specs.Scopes.{after, after_one, declaration, innermost, declare_level, declare_one, declare_all, put, below}
+use Rattle.accepted_states.proofs.Lists.{Each, each_other}
+use Rattle.trace_forms.proofs.TypesFound.{AllNames, declared_so, level_so, means_so}
 
 -- ---- names of open scopes
 
--- P : what holds of a word and what it is declared as, in a scope of a form; W : of the place for which a scope's further names are kept
-module _ (P : ScopeForm → Word → Declared → Type 0) (W : ℕ → Type 0) where
+-- P : what holds of a word and what it is declared as, in a scope of a form; W : of a scope's further members
+module _ (P : ScopeForm → Word → Declared → Type 0) (W : Members → Type 0) where
   abbrev pub LevelIs : Level → Type 0
   LevelIs l = AllNames (P l.form) l.names × W l.within
 
@@ -47,12 +48,12 @@ module _ (P : ScopeForm → Word → Declared → Type 0) (W : ℕ → Type 0) w
   any_are w e [] k h = tt
   any_are w e (l ∷ ls) k h = named_are w e l ls (k l.form) h
 
-  all_are : (xs : List Name) (k : Denotes) (inside : Option ℕ) (s : Scopes) → ((f : ScopeForm) → Each (λ (x : Name). P f x.word (declaration x k inside)) xs) → LevelsAre s.levels → LevelsAre (declare_all s xs k inside).levels
+  all_are : (xs : List Name) (k : Denotes) (inside : Members) (s : Scopes) → ((f : ScopeForm) → Each (λ (x : Name). P f x.word (declaration x k inside)) xs) → LevelsAre s.levels → LevelsAre (declare_all s xs k inside).levels
   all_are [] k inside s p h = h
   all_are (x ∷ xs) k inside s p h = all_are xs k inside (declare_one s x k inside) (λ f. (p f).1) (any_are x.word (declaration x k inside) s.levels (λ f. (p f).0) h)
 
   -- behind such an event the open scopes are so again
-  pub one_are : W 0 → (s : Scopes) (e : Event) → Declares s e → LevelsAre s.levels → LevelsAre (after_one s e).levels
+  pub one_are : W members.Nothing → (s : Scopes) (e : Event) → Declares s e → LevelsAre s.levels → LevelsAre (after_one s e).levels
   one_are nowhere s (Open f) p h = ((tt, nowhere), h)
   one_are nowhere s Close p h = below_are s.levels h
   one_are nowhere s (Keep span) p h = below_are s.levels h
@@ -66,6 +67,14 @@ module _ (P : ScopeForm → Word → Declared → Type 0) (W : ℕ → Type 0) w
   one_are nowhere s (States at states initial transitions) p h = h
 
 -- ---- names that are kept
+
+-- what follows from what holds of each name holds of each
+pub names_stay : (A B : Word → Declared → Type 0) → ((w : Word) (e : Declared) → A w e → B w e) → (names : Scope) → AllNames A names → AllNames B names
+names_stay A B f = each_other (λ (e : Word × Declared). A e.0 e.1) (λ (e : Word × Declared). B e.0 e.1) (λ e h. f e.0 e.1 h)
+
+-- this holds, and it is no header
+abbrev pub NoHeader : (Word → Declared → Type 0) → Word → Declared → Type 0
+NoHeader P w e = P w e × (e.denotes ≡ d.Header → ⊥)
 
 -- past : places for which no more names are kept
 module _ (past : ℕ → Type 0) where
@@ -89,7 +98,7 @@ module _ (past : ℕ → Type 0) where
       by more true e = ap (λ b. unwrap_or (cond b (Some names) (lookup (nat_eq p) xs)) []) (other e) ∙ sym (ap (λ b. unwrap_or (cond b (Some x.1) (lookup (nat_eq p) xs)) []) (other e))
       by more false e = same (nat_eq p x.0) more
 
-  declared_keeps : (s : Scopes) (xs : List Name) (k : Denotes) (inside : Option ℕ) → (declare_all s xs k inside).kept ≡ s.kept
+  declared_keeps : (s : Scopes) (xs : List Name) (k : Denotes) (inside : Members) → (declare_all s xs k inside).kept ≡ s.kept
   declared_keeps s [] k inside = refl
   declared_keeps s (x ∷ xs) k inside = declared_keeps (declare_one s x k inside) xs k inside
 
@@ -117,11 +126,17 @@ module _ (past : ℕ → Type 0) where
   module _ (pending : ℕ → Type 0) (P : Word → Declared → Type 0) (kept : List (ℕ × Scope)) where
     -- of each name that is kept for it the same holds, and none is a header
     abbrev pub IsSound : ℕ → Type 0
-    IsSound p = past p × AllNames (λ w e. P w e × (e.denotes ≡ d.Header → ⊥)) (kept_at kept p)
+    IsSound p = past p × AllNames (NoHeader P) (kept_at kept p)
+
+    -- members are those that are kept for such a place, or none
+    abbrev pub AreSound : Members → Type 0
+    AreSound members.Nothing = Unit {0}
+    AreSound (members.KeptAt p) = IsSound p
+    AreSound members.AtFault = Unit {0}
 
     -- a header that is closed brings what is kept for it
     abbrev pub BringsSound : Declared → Type 0
-    BringsSound e = e.denotes ≡ d.Header → (p : ℕ) × ((e.inside ≡ Some p) × (pending p ⊎ IsSound p))
+    BringsSound e = e.denotes ≡ d.Header → (p : ℕ) × ((e.inside ≡ members.KeptAt p) × (pending p ⊎ IsSound p))
 
     abbrev pub IsSeen : Word → Declared → Type 0
     IsSeen w e = P w e × BringsSound e
@@ -132,50 +147,42 @@ module _ (past : ℕ → Type 0) where
 
     -- this holds of all open scopes
     abbrev pub InSight : List Level → Type 0
-    InSight = LevelsAre IsSeenIn IsSound
+    InSight = LevelsAre IsSeenIn AreSound
 
-    kept_seen : (w : Word) (e : Declared) → P w e × (e.denotes ≡ d.Header → ⊥) → IsSeen w e
+    kept_seen : (w : Word) (e : Declared) → NoHeader P w e → IsSeen w e
     kept_seen w e h = (h.0, λ is. absurd (h.1 is))
 
-    level_seen : (w : Word) (l : Level) (e : Declared) → LevelIs IsSeenIn IsSound l → in_level kept w l ≡ Some e → IsSeen w e
-    level_seen w l e h f = by (in_names w l.names) refl f
-      where
-        by : (o : Option Declared) → in_names w l.names ≡ o → option_or o (in_names w (kept_at kept l.within)) ≡ Some e → IsSeen w e
-        by (Some x) g f = (in_names_so (IsSeenIn l.form) w l.names e h.0 (g ∙ f)).0
-        by None g f = kept_seen w e (in_names_so (λ w e. P w e × (e.denotes ≡ d.Header → ⊥)) w (kept_at kept l.within) e h.1.1 f)
+    members_sound : (m : Members) → AreSound m → AllNames (NoHeader P) (member_names kept m)
+    members_sound members.Nothing h = tt
+    members_sound (members.KeptAt p) h = h.1
+    members_sound members.AtFault h = tt
 
-    means_seen : (w : Word) (outside : Bool) (levels : List Level) (e : Declared) → InSight levels → meaning_of kept w outside levels ≡ Some e → IsSeen w e
-    means_seen w outside [] e h f = absurd (cc)
-    means_seen w outside (l ∷ outer) e h f = by (λ g. means_seen w (outside || is_body l.form) outer e h.1 g) (alone (in_level kept w l)) refl f
-      where
-        seen_so : (x : Declared) (b : Bool) → (if b then None else Some x) ≡ Some e → x ≡ e
-        seen_so x true g = absurd (cc)
-        seen_so x false g = cc
-
-        by : (meaning_of kept w (outside || is_body l.form) outer ≡ Some e → IsSeen w e) → (o : Option Declared) → alone (in_level kept w l) ≡ o → hiding outside o (meaning_of kept w (outside || is_body l.form) outer) ≡ Some e → IsSeen w e
-        by more None g f = more f
-        by more (Some x) g f = subst (IsSeen w) (seen_so x (outside && is_private x.denotes) f) (level_seen w l x h.0 (alone_so P (in_level kept w l) x g))
+    level_seen : (w : Word) (l : Level) → LevelIs IsSeenIn AreSound l → (e : Declared) → in_level kept w l ≡ Some e → IsSeen w e
+    level_seen w l h e f =
+        level_so IsSeen kept w l e (names_stay (IsSeenIn l.form) IsSeen (λ v x k. k.0) l.names h.0)
+        (names_stay (NoHeader P) IsSeen kept_seen (member_names kept l.within) (members_sound l.within h.1)) f
 
   -- what a name means is in sight
   pub meaning_seen : (pending : ℕ → Type 0) (P : Word → Declared → Type 0) (s : Scopes) (w : Word) (e : Declared) → InSight pending P s.kept s.levels → meaning s w ≡ Some e → IsSeen pending P s.kept w e
-  meaning_seen pending P s w e h f = means_seen pending P s.kept w false s.levels e h f
+  meaning_seen pending P s w e h f =
+      means_so (IsSeen pending P s.kept) s.kept w false s.levels e
+      (each_other (LevelIs (IsSeenIn pending P s.kept) (AreSound pending P s.kept)) (λ (l : Level). (x : Declared) → in_level s.kept w l ≡ Some x → IsSeen pending P s.kept w x) (level_seen pending P s.kept w) s.levels h) f
 
 -- ---- what stays in sight
-
--- what holds of names implies what holds of them later
-pub names_stay : (A B : Word → Declared → Type 0) → ((w : Word) (e : Declared) → A w e → B w e) → (names : Scope) → AllNames A names → AllNames B names
-names_stay A B f [] h = tt
-names_stay A B f (x ∷ xs) h = (f x.0 x.1 h.0, names_stay A B f xs h.1)
 
 -- past, pending, P, kept : before; the others : later, where the same names are kept for what is past, and what was pending is sound or still pending
 module _ (past later : ℕ → Type 0) (pending left : ℕ → Type 0) (P Q : Word → Declared → Type 0) (kept after : List (ℕ × Scope))
     (on : (p : ℕ) → past p → later p) (turn : (p : ℕ) → pending p → left p ⊎ IsSound later left Q after p) (more : (w : Word) (e : Declared) → P w e → Q w e) (same : (p : ℕ) → past p → kept_at after p ≡ kept_at kept p) where
-  pub sound_stays : (p : ℕ) → IsSound past pending P kept p → IsSound later left Q after p
+  sound_stays : (p : ℕ) → IsSound past pending P kept p → IsSound later left Q after p
   sound_stays p h = (
     on p h.0,
-    subst (AllNames (λ w e. Q w e × (e.denotes ≡ d.Header → ⊥))) (sym (same p h.0))
-        (names_stay (λ w e. P w e × (e.denotes ≡ d.Header → ⊥)) (λ w e. Q w e × (e.denotes ≡ d.Header → ⊥)) (λ w e k. (more w e k.0, k.1)) (kept_at kept p) h.1),
+    subst (AllNames (NoHeader Q)) (sym (same p h.0)) (names_stay (NoHeader P) (NoHeader Q) (λ w e k. (more w e k.0, k.1)) (kept_at kept p) h.1),
   )
+
+  members_stay : (m : Members) → AreSound past pending P kept m → AreSound later left Q after m
+  members_stay members.Nothing h = tt
+  members_stay (members.KeptAt p) h = sound_stays p h
+  members_stay members.AtFault h = tt
 
   turned : (p : ℕ) → pending p ⊎ IsSound past pending P kept p → left p ⊎ IsSound later left Q after p
   turned p (inl h) = turn p h
@@ -187,4 +194,4 @@ module _ (past later : ℕ → Type 0) (pending left : ℕ → Type 0) (P Q : Wo
   -- all stays in sight
   pub sight_stays : (levels : List Level) → InSight past pending P kept levels → InSight later left Q after levels
   sight_stays [] h = tt
-  sight_stays (l ∷ ls) h = ((names_stay (IsSeenIn past pending P kept l.form) (IsSeenIn later left Q after l.form) (seen_stays l.form) l.names h.0.0, sound_stays l.within h.0.1), sight_stays ls h.1)
+  sight_stays (l ∷ ls) h = ((names_stay (IsSeenIn past pending P kept l.form) (IsSeenIn later left Q after l.form) (seen_stays l.form) l.names h.0.0, members_stay l.within h.0.1), sight_stays ls h.1)

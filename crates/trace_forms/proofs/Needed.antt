@@ -15,7 +15,7 @@ use Rattle.scope_rules.specs.declared.event.Event.{Event}
 use Rattle.scope_rules.specs.declared.event.Event.TheVariants.{Use}
 use Rattle.scope_rules.specs.Kinds.{may_be}
 use Rattle.scope_rules.specs.TypeEvents.{Events}
-use Rattle.scope_rules.specs.Scopes.{Word, Scopes}
+use Rattle.scope_rules.specs.Visible.{Word, Scopes}
 use Rattle.scope_rules.specs.NameRules.{IsOne}
 use Rattle.type_rules.specs.declared.meanings.Meaning.{Meaning as RuleMeaning}
 use Rattle.type_rules.specs.Meanings as rules

@@ -16,10 +16,10 @@ use Rattle.estelle_model.specs.declared.denoter.Denoter.{Denoter, out-Denoter, m
 use Rattle.estelle_model.specs.declared.denoter.Denoter.TheOpen.{Denoter-F}
 use Rattle.estelle_model.specs.Types.{shape_of, shape_step}
 use Rattle.estelle_model.specs.Belonging.{belongs, belongs_at, are_values_of}
-use Rattle.estelle_model.proofs.Fitting.{belongs_out}
+use Rattle.estelle_model.proofs.Fitting.{belongs_out, rises_is}
 use Rattle.estelle_model_legality.proofs.Lists.{and_both}
 use Rattle.trace_forms.specs.Types.{IsTypeFormed, NestsWithin, IsReadableType}
-use Rattle.trace_forms.proofs.Values.{Rises, AllRise, sets_rise, sets_step, sets_out, rises_is, all_of}
+use Rattle.trace_forms.proofs.Values.{Rises, AllRise, sets_rise, sets_step, sets_out, all_of}
 use Rattle.trace_forms.proofs.Lists.{all_tests}
 
 -- ---- the shape of a type, one layer at a time

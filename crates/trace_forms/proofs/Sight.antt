@@ -8,6 +8,8 @@ use Rattle.estelle_tree.specs.declared.names.Use.{Use as Used}
 use Rattle.estelle_tree.specs.declared.tree.name.Name.{Name}
 use Rattle.estelle_tree.specs.Input.{Input}
 use Rattle.estelle_tree.specs.Types.{IsName}
+use Rattle.scope_rules.specs.declared.declaration.Members.{Members}
+use Rattle.scope_rules.specs.declared.declaration.Members.TheVariants as members
 use Rattle.scope_rules.specs.declared.declaration.Declared.{Declared}
 use Rattle.scope_rules.specs.declared.declaration.Denotes.{Denotes}
 use Rattle.scope_rules.specs.declared.declaration.Denotes.TheVariants as d
@@ -17,7 +19,8 @@ use Rattle.scope_rules.specs.declared.event.Event.{Event}
 use Rattle.scope_rules.specs.declared.event.Event.TheVariants.{Open, Close, Keep, Import, Receive, Declare, Use}
 use Rattle.scope_rules.specs.Kinds.{may_be}
 use Rattle.scope_rules.specs.TypeEvents.{Events}
-use Rattle.scope_rules.specs.Scopes.{Scope, Level, Scopes, after, after_one, kept_at, declaration, innermost, join_level, below, inside_of, meaning, reached, inside_named, put}
+use Rattle.scope_rules.specs.Visible.{Scope, Level, Scopes, kept_at, inside_of, meaning, reached, inside_named}
+use Rattle.scope_rules.specs.Scopes.{after, after_one, declaration, innermost, join_level, below, put}
 use Rattle.scope_rules.specs.NameRules.{IsOne}
 use Rattle.accepted_states.proofs.Lists.{Each, one_if}
 use Rattle.accepted_states.proofs.Uses.{Say, Says, after-append}
@@ -25,7 +28,7 @@ use Rattle.accepted_states.proofs.Scopes.{Stands, Steady, opened}
 use Rattle.accepted_states.proofs.Fine.{among, Less, less_same, less_name}
 use Rattle.accepted_states.proofs.Fit.{starts}
 use Rattle.accepted_states.proofs.Bodies.{nowhere}
-use Rattle.trace_forms.proofs.InSight.{Declares, one_are, KeepsAway, one_kept, after_kept, IsSound, IsSeenIn, InSight, meaning_seen, sound_stays, sight_stays}
+use Rattle.trace_forms.proofs.InSight.{Declares, one_are, KeepsAway, one_kept, after_kept, AreSound, IsSeenIn, InSight, meaning_seen, sight_stays}
 use Rattle.trace_forms.proofs.Keeps.{KeepsHere, AllKeep}
 use Rattle.trace_forms.proofs.Held.{Known}
 use Rattle.trace_forms.proofs.Needed.{NameKnown, known_more, EventKnown, UsesKnown, found_known}
@@ -98,7 +101,7 @@ Within K L = (e : Denotes × ℕ) → IsOne e K → IsOne e L
 
 -- what an event declares is known, and no header; it brings no names that are kept
 abbrev pub Brings : Known → Event → Type 0
-Brings K (Declare names k inside) = (k ≡ d.Header → ⊥) × AllByRecursion (λ (x : Name). NameKnown K x.word (declaration x k None)) names
+Brings K (Declare names k inside) = (k ≡ d.Header → ⊥) × AllByRecursion (λ (x : Name). NameKnown K x.word (declaration x k members.Nothing)) names
 Brings K (Import x) = ⊥
 Brings K (Receive ip x names) = ⊥
 Brings K e = Unit {0}
@@ -107,9 +110,9 @@ abbrev pub AllBring : Known → Events → Type 0
 AllBring K = AllByRecursion (Brings K)
 
 module _ (K L : Known) (more : Within K L) where
-  names_more : (k : Denotes) (xs : List Name) → AllByRecursion (λ (x : Name). NameKnown K x.word (declaration x k None)) xs → AllByRecursion (λ (x : Name). NameKnown L x.word (declaration x k None)) xs
+  names_more : (k : Denotes) (xs : List Name) → AllByRecursion (λ (x : Name). NameKnown K x.word (declaration x k members.Nothing)) xs → AllByRecursion (λ (x : Name). NameKnown L x.word (declaration x k members.Nothing)) xs
   names_more k [] h = tt
-  names_more k (x ∷ xs) h = (known_more K L more x.word (declaration x k None) h.0, names_more k xs h.1)
+  names_more k (x ∷ xs) h = (known_more K L more x.word (declaration x k members.Nothing) h.0, names_more k xs h.1)
 
   bring_one : (e : Event) → Brings K e → Brings L e
   bring_one (Declare names k inside) h = (h.0, names_more k names h.1)
@@ -127,7 +130,6 @@ module _ (K L : Known) (more : Within K L) where
 pub record Sight (i : Input) (pending : ℕ → Type 0) (K : Known) (s : Scopes) : Type 0 where
   pub text : Text i
   pub levels : InSight (Past i) pending (NameKnown K) s.kept s.levels
-  pub zero_sound : IsSound (Past i) pending (NameKnown K) s.kept 0
 
 -- no header is open
 abbrev pub closed : ℕ → Type 0
@@ -138,7 +140,6 @@ pub sight_more : {i j : Input} {K : Known} {s : Scopes} (pending left : ℕ → 
 sight_more {i} {j} {K} {s} pending left L turn l more h = record {
   text = text_later l h.text;
   levels = sight_stays (Past i) (Past j) pending left (NameKnown K) (NameKnown L) s.kept s.kept (past_later i j l) (λ p e. inl (turn p e)) (known_more K L more) (λ p e. refl) s.levels h.levels;
-  zero_sound = sound_stays (Past i) (Past j) pending left (NameKnown K) (NameKnown L) s.kept s.kept (past_later i j l) (λ p e. inl (turn p e)) (known_more K L more) (λ p e. refl) 0 h.zero_sound;
 }
 
 -- with more known
@@ -150,12 +151,12 @@ pub sight_later : {i j : Input} {K : Known} {s : Scopes} → Less i j → Sight 
 sight_later {i} {j} {K} l h = sight_more closed closed K (λ p e. e) l (λ e o. o) h
 
 module _ (i : Input) (pending : ℕ → Type 0) (K : Known) where
-  each_seen : (kept : List (ℕ × Scope)) (f : ScopeForm) (k : Denotes) (inside : Option ℕ) → (k ≡ d.Header → ⊥) → (xs : List Name) → AllByRecursion (λ (x : Name). NameKnown K x.word (declaration x k None)) xs
+  each_seen : (kept : List (ℕ × Scope)) (f : ScopeForm) (k : Denotes) (inside : Members) → (k ≡ d.Header → ⊥) → (xs : List Name) → AllByRecursion (λ (x : Name). NameKnown K x.word (declaration x k members.Nothing)) xs
       → Each (λ (x : Name). IsSeenIn (Past i) pending (NameKnown K) kept f x.word (declaration x k inside)) xs
   each_seen kept f k inside other [] h = tt
   each_seen kept f k inside other (x ∷ xs) h = (((h.0, λ is. absurd (other is)), λ e is. other is), each_seen kept f k inside other xs h.1)
 
-  declares : (s : Scopes) (e : Event) → Brings K e → Declares (IsSeenIn (Past i) pending (NameKnown K) s.kept) (IsSound (Past i) pending (NameKnown K) s.kept) s e
+  declares : (s : Scopes) (e : Event) → Brings K e → Declares (IsSeenIn (Past i) pending (NameKnown K) s.kept) (AreSound (Past i) pending (NameKnown K) s.kept) s e
   declares s (Declare names k inside) h = λ f. each_seen s.kept f k (inside_of s inside) h.0 names h.1
   declares s (Import x) h = absurd h
   declares s (Receive ip x names) h = absurd h
@@ -169,7 +170,6 @@ module _ (i : Input) (pending : ℕ → Type 0) (K : Known) where
       record {
         text = text_later l h.text;
         levels = subst (InSight (Past j) pending (NameKnown K) (after s es).kept) (sym is) (sight_stays (Past i) (Past j) pending pending (NameKnown K) (NameKnown K) s.kept (after s es).kept on (λ p e. inl e) (λ w e h. h) same levels now);
-        zero_sound = sound_stays (Past i) (Past j) pending pending (NameKnown K) (NameKnown K) s.kept (after s es).kept on (λ p e. inl e) (λ w e h. h) same 0 h.zero_sound;
       }
 
   -- an event that declares what is known leaves what is in sight known
@@ -179,8 +179,7 @@ module _ (i : Input) (pending : ℕ → Type 0) (K : Known) where
       record {
         text = h.text;
         levels = sight_stays (Past i) (Past i) pending pending (NameKnown K) (NameKnown K) s.kept now (λ p e. e) (λ p e. inl e) (λ w e h. h) (one_kept (Past i) s e k) (after_one s e).levels
-            (one_are (IsSeenIn (Past i) pending (NameKnown K) s.kept) (IsSound (Past i) pending (NameKnown K) s.kept) h.zero_sound s e (declares s e b) h.levels);
-        zero_sound = sound_stays (Past i) (Past i) pending pending (NameKnown K) (NameKnown K) s.kept now (λ p e. e) (λ p e. inl e) (λ w e h. h) (one_kept (Past i) s e k) 0 h.zero_sound;
+            (one_are (IsSeenIn (Past i) pending (NameKnown K) s.kept) (AreSound (Past i) pending (NameKnown K) s.kept) tt s e (declares s e b) h.levels);
       }
 
   event_known : (names : List Used) (s : Scopes) (e : Event) → Sight i pending K s → Says names s e → EventKnown names K e
@@ -216,31 +215,31 @@ needs_header d.State h = absurd (cc)
 needs_header d.StateSet h = absurd (cc)
 
 module _ (i : Input) (K : Known) (s : Scopes) (h : Sight i closed K s) where
-  abbrev SoundHere : ℕ → Type 0
-  SoundHere = IsSound (Past i) closed (NameKnown K) s.kept
+  abbrev SoundHere : Members → Type 0
+  SoundHere = AreSound (Past i) closed (NameKnown K) s.kept
 
-  imported_sound : (x : Name) → SoundHere (unwrap_or (inside_named s x need.Header) 0)
+  imported_sound : (x : Name) → SoundHere (inside_named s x need.Header)
   imported_sound x = by (meaning s x.word) refl
     where
-      brought : (e : Declared) (p : ℕ) → e.inside ≡ Some p → closed p ⊎ SoundHere p → SoundHere (unwrap_or e.inside 0)
+      brought : (e : Declared) (p : ℕ) → e.inside ≡ members.KeptAt p → closed p ⊎ SoundHere (members.KeptAt p) → SoundHere e.inside
       brought e p is (inl f) = absurd f
-      brought e p is (inr f) = subst (λ o. SoundHere (unwrap_or o 0)) (sym is) f
+      brought e p is (inr f) = subst SoundHere (sym is) f
 
-      fit : (e : Declared) → meaning s x.word ≡ Some e → (b : Bool) → may_be need.Header e.denotes ≡ b → SoundHere (unwrap_or (if b then e.inside else None) 0)
+      fit : (e : Declared) → meaning s x.word ≡ Some e → (b : Bool) → may_be need.Header e.denotes ≡ b → SoundHere (if b then e.inside else members.AtFault)
       fit e is true f = let b = (meaning_seen (Past i) closed (NameKnown K) s x.word e h.levels is).1 (needs_header e.denotes f) in brought e b.0 b.1.0 b.1.1
-      fit e is false f = h.zero_sound
+      fit e is false f = tt
 
-      by : (o : Option Declared) → meaning s x.word ≡ o → SoundHere (unwrap_or (reached need.Header o) 0)
-      by None is = h.zero_sound
+      by : (o : Option Declared) → meaning s x.word ≡ o → SoundHere (reached need.Header o)
+      by None is = tt
       by (Some e) is = fit e is (may_be need.Header e.denotes) refl
 
-  joined : (at : ℕ) → SoundHere at → (ls : List Level) → InSight (Past i) closed (NameKnown K) s.kept ls → InSight (Past i) closed (NameKnown K) s.kept (innermost (join_level at) ls)
-  joined at f [] g = tt
-  joined at f (l ∷ ls) g = ((g.0.0, f), g.1)
+  joined : (m : Members) → SoundHere m → (ls : List Level) → InSight (Past i) closed (NameKnown K) s.kept ls → InSight (Past i) closed (NameKnown K) s.kept (innermost (join_level m) ls)
+  joined m f [] g = tt
+  joined m f (l ∷ ls) g = ((g.0.0, f), g.1)
 
   -- the names of a header come into sight
   pub sight_import : (x : Name) → Sight i closed K (after_one s (Import x))
-  sight_import x = record { text = h.text; levels = joined (unwrap_or (inside_named s x need.Header) 0) (imported_sound x) s.levels h.levels; zero_sound = h.zero_sound }
+  sight_import x = record { text = h.text; levels = joined (inside_named s x need.Header) (imported_sound x) s.levels h.levels }
 
 -- ---- scopes that close again
 

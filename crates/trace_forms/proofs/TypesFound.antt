@@ -1,21 +1,25 @@
 -- A name in use that means a type means one that the events before it declare as a type.
-use Rattle.std.proofs.Common.{◌≡◌, ◌∙◌, ℕ, Bool, true, false, nat_eq, nat_lt, if◌then◌else◌, List, [], ◌∷◌, Option, Some, None, refl, sym, subst, inl, inr, cond}
+use Rattle.std.proofs.Common.{◌≡◌, ℕ, Bool, true, false, nat_eq, nat_lt, if◌then◌else◌, List, [], ◌∷◌, Option, Some, None, refl, sym, subst, inl, inr, cond}
 use Rattle.std.specs.Prelude.{flat_map, ◌||◌, ◌&&◌}
 use Rattle.std.specs.Map.{lookup}
-use Rattle.std.specs.Option.{option_or, unwrap_or}
+use Rattle.std.specs.Option.{unwrap_or}
 use Rattle.std.specs.Str.{bytes_eq}
 use Rattle.std.specs.Cmp.Lexicographic.{bytes_decides}
 use Rattle.estelle_tree.specs.declared.tree.name.Name.{Name}
 use Rattle.scope_rules.specs.declared.declaration.Denotes.{Denotes}
 use Rattle.scope_rules.specs.declared.declaration.Denotes.TheVariants as d
+use Rattle.scope_rules.specs.declared.declaration.Members.{Members}
+use Rattle.scope_rules.specs.declared.declaration.Members.TheVariants as members
 use Rattle.scope_rules.specs.declared.declaration.Declared.{Declared}
 use Rattle.scope_rules.specs.declared.event.Event.{Event}
 use Rattle.scope_rules.specs.declared.event.Event.TheVariants.{Open, Close, Keep, Import, Receive, Array, Declare, Use, By, Init, States}
 use Rattle.scope_rules.specs.Kinds.{is_private, is_of_channel}
 use Rattle.scope_rules.specs.TypeEvents.{Events}
-use Rattle.scope_rules.specs.Scopes.{Word, Scope, Level, Scopes, start, after, after_one, in_names, kept_at, in_level, is_body, hiding, alone, meaning, meaning_of, earlier, declared, declaration, innermost, declare_level, declare_one, declare_all, inside_of, join_level, put, names_of_top, below}
+use Rattle.scope_rules.specs.Visible.{Word, Scope, Level, Scopes, in_names, kept_at, member_names, in_level, is_body, hiding, alone, meaning, meaning_of, earlier, inside_of}
+use Rattle.scope_rules.specs.Scopes.{start, after, after_one, declared, declaration, innermost, declare_level, declare_one, declare_all, join_level, put, names_of_top, below}
 use Rattle.scope_rules.specs.NameRules.{IsOne}
-use Rattle.accepted_states.proofs.Lists.{Each}
+use Rattle.accepted_states.proofs.Lists.{Each, each_other}
+use Rattle.accepted_states.proofs.Scopes.{earliest_one}
 use Rattle.trace_forms.proofs.Lists.{one_flat}
 
 -- ---- the names that events declare as types
@@ -78,6 +82,11 @@ module _ (P : Word → Declared → Type 0) where
       by more true = h.0
       by more false = more
 
+  members_so : (m : Members) (kept : List (ℕ × Scope)) → Each (λ (e : ℕ × Scope). AllNames e.1) kept → AllNames (member_names kept m)
+  members_so members.Nothing kept h = tt
+  members_so (members.KeptAt at) kept h = kept_so at kept h
+  members_so members.AtFault kept h = tt
+
   put_so : (at : ℕ) (s : Scope) (kept : List (ℕ × Scope)) → Each (λ (e : ℕ × Scope). AllNames e.1) kept → AllNames s → Each (λ (e : ℕ × Scope). AllNames e.1) (put at s kept)
   put_so at s [] h k = (k, tt)
   put_so at s (x ∷ xs) h k = by (put_so at s xs h.1 k) (nat_eq at x.0)
@@ -94,15 +103,15 @@ module _ (P : Word → Declared → Type 0) where
   top_so [] h = tt
   top_so (l ∷ ls) h = h.0
 
-  joined_so : (at : ℕ) (ls : List Level) → Each (λ (l : Level). AllNames l.names) ls → Each (λ (l : Level). AllNames l.names) (innermost (join_level at) ls)
-  joined_so at [] h = tt
-  joined_so at (l ∷ ls) h = h
+  joined_so : (m : Members) (ls : List Level) → Each (λ (l : Level). AllNames l.names) ls → Each (λ (l : Level). AllNames l.names) (innermost (join_level m) ls)
+  joined_so m [] h = tt
+  joined_so m (l ∷ ls) h = h
 
   named_so : (w : Word) (e : Declared) (ls : List Level) → P w e → Each (λ (l : Level). AllNames l.names) ls → Each (λ (l : Level). AllNames l.names) (innermost (declare_level w e) ls)
   named_so w e [] k h = tt
   named_so w e (l ∷ ls) k h = (declared_so w e l.names h.0 k, h.1)
 
-  all_so : (xs : List Name) (k : Denotes) (inside : Option ℕ) (s : Scopes) → Each (λ (x : Name). P x.word (declaration x k inside)) xs → Kept s → Kept (declare_all s xs k inside)
+  all_so : (xs : List Name) (k : Denotes) (inside : Members) (s : Scopes) → Each (λ (x : Name). P x.word (declaration x k inside)) xs → Kept s → Kept (declare_all s xs k inside)
   all_so [] k inside s p h = h
   all_so (x ∷ xs) k inside s p h = all_so xs k inside (declare_one s x k inside) p.1 (record { levels = named_so x.word (declaration x k inside) s.levels p.0 h.levels; kept = h.kept })
 
@@ -114,7 +123,7 @@ module _ (P : Word → Declared → Type 0) where
   one_so s (Receive ip x names) p h = record { levels = joined_so _ s.levels h.levels; kept = h.kept }
   one_so s (Array span of) p h = record { levels = h.levels; kept = h.kept }
   one_so s (Declare names k inside) p h = all_so names k (inside_of s inside) s p h
-  one_so s (Use x n steps) p h = h
+  one_so s (Use x n steps) p h = record { levels = h.levels; kept = h.kept }
   one_so s (By role) p h = h
   one_so s (Init modvar body) p h = h
   one_so s (States at states initial transitions) p h = h
@@ -123,14 +132,16 @@ module _ (P : Word → Declared → Type 0) where
   after_so s [] p h = h
   after_so s (e ∷ es) p h = after_so (after_one s e) es (λ f o. p f (inr o)) (one_so s e (p e (inl refl) s) h)
 
-  level_so : (kept : List (ℕ × Scope)) (w : Word) (l : Level) (e : Declared) → Each (λ (x : ℕ × Scope). AllNames x.1) kept → AllNames l.names → in_level kept w l ≡ Some e → P w e
-  level_so kept w l e h k f = by (in_names w l.names) refl f
-    where
-      by : (o : Option Declared) → in_names w l.names ≡ o → option_or o (in_names w (kept_at kept l.within)) ≡ Some e → P w e
-      by (Some x) g f = in_names_so w l.names e k (g ∙ f)
-      by None g f = in_names_so w (kept_at kept l.within) e (kept_so l.within kept h) f
+  -- ---- what a name means
 
-  pub alone_so : (o : Option Declared) (e : Declared) → alone o ≡ Some e → o ≡ Some e
+  -- what an open scope declares it as is so
+  pub level_so : (kept : List (ℕ × Scope)) (w : Word) (l : Level) (e : Declared) → AllNames l.names → AllNames (member_names kept l.within) → in_level kept w l ≡ Some e → P w e
+  level_so kept w l e h k f = elim (earliest_one (in_names w l.names) (in_names w (member_names kept l.within)) e f) [
+    | inl g ↦ in_names_so w l.names e h g
+    | inr g ↦ in_names_so w (member_names kept l.within) e k g
+  ]
+
+  alone_so : (o : Option Declared) (e : Declared) → alone o ≡ Some e → o ≡ Some e
   alone_so None e f = absurd (cc)
   alone_so (Some x) e f = by (is_of_channel x.denotes) f
     where
@@ -138,9 +149,10 @@ module _ (P : Word → Declared → Type 0) where
       by true g = absurd (cc)
       by false g = g
 
-  means_so : (kept : List (ℕ × Scope)) (w : Word) (outside : Bool) (levels : List Level) (e : Declared) → Each (λ (x : ℕ × Scope). AllNames x.1) kept → Each (λ (l : Level). AllNames l.names) levels → meaning_of kept w outside levels ≡ Some e → P w e
-  means_so kept w outside [] e h k f = absurd (cc)
-  means_so kept w outside (l ∷ outer) e h k f = by (λ g. means_so kept w (outside || is_body l.form) outer e h k.1 g) (alone (in_level kept w l)) refl f
+  -- what it means is what one of the open scopes declares it as
+  pub means_so : (kept : List (ℕ × Scope)) (w : Word) (outside : Bool) (levels : List Level) (e : Declared) → Each (λ (l : Level). (x : Declared) → in_level kept w l ≡ Some x → P w x) levels → meaning_of kept w outside levels ≡ Some e → P w e
+  means_so kept w outside [] e h f = absurd (cc)
+  means_so kept w outside (l ∷ outer) e h f = by (λ g. means_so kept w (outside || is_body l.form) outer e h.1 g) (alone (in_level kept w l)) refl f
     where
       seen_so : (x : Declared) (b : Bool) → (if b then None else Some x) ≡ Some e → x ≡ e
       seen_so x true g = absurd (cc)
@@ -148,7 +160,11 @@ module _ (P : Word → Declared → Type 0) where
 
       by : (meaning_of kept w (outside || is_body l.form) outer ≡ Some e → P w e) → (o : Option Declared) → alone (in_level kept w l) ≡ o → hiding outside o (meaning_of kept w (outside || is_body l.form) outer) ≡ Some e → P w e
       by more None g f = more f
-      by more (Some x) g f = subst (P w) (seen_so x (outside && is_private x.denotes) f) (level_so kept w l x h k.0 (alone_so (in_level kept w l) x g))
+      by more (Some x) g f = subst (P w) (seen_so x (outside && is_private x.denotes) f) (h.0 x (alone_so (in_level kept w l) x g))
+
+  meaning_so : (s : Scopes) (w : Word) (e : Declared) → Kept s → meaning s w ≡ Some e → P w e
+  meaning_so s w e h f =
+      means_so s.kept w false s.levels e (each_other (λ (l : Level). AllNames l.names) (λ (l : Level). (x : Declared) → in_level s.kept w l ≡ Some x → P w x) (λ l k x g. level_so s.kept w l x k (members_so l.within s.kept h.kept) g) s.levels h.levels) f
 
 -- ---- types
 
@@ -180,5 +196,4 @@ events_declare es (States at states initial transitions) o s = tt
 -- what is found as a type was declared as a type before
 pub type_found : (before : Events) (w : Word) (e : Declared) → meaning (after start before) w ≡ Some e → IsTypeOf (types_in before) w e
 type_found before w e f =
-    let k = after_so (IsTypeOf (types_in before)) start before (events_declare before) (record { levels = tt; kept = tt }) in
-    means_so (IsTypeOf (types_in before)) (after start before).kept w false (after start before).levels e k.kept k.levels f
+    meaning_so (IsTypeOf (types_in before)) (after start before) w e (after_so (IsTypeOf (types_in before)) start before (events_declare before) (record { levels = tt; kept = tt })) f

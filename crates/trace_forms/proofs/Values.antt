@@ -1,8 +1,7 @@
 -- Values in which each set rises: what operators give, and what a part of a value, or a value with another part, is.
-use Rattle.std.proofs.Common.{◌≡◌, ℕ, zero, suc, ◌+◌, Bool, true, false, ◌&&◌, List, [], ◌∷◌, map, replicate, ℤ, Result, Ok, Err, Option, Some, None, refl, sym, ap, subst, cond, ◌∙◌}
-use Rattle.std.specs.Prelude.{nat_le, slice_get, slice_set}
+use Rattle.std.proofs.Common.{◌≡◌, ℕ, zero, suc, Bool, true, false, List, [], ◌∷◌, map, replicate, ℤ, Result, Ok, Err, Option, Some, None, refl, sym, ap, subst, cond, ◌∙◌}
+use Rattle.std.specs.Prelude.{slice_get, slice_set}
 use Rattle.std.specs.List.{list_all, AllByRecursion}
-use Rattle.std.proofs.lemmas.Bool.{leb-true, le-leb}
 use Rattle.pascal_values.specs.declared.fault.Fault.{Fault}
 use Rattle.pascal_values.specs.declared.fault.Fault.TheVariants.{Unset, Range}
 use Rattle.pascal_values.specs.declared.value.Value.{Value, Value-F, out-Value, map-Value, fold_out-Value}
@@ -11,7 +10,7 @@ use Rattle.pascal_values.specs.declared.value.Value.TheVariants as value
 use Rattle.pascal_values.specs.declared.value.Shape.{Shape, roll-Shape, map-Shape}
 use Rattle.pascal_values.specs.declared.value.Shape.TheOpen.{Shape-F}
 use Rattle.pascal_values.specs.declared.value.Shape.TheFolds.{ind-Shape, fold-roll-Shape}
-use Rattle.pascal_values.specs.Sets.{IsRising, IsSet, union, intersection, difference}
+use Rattle.pascal_values.specs.Sets.{IsSet, union, intersection, difference}
 use Rattle.pascal_values.specs.Values.{parts_at, parts_of, with_parts_at, with_parts, into, part_of, changed_by, changed_at, with_part}
 use Rattle.pascal_values.specs.Shapes.{item_count, blank_of, blank_step, is_unset}
 use Rattle.pascal_values.proofs.SetLemmas.{IsSet-set_of}
@@ -26,25 +25,15 @@ use Rattle.estelle_model.specs.Types.{shape_of, ordinal_of, value_of, value_in, 
 use Rattle.estelle_tree.specs.declared.required.Required.{Required}
 use Rattle.estelle_tree.specs.declared.required.Required.TheVariants.{Abs, Sqr, Odd, Succ, Pred, Ord, Chr}
 use Rattle.estelle_model.specs.Operators.{◌>>>◌, int_of, bool_of, set_of_value, an_int, two_ints, by_kind, plus, minus, times, divided, modulo, signed, negation, related, beyond, stepped, is_odd, required_value}
+use Rattle.estelle_model.specs.Belonging.{rises}
 use Rattle.estelle_model.specs.Places.{set_value}
+use Rattle.estelle_model.proofs.Fitting.{is_rises}
 use Rattle.pascal_values.specs.Integers.{is_between, sum_of, difference_of, product_of, quotient_of, remainder_of}
 use Rattle.estelle_model.specs.Subject.{blanks}
 use Rattle.estelle_model_legality.proofs.Lists.{and_both, both_and}
 use Rattle.trace_forms.proofs.Lists.{all_at, all_tests}
 
 -- ---- a test of sets
-
-abbrev pub rises : ℕ → List ℕ → Bool
-rises low [] = nat_le low 256
-rises low (n ∷ ns) = nat_le low n && rises (n + 1) ns
-
-pub rises_is : (low : ℕ) (ns : List ℕ) → rises low ns ≡ true → IsRising low ns 256
-rises_is low [] h = leb-true low 256 h
-rises_is low (n ∷ ns) h = let b = and_both (nat_le low n) (rises (n + 1) ns) h in (leb-true low n b.0, rises_is (n + 1) ns b.1)
-
-is_rises : (low : ℕ) (ns : List ℕ) → IsRising low ns 256 → rises low ns ≡ true
-is_rises low [] h = le-leb low 256 h
-is_rises low (n ∷ ns) h = both_and (nat_le low n) (rises (n + 1) ns) (le-leb low n h.0) (is_rises (n + 1) ns h.1)
 
 abbrev pub sets_step : Value-F Bool → Bool
 sets_step (Value-F.Set ns) = rises 0 ns

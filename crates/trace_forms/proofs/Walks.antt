@@ -27,6 +27,7 @@ use Rattle.scope_rules.specs.declared.declaration.Denotes.{Denotes}
 use Rattle.scope_rules.specs.declared.declaration.Denotes.TheVariants as d
 use Rattle.scope_rules.specs.declared.declaration.Need.TheVariants as need
 use Rattle.scope_rules.specs.declared.declaration.Inside.TheVariants.{Nothing, At}
+use Rattle.scope_rules.specs.declared.declaration.Members.TheVariants as members
 use Rattle.scope_rules.specs.declared.event.ScopeForm.TheVariants as scope
 use Rattle.scope_rules.specs.declared.event.Event.TheVariants.{Open, Close, Keep, Declare, By}
 use Rattle.scope_rules.specs.TypeEvents.{Events, use_alone, declare, const_events, type_events, inside, typed_names}
@@ -35,7 +36,8 @@ use Rattle.scope_rules.specs.StatementEvents.{stmts}
 use Rattle.scope_rules.specs.DeclarationEvents as defining
 use Rattle.scope_rules.specs.DeclarationEvents.{formals, result_type, block_decl_events, routine}
 use Rattle.scope_rules.specs.SpecificationEvents.{param_group, params, inter, inter_group, channel, ip_decl, modvar_decl, stateset_def, header}
-use Rattle.scope_rules.specs.Scopes.{Word, Scopes, Level, after, after_one, is_body, declaration, declare_level, innermost, names_of_top, below}
+use Rattle.scope_rules.specs.Visible.{Scopes, Level, is_body}
+use Rattle.scope_rules.specs.Scopes.{after, after_one, declaration, declare_level, innermost, names_of_top, below}
 use Rattle.type_rules.specs.declared.types.Value.{Value}
 use Rattle.type_rules.specs.Meanings as rules
 use Rattle.type_rules.specs.Meanings.{Env, entity_at, const_value}
@@ -57,7 +59,7 @@ use Rattle.accepted_states.proofs.FineDeclarations.{const_def_fine, type_def_fin
 use Rattle.accepted_states.proofs.FineSpecification.{attr_less, may_be_params_fine, ip_fine, channel_fine, header_inside_fine, header_fine}
 use Rattle.trace_forms.proofs.Lists.{all_append, all_front, all_back, all_flat}
 use Rattle.trace_forms.proofs.TypesFound.{AllNames}
-use Rattle.trace_forms.proofs.InSight.{KeepsAway, below_are, named_are, one_kept, IsSound, IsSeenIn, InSight, names_stay, sound_stays, sight_stays}
+use Rattle.trace_forms.proofs.InSight.{KeepsAway, below_are, named_are, one_kept, NoHeader, IsSound, AreSound, IsSeenIn, InSight, names_stay, sight_stays}
 use Rattle.trace_forms.proofs.Typeless.{const_quiet}
 use Rattle.trace_forms.proofs.Keeps.{KeepsHere, AllKeep, less_onward, keep_earlier, quiet_keeps, type_keeps}
 use Rattle.trace_forms.proofs.Kept.{Kept}
@@ -72,7 +74,7 @@ use Rattle.trace_forms.proofs.Adds.{others_known, const_bring, Adds, AddsIn, typ
 
 -- ---- events that declare neither constants nor types nor headers
 
-plain_names : (K : Known) (xs : List Name) (kind : Denotes) → (kind ≡ d.Header → ⊥) → (kind ≡ d.Constant → ⊥) → (kind ≡ d.Type → ⊥) → (kind ≡ d.Header → ⊥) × AllByRecursion (λ (x : Name). NameKnown K x.word (declaration x kind None)) xs
+plain_names : (K : Known) (xs : List Name) (kind : Denotes) → (kind ≡ d.Header → ⊥) → (kind ≡ d.Constant → ⊥) → (kind ≡ d.Type → ⊥) → (kind ≡ d.Header → ⊥) × AllByRecursion (λ (x : Name). NameKnown K x.word (declaration x kind members.Nothing)) xs
 plain_names K xs kind a b c = (a, others_known K kind b c xs)
 
 group_bring : (K : Known) (g : ParamGroup) → AllBring K (param_group g)
@@ -242,7 +244,7 @@ module _ (names : List Used) (env : Env) where
     inter_held at by x u =
         let ss = parameter_sections x.params in
         let P = optional params x.params in
-        held_append names env K K K (sections_declare local 0 ss) (model.declare x.name (λ meant. mean.Interaction (record { channel = at; senders = by; parameters = section_types meant ss })) ∷ []) (idle_held names env K (sections_declare local 0 ss) (sections_idle local (λ meant n t. tt) 0 ss))
+        held_append names env K K K (sections_declare local 0 ss) (model.declare x.name (λ meant. mean.Interaction (record { channel = at; word = x.name.word; senders = by; parameters = section_types meant ss })) ∷ []) (idle_held names env K (sections_declare local 0 ss) (sections_idle local (λ meant n t. tt) 0 ss))
         ([], (λ meant told m. ((types_filled meant told ss (parameters_filled meant told x.params (uses_held names env K meant told m P (all_front (EventKnown names K) P (Keep x.name.span ∷ []) u.1.1))), tt), tt), refl))
 
     held_flat : {A : Type 0} (f : A → Events) (g : A → Declarations) → ((x : A) → UsesKnown names K (f x) → AllHeld names env K (g x) K) → (xs : List A) → UsesKnown names K (flat_map f xs) → AllHeld names env K (flat_map g xs) K
@@ -332,7 +334,7 @@ module _ (names : List Used) (env : Env) where
     s4 = after_one s3 (Keep x.name.span)
 
     abbrev own : Declared
-    own = declaration x.name d.Header (Some x.name.span.start)
+    own = declaration x.name d.Header (members.KeptAt x.name.span.start)
 
     own_seen : IsSeenIn (Past i) pending (NameKnown behind_it) s.kept st.top.form x.name.word own
     own_seen = (((λ is. absurd (cc), λ is. absurd (cc)), λ is. (x.name.span.start, (refl, inl refl))), λ no is. absurd (let f : true ≡ false = sym (ap is_body st.form) ∙ no in cc))
@@ -343,8 +345,7 @@ module _ (names : List Used) (env : Env) where
         record {
           text = base.text;
           levels = subst (InSight (Past i) pending (NameKnown behind_it) s.kept) (sym (ap (innermost (declare_level x.name.word own)) st.levels))
-              (named_are (IsSeenIn (Past i) pending (NameKnown behind_it) s.kept) (IsSound (Past i) pending (NameKnown behind_it) s.kept) x.name.word own st.top outer own_seen (subst (InSight (Past i) pending (NameKnown behind_it) s.kept) st.levels base.levels));
-          zero_sound = base.zero_sound;
+              (named_are (IsSeenIn (Past i) pending (NameKnown behind_it) s.kept) (AreSound (Past i) pending (NameKnown behind_it) s.kept) x.name.word own st.top outer own_seen (subst (InSight (Past i) pending (NameKnown behind_it) s.kept) st.levels base.levels));
         }
 
     joined : given ++ (points ++ (exported ++ keeping)) ≡ inner ++ keeping
@@ -368,20 +369,16 @@ module _ (names : List Used) (env : Env) where
     whole : Less i j
     whole = less_of (header_fine room x i j h)
 
-    -- what is asked of the names in it
-    abbrev InHeader : Word → Declared → Type 0
-    InHeader w e = NameKnown behind_it w e × (e.denotes ≡ d.Header → ⊥)
-
-    names_in_header : AllNames InHeader (names_of_top s3.levels)
+    names_in_header : AllNames (NoHeader (NameKnown behind_it)) (names_of_top s3.levels)
     names_in_header =
         let st3 = stands_at_end in
-        subst (λ ls. AllNames InHeader (names_of_top ls)) (sym st3.levels)
-        (names_stay (IsSeenIn (Past i) pending (NameKnown behind_it) s3.kept st3.top.form) InHeader (λ w e g. (g.0.0, g.1 (ap is_body st3.form))) st3.top.names (subst (InSight (Past i) pending (NameKnown behind_it) s3.kept) st3.levels at_end.levels).0.0)
+        subst (λ ls. AllNames (NoHeader (NameKnown behind_it)) (names_of_top ls)) (sym st3.levels)
+        (names_stay (IsSeenIn (Past i) pending (NameKnown behind_it) s3.kept st3.top.form) (NoHeader (NameKnown behind_it)) (λ w e g. (g.0.0, g.1 (ap is_body st3.form))) st3.top.names (subst (InSight (Past i) pending (NameKnown behind_it) s3.kept) st3.levels at_end.levels).0.0)
 
     sound : IsSound (Past j) closed (NameKnown behind_it) s4.kept x.name.span.start
     sound = (
       past_later h.after_name j (less_of (header_inside_fine room x i j h)) x.name.span.start (name_past h.name.item (text_later (less_takes h.name.mark) sight.text)),
-      subst (AllNames InHeader) (sym (put_here x.name.span.start (names_of_top s3.levels) s3.kept)) names_in_header,
+      subst (AllNames (NoHeader (NameKnown behind_it))) (sym (put_here x.name.span.start (names_of_top s3.levels) s3.kept)) names_in_header,
     )
 
     turned : (p : ℕ) → pending p → closed p ⊎ IsSound (Past j) closed (NameKnown behind_it) s4.kept p
@@ -391,8 +388,7 @@ module _ (names : List Used) (env : Env) where
     behind = record {
       text = text_later whole sight.text;
       levels = sight_stays (Past i) (Past j) pending closed (NameKnown behind_it) (NameKnown behind_it) s3.kept s4.kept (past_later i j whole) turned (λ w e g. g) (one_kept (Past i) s3 (Keep x.name.span) away) (below s3.levels)
-          (below_are (IsSeenIn (Past i) pending (NameKnown behind_it) s3.kept) (IsSound (Past i) pending (NameKnown behind_it) s3.kept) s3.levels at_end.levels);
-      zero_sound = sound_stays (Past i) (Past j) pending closed (NameKnown behind_it) (NameKnown behind_it) s3.kept s4.kept (past_later i j whole) turned (λ w e g. g) (one_kept (Past i) s3 (Keep x.name.span) away) 0 at_end.zero_sound;
+          (below_are (IsSeenIn (Past i) pending (NameKnown behind_it) s3.kept) (AreSound (Past i) pending (NameKnown behind_it) s3.kept) s3.levels at_end.levels);
     }
 
     held : AllHeld names env K (header_declares by_default x) behind_it

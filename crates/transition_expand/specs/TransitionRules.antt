@@ -17,13 +17,12 @@ use Rattle.estelle_model.specs.Meant.{Meanings}
 use Rattle.estelle_model.specs.Transitions.{Choice}
 use Rattle.estelle_model.specs.Subject.{meant_with}
 use Rattle.scope_rules.specs.declared.refusal.Breach.{Breach}
-use Rattle.type_rules.specs.declared.types.Host.{Host}
 use Rattle.type_rules.specs.declared.types.Host.TheVariants as host
 use Rattle.type_rules.specs.declared.types.PascalType.{PascalType}
 use Rattle.type_rules.specs.declared.types.Value.{Value}
 use Rattle.type_rules.specs.declared.types.Denoted.{Denoted}
-use Rattle.type_rules.specs.Types.{same_host, fails, is_ordinal, is_whole_integer}
-use Rattle.type_rules.specs.Meanings.{Env, declaration_of, const_host, const_value, signed_number}
+use Rattle.type_rules.specs.Types.{same_host, fails, is_ordinal, is_integer, is_whole_integer}
+use Rattle.type_rules.specs.Meanings.{Env, declaration_of, const_value, signed_number}
 use Rattle.type_rules.specs.TypeSites.{ordinal_type}
 use Rattle.type_rules.specs.SpecificationSites.{env}
 use Rattle.flat_transitions.specs.Flat.{transitions_in}
@@ -41,28 +40,23 @@ together a c = []
 
 -- ---- 31: a constant of `priority` is negative or no integer; at the constant
 
-abbrev pub is_negative : Option Value → Bool
-is_negative None = false
-is_negative (Some v) = int_lt v.ordinal (pos 0)
+-- a constant has no value, or one that is negative or no integer
+abbrev pub is_no_number : Option Value → Bool
+is_no_number None = true
+is_no_number (Some v) = not (same_host v.host host.Integer) || int_lt v.ordinal (pos 0)
 
 -- with this sign before it some value of a domain is negative, of which the least or the greatest is then one
-abbrev pub has_negative : Option Sign → Option Denoted → Bool
-has_negative s None = false
-has_negative s (Some d) = not (int_lt d.greatest d.least) && (int_lt (signed_number s d.least) (pos 0) || int_lt (signed_number s d.greatest) (pos 0))
+abbrev pub has_negative : Option Sign → Denoted → Bool
+has_negative s d = not (int_lt d.greatest d.least) && (int_lt (signed_number s d.least) (pos 0) || int_lt (signed_number s d.greatest) (pos 0))
 
--- a name of `any` is a constant with each value of its domain
-abbrev pub is_chosen_negative : Known → Const → Bool
-is_chosen_negative k (const.Name s x span) = has_negative s (domain_of k (declaration_of k.types x))
-is_chosen_negative k c = false
-
--- by the type of a constant; one that has none is at fault itself
-abbrev pub is_wrong : Option Host → Bool → Bool
-is_wrong None negative = false
-is_wrong (Some host.Integer) negative = negative
-is_wrong (Some h) negative = true
+-- a name of `any` is a constant with each value of its domain; a domain without a type breaks the rule on domains
+abbrev pub is_wrong : Option Sign → Option Denoted → Option Value → Bool
+is_wrong s None v = is_no_number v
+is_wrong s (Some d) v = fails (λ u. is_integer u && not (has_negative s d)) d.type_
 
 abbrev pub is_no_priority : Known → Const → Bool
-is_no_priority k c = is_wrong (const_host k.types c) (is_negative (const_value k.types c) || is_chosen_negative k c)
+is_no_priority k (const.Name s x span) = is_wrong s (domain_of k (declaration_of k.types x)) (const_value k.types (const.Name s x span))
+is_no_priority k c = is_no_number (const_value k.types c)
 
 abbrev pub wrong_priority : Known → Clause → List Breach
 wrong_priority k (clause.Priority c span) = where_ (is_no_priority k c) (breach 31 (of_const c) ∷ [])
@@ -75,9 +69,10 @@ are_no_bounds None high = true
 are_no_bounds (Some low) None = true
 are_no_bounds (Some low) (Some high) = not (same_host low.host high.host)
 
--- a type has no values to choose from; one that is at fault itself is not judged
+-- there is no type with values to choose from
 abbrev pub is_no_choice : Option PascalType → Bool
-is_no_choice = fails (λ u. is_ordinal u && not (is_whole_integer u))
+is_no_choice None = true
+is_no_choice (Some u) = not (is_ordinal u && not (is_whole_integer u))
 
 abbrev pub is_no_domain : Env → Ordinal → Bool
 is_no_domain e (ordinal.Name x) = is_no_choice (ordinal_type e (ordinal.Name x)).type_

@@ -1,7 +1,8 @@
 //! What a clause breaks.
 
-ghost use Rattle.std.specs.Prelude.{◌≡◌};
+ghost use Rattle.std.specs.Prelude.{◌≡◌, ◌&&◌, not};
 ghost use Rattle.std.specs.List.{flat_map};
+ghost use Rattle.type_rules.specs.Types.{fails, is_integer};
 ghost use Rattle.transition_expand.specs.TransitionRules as spec;
 ghost use Rattle.tree_visits.specs.Nodes.{around};
 ghost use Rattle.visit_rules.specs.Breaches.{noted_all};
@@ -12,61 +13,61 @@ use estelle_tree::{AnyDom, Clause, Const, Ordinal, Sequence, Sign};
 use scope_rules::Breach;
 use tree_visits::Within;
 use type_rules::{
-    Denoted, Host, PascalType, Value, is_ordinal, is_whole_integer, same_host, signed_number,
+    Denoted, Host, PascalType, Value, is_integer, is_ordinal, is_whole_integer, same_host,
+    signed_number,
 };
 use visit_rules::noted_where;
 
-fn is_negative(value: Option<Value>) -> bool
-    ensures { result ≡ spec.is_negative value }
+/// Whether a constant has no value, or one that is negative or no integer.
+fn is_no_number(value: Option<Value>) -> bool
+    ensures { result ≡ spec.is_no_number value }
 {
     match value {
-        None => false,
-        Some(value) => value.ordinal < 0,
+        None => true,
+        Some(value) => !same_host(value.host, Host::Integer) || value.ordinal < 0,
     }
 }
 
-fn has_negative(sign: Option<Sign>, domain: Option<Denoted>) -> bool
+/// Whether some value of a domain is negative, with this sign before it.
+fn has_negative(sign: Option<Sign>, domain: Denoted) -> bool
     ensures { result ≡ spec.has_negative sign domain }
 {
+    let least = signed_number(sign, domain.least);
+    let greatest = signed_number(sign, domain.greatest);
+    domain.least <= domain.greatest && (least < 0 || greatest < 0)
+}
+
+/// Whether some value of a domain is negative or no integer. A domain without a type is not judged here.
+fn has_no_number(sign: Option<Sign>, domain: Denoted) -> bool
+    ensures { result ≡ fails (λ u. is_integer u && not (spec.has_negative sign domain)) domain.type_ }
+{
+    match domain.type_ {
+        None => false,
+        Some(u) => !(is_integer(u) && !has_negative(sign, domain)),
+    }
+}
+
+fn is_wrong(sign: Option<Sign>, domain: Option<Denoted>, value: Option<Value>) -> bool
+    ensures { result ≡ spec.is_wrong sign domain value }
+{
     match domain {
-        None => false,
-        Some(domain) => {
-            let least = signed_number(sign, domain.least);
-            let greatest = signed_number(sign, domain.greatest);
-            domain.least <= domain.greatest && (least < 0 || greatest < 0)
-        }
+        None => is_no_number(value),
+        Some(domain) => has_no_number(sign, domain),
     }
 }
 
-fn is_chosen_negative(domains: &Domains, constant: &Const) -> bool
-    ensures { result ≡ spec.is_chosen_negative domains.now constant.now }
-{
-    match constant {
-        Const::Name { sign, name, .. } => {
-            let declared = domains.types().declaration_of(name);
-            has_negative(*sign, domains.domain_of(declared))
-        }
-        _ => false,
-    }
-}
-
-fn is_wrong(host: Option<Host>, negative: bool) -> bool
-    ensures { result ≡ spec.is_wrong host negative }
-{
-    match host {
-        None => false,
-        Some(Host::Integer) => negative,
-        Some(_) => true,
-    }
-}
-
-/// Whether a constant of `priority` is negative or no integer. One without a type is at fault itself, and not judged.
+/// Whether a constant of `priority` is negative or no integer.
 fn is_no_priority(domains: &Domains, constant: &Const) -> bool
     ensures { result ≡ spec.is_no_priority domains.now constant.now }
 {
-    let negative = is_negative(domains.types().const_value(constant))
-        || is_chosen_negative(domains, constant);
-    is_wrong(domains.types().const_host(constant), negative)
+    let value = domains.types().const_value(constant);
+    match constant {
+        Const::Name { sign, name, .. } => {
+            let declared = domains.types().declaration_of(name);
+            is_wrong(*sign, domains.domain_of(declared), value)
+        }
+        Const::Number { .. } | Const::Char { .. } => is_no_number(value),
+    }
 }
 
 fn are_no_bounds(low: Option<Value>, high: Option<Value>) -> bool
@@ -82,12 +83,12 @@ fn is_no_choice(u: Option<PascalType>) -> bool
     ensures { result ≡ spec.is_no_choice u }
 {
     match u {
-        None => false,
+        None => true,
         Some(u) => !(is_ordinal(u) && !is_whole_integer(u)),
     }
 }
 
-/// Whether a domain is integer or no ordinal type, or a subrange without bounds of one type.
+/// Whether a domain is integer or no ordinal type, or its bounds have no values of one type.
 fn is_no_domain(types: &Table, domain: &Ordinal) -> bool
     ensures { result ≡ spec.is_no_domain types.now domain.now }
 {

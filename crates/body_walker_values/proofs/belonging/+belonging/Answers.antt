@@ -12,4 +12,4 @@ pub fields_belong-loop-i-preserved : goal.fields_belong-loop-i-preserved
 fields_belong-loop-i-preserved t c = values_more c.args.fields.now c.args.values.now c.loop-i.i c.index-fields-i.result c.index-values-i.result c.loop-i-test.true (omega arith) c.index-fields-i.is c.index-values-i.is c.if-not-belongs.false c.belongs.ensures c.loop-i.invariant
 
 pub belongs-returns-in_default : goal.belongs-returns-in_default
-belongs-returns-in_default t c = c.lies_within.ensures ∙ simple_belongs c.args.denoter.now c.args.value.now c.in_default.not-Array c.in_default.not-Fields
+belongs-returns-in_default t c = c.lies_within.ensures ∙ simple_belongs c.args.denoter.now c.args.value.now c.in_default.not-Array c.in_default.not-Fields c.in_default.not-Set

@@ -1,14 +1,17 @@
-use Rattle.estelle_cli.proofs.Places.{place_inside}
+use Rattle.std.proofs.Common.{◌∙◌, ap}
+use Rattle.estelle_cli.specs.Input.{place_of}
 use Rattle.estelle_cli.proofs.input.tree.Goals as goal
 
 pub returns-in-Err-At-clause-cause : goal.returns-in-Err-At-clause-cause
 returns-in-Err-At-clause-cause c =
     let cut = c.in_ok-tokens.ensures in
+    let at = rw c.in-Err-At.field-0-is at c.in-Err-At.ensures.place in
     record {
       tokens = c.in_ok-tokens.tokens.items;
       read = cut.found;
       none = rw c.in-Err-At.field-0-is at c.in-Err-At.ensures.only;
-      at = c.in-Err-At.at;
-      inside = place_inside c.in_ok-tokens.tokens.items c.in_ok-tokens.tokens.rest _ c.in-Err-At.at (rw c.in-Err-At.field-0-is at c.in-Err-At.ensures.place) cut.spans cut.rest;
-      place = c.place.ensures;
+      rest = c.in_ok-tokens.tokens.rest;
+      lexed = cut.lexed;
+      before = at.0;
+      place = c.place.ensures ∙ ap (place_of c.args.bytes.now) at.1;
     }

@@ -7,8 +7,8 @@ told-requires c =
     let bytes = c.args.bytes.now in
     omega (arith, c.requires.reads.text.read.within, length-take (length bytes - c.args.at) (drop c.args.at bytes), length-drop c.args.at bytes)
 
-pub confirmed-requires-clause-counted : goal.confirmed-requires-clause-counted
-confirmed-requires-clause-counted c =
+pub confirmed-requires : goal.confirmed-requires
+confirmed-requires c =
     let bytes = c.args.bytes.now in
     let short : length (take (length bytes - c.args.at) (drop c.args.at bytes)) < 2147483648 = omega (arith, c.requires.reads.text.read.within, length-take (length bytes - c.args.at) (drop c.args.at bytes), length-drop c.args.at bytes) in
-    few_events _ c.in-Ok.run'.events c.in-Ok.end c.in-Ok.ensures.found short
+    record { counted = few_events _ c.in-Ok.run'.events c.in-Ok.end c.in-Ok.ensures.found short }

@@ -7,6 +7,6 @@ use Rattle.scope_names.proofs.judge.judge_steps.Given as goal
 
 abbrev pub invariant-loop-step : goal.invariant-loop-step
 invariant-loop-step l = record {
-  first : noting.misuses l.first (spec.sought_steps l.table l.at (drop l.step-index l.steps)) ≡ noting.misuses l.initial.first (spec.sought_steps l.table l.initial.at l.steps);
-  uses : l.uses ++ flat_map used (spec.sought_steps l.table l.at (drop l.step-index l.steps)) ≡ l.initial.uses ++ flat_map used (spec.sought_steps l.table l.initial.at l.steps);
+  first : noting.misuses l.first (spec.sought_steps l.table l.among (drop l.step-index l.steps)) ≡ noting.misuses l.initial.first (spec.sought_steps l.table l.initial.among l.steps);
+  uses : l.uses ++ flat_map used (spec.sought_steps l.table l.among (drop l.step-index l.steps)) ≡ l.initial.uses ++ flat_map used (spec.sought_steps l.table l.initial.among l.steps);
 }

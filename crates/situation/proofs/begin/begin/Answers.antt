@@ -9,8 +9,8 @@ start-requires g c =
     let m = record f { history = c.reserve.new.self } in
     let n = c.reserve-2.new.self in
     let fresh = fresh_still c.args.program.now c.args.limits c.args.chooser f m n c.in_ok-course.ensures c.reserve.ensures.kept c.reserve-2.ensures.same c.reserve-2.ensures.notes c.reserve-2.ensures.rest in
-    let job = c.start_job.result in
-    let first : IsStart c.args.limits.budget job = record { trans = ap (λ (j : Job). j.trans) c.start_job.ensures; path = ap (λ (j : Job). j.path) c.start_job.ensures; units = ap (λ (j : Job). j.budget) c.start_job.ensures } in
+    let job = c.in_ok-job.job in
+    let first : IsStart c.args.limits.budget job = record { trans = ap (λ (j : Job). j.trans) c.in_ok-job.ensures.job; path = ap (λ (j : Job). j.path) c.in_ok-job.ensures.job; units = ap (λ (j : Job). j.budget) c.in_ok-job.ensures.job } in
     may_start c.args.program.now c.args.limits c.args.chooser c.requires.leads c.requires.room job first c.in_ok-done.done c.in_ok-done.ensures.answers n fresh c.in_ok-reserve-2.ensures.room (spare_still c.args.program.now c.args.limits c.args.chooser f m n c.reserve-2.ensures.rest c.in_ok-reserve.ensures.room)
 
 pub returns : goal.returns
@@ -19,6 +19,6 @@ returns g c =
     let m = record f { history = c.reserve.new.self } in
     let n = c.reserve-2.new.self in
     let fresh = fresh_still c.args.program.now c.args.limits c.args.chooser f m n c.in_ok-course.ensures c.reserve.ensures.kept c.reserve-2.ensures.same c.reserve-2.ensures.notes c.reserve-2.ensures.rest in
-    let job = c.start_job.result in
-    let first : IsStart c.args.limits.budget job = record { trans = ap (λ (j : Job). j.trans) c.start_job.ensures; path = ap (λ (j : Job). j.path) c.start_job.ensures; units = ap (λ (j : Job). j.budget) c.start_job.ensures } in
+    let job = c.in_ok-job.job in
+    let first : IsStart c.args.limits.budget job = record { trans = ap (λ (j : Job). j.trans) c.in_ok-job.ensures.job; path = ap (λ (j : Job). j.path) c.in_ok-job.ensures.job; units = ap (λ (j : Job). j.budget) c.in_ok-job.ensures.job } in
     has_begun c.args.program.now c.args.limits c.args.chooser c.requires.leads c.requires.room job first c.in_ok-done.done c.in_ok-done.ensures.answers g.H.Chooser.draw n c.start.new.self c.find_systems.new.self fresh c.start.ensures c.in_ok-find_systems.ensures

@@ -7,9 +7,9 @@ pub invariant_of-result : goal.invariant_of-result
 invariant_of-result c =
     let same : c.in-Ok.names ≡ names c.args.spec = ap (λ u. record { uses = u }) c.in-Ok.ensures.names in
     record {
+      spelled = ∣ c.requires.spelled ∣₁;
       named = c.in-Ok.ensures.names;
       kept = none_broken c.args.spec c.in-Ok.names same c.in-Ok.ensures.kept c.in-Ok-None.field-0 c.in-Ok-None.field-0-is c.in-Ok-None.ensures.first;
-      listed = c.in-Ok-flat_list.ensures;
     }
 
 pub returns-in-Ok-Some-clause-refused : goal.returns-in-Ok-Some-clause-refused

@@ -5,7 +5,6 @@ use Rattle.estelle_model.specs.declared.event.Event.{Event}
 use Rattle.estelle_model.specs.Runs.{IsRun}
 use Rattle.estelle_model_fates.specs.Fates.{HaveOneFate}
 use Rattle.estelle_model_fates.specs.Order.{AreFirstInFirstOut}
-use Rattle.estelle_model_legality.specs.Instances.{LeadsToStates}
 use Rattle.trace_check.specs.Replays.{HasBegun}
 use Rattle.trace_check.proofs.Judged.{empty_if, told_of}
 use Rattle.trace_check.proofs.Refusing.{no_events, wrong_first}
@@ -17,27 +16,28 @@ returns-in_default-clause-refused c =
 
 pub returns-in-None-clause-refused : goal.returns-in-None-clause-refused
 returns-in-None-clause-refused c =
-    let s = c.args.program.now in
+    let s = c.program.result.now in
     let b = c.args.budget in
     let es = c.as_slice-events.result.now in
     let wrong = subst (λ x. MatchOption x (IsRun s b (take 1 es) → ⊥) (HasBegun s b es)) c.in-None.is c.in_ok-begun.ensures in
     let within : 0 < length es = slice_get_within es 0 c.in-Some.first.now (sym c.in-Some.ensures.value) in
-    wrong_first s b c.args.run.now.events c.args.end (subst (λ (xs : List Event). 0 < length xs) c.as_slice-events.ensures within) (subst (λ (xs : List Event). IsRun s b (take 1 xs) → ⊥) c.as_slice-events.ensures wrong)
+    rw (← c.program.ensures.same)
+    (wrong_first s b c.args.run.now.events c.args.end (subst (λ (xs : List Event). 0 < length xs) c.as_slice-events.ensures within) (subst (λ (xs : List Event). IsRun s b (take 1 xs) → ⊥) c.as_slice-events.ensures wrong))
 
 pub returns-in-Some-begun-clause-fates : goal.returns-in-Some-begun-clause-fates
 returns-in-Some-begun-clause-fates c =
-    let s = c.args.program.now in
+    let s = c.program.result.now in
     let b = c.args.budget in
     let es = c.as_slice-events.result.now in
     let l = c.in-Some-begun.replay in
     let begun = subst (λ x. MatchOption x (IsRun s b (take 1 es) → ⊥) (HasBegun s b es)) c.in-Some-begun.is c.in_ok-begun.ensures in
-    told_of HaveOneFate c.judge_rest.result s b es c.args.run.now.events l begun.of c.as_slice-events.ensures c.judge_rest.ensures.fates
+    rw (← c.program.ensures.same) (told_of HaveOneFate c.judge_rest.result s b es c.args.run.now.events l begun.of c.as_slice-events.ensures c.judge_rest.ensures.fates)
 
 pub returns-in-Some-begun-clause-order : goal.returns-in-Some-begun-clause-order
 returns-in-Some-begun-clause-order c =
-    let s = c.args.program.now in
+    let s = c.program.result.now in
     let b = c.args.budget in
     let es = c.as_slice-events.result.now in
     let l = c.in-Some-begun.replay in
     let begun = subst (λ x. MatchOption x (IsRun s b (take 1 es) → ⊥) (HasBegun s b es)) c.in-Some-begun.is c.in_ok-begun.ensures in
-    told_of (λ s b told. LeadsToStates s → AreFirstInFirstOut s b told) c.judge_rest.result s b es c.args.run.now.events l begun.of c.as_slice-events.ensures c.judge_rest.ensures.order
+    rw (← c.program.ensures.same) (told_of AreFirstInFirstOut c.judge_rest.result s b es c.args.run.now.events l begun.of c.as_slice-events.ensures c.judge_rest.ensures.order)

@@ -1,4 +1,4 @@
-use Rattle.std.proofs.Common.{◌≡◌, ◌<◌, ◌≤◌, length, ◌∙◌, arith}
+use Rattle.std.proofs.Common.{◌≡◌, ◌<◌, ◌≤◌, length, ◌∙◌, subst, arith}
 use Rattle.trace_check.specs.Judging.{IsRunTo}
 use Rattle.trace_check.proofs.Deciding.{is_so, not_so}
 use Rattle.trace_check.proofs.Judged.{event_wrong, end_wrong, all_right, some_event}
@@ -27,10 +27,10 @@ returns-then-branch-clause-fates c =
     c.outputs_have_one_fate.ensures.one r.program.now r.budget r.events.now to.run
 
 pub returns-then-branch-clause-order : goal.returns-then-branch-clause-order
-returns-then-branch-clause-order c = λ leads.
+returns-then-branch-clause-order c =
     let r = c.args.replay in
     let to : IsRunTo r.program.now r.budget r.events.now c.args.end = returns-then-branch-clause-run c in
-    c.first_in_is_first_out.ensures.first r.program.now leads r.budget r.events.now to.run
+    c.first_in_is_first_out.ensures.first r.program.now c.requires.leads r.budget r.events.now to.run
 
 pub returns-clause-refused : goal.returns-clause-refused
 returns-clause-refused c =

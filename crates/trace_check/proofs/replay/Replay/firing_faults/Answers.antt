@@ -10,7 +10,7 @@ returns-in-None c =
     let r = c.args.self.now in
     let o = c.requires.open in
     let there = pending_there r o c.args.path.now c.args.trans c.args.at c.requires.place in
-    let answers = c.in_ok-done.ensures (record { path = c.args.path.now; trans = c.args.trans }) c.requires.place.there in
+    let answers = (c.in_ok-done.ensures (record { path = c.args.path.now; trans = c.args.trans }) c.requires.place.there).0 in
     never (no_fault r.program.now r.budget (now r) o.going.legal c.args.path.now c.args.trans there c.in_ok-done.done answers (ran_if c.in_ok-done.done.outcome (sym c.in-None.ensures)) c.args.kind)
 
 pub returns : goal.returns
@@ -18,7 +18,7 @@ returns c =
     let r = c.args.self.now in
     let o = c.requires.open in
     let there = pending_there r o c.args.path.now c.args.trans c.args.at c.requires.place in
-    let answers = c.in_ok-done.ensures (record { path = c.args.path.now; trans = c.args.trans }) c.requires.place.there in
+    let answers = (c.in_ok-done.ensures (record { path = c.args.path.now; trans = c.args.trans }) c.requires.place.there).0 in
     let is = failed_if c.in_ok-done.done.outcome c.in-Some.own (sym c.in-Some.ensures) in
     as_well c.same_kind.result c.same_kind.ensures
     (faults_so r.program.now r.budget (now r) o.going.legal c.args.path.now c.args.trans there c.in_ok-done.done answers c.in-Some.own is c.args.kind)

@@ -1,0 +1,192 @@
+#!/bin/sh
+# Looks up each crate, file, call, clause and definition that docs/PROMISES.md names in backquotes, and fails where one is gone. It
+# proves nothing: that a clause says what the document says of it, a reader must see. It is no part of the merge gate.
+#
+# usage: bench/promises.sh
+#
+# What stands behind the name of a crate in bold letters, up to the next one or a heading, is looked up in that crate and in those
+# that its paragraph names besides, a definition also in all on which these stand; what stands elsewhere, in all crates. Behind
+# `clause` or `clauses`, and in the first cell of a row, it must be the name of a clause (`ensures NAME`) or of a part of a
+# definition; in brackets right behind a call that of a clause of this call, or of a definition or a call; else it may be that of a
+# type or a field too. Each crate must have its name in bold letters.
+set -u
+top=$(cd "$(dirname "$0")/.." && pwd)
+document=docs/PROMISES.md
+folder=$(mktemp -d)
+trap 'rm -rf "$folder"' EXIT
+cd "$top" || exit 1
+
+# Words of the language, the command line and the answers: the crate in whose paragraph they stand, and the word.
+cat >"$folder/words" <<'END'
+estelle_tree else
+pascal_values mod
+pascal_values 0..b-1
+statement_parser else
+statement_parser if
+pascal_parser (
+pascal_parser not
+pascal_parser begin
+clause_parser trans
+body_table any
+body_walker_program any
+estelle_cli run
+estelle_cli check
+estelle_cli show
+estelle_cli replay
+estelle_cli make
+estelle_cli trial
+estelle_cli accepted
+estelle_cli accepted N
+estelle_cli end.
+END
+
+# (a crate, and those on which it stands)
+sed -n '/^#/d; s/^\([a-z0-9_]*\)[^:]*:/\1/p' crates.txt >"$folder/crates"
+find estelle README.md bench docs examples crates -name out -prune -o -print | sed 's|^\./||' >"$folder/files"
+
+# What there is: a crate, a kind (`contract`, `clause` with its call, `code` or `definition`) and a name.
+grep '^crates/[a-z0-9_]*/\(src/.*\.rt\|specs/.*\.antt\)$' "$folder/files" | while read -r file; do
+    awk -v crate="$(echo "$file" | cut -d/ -f2)" '
+        function told(kind, name) { if (name != "" && name !~ /\.$/) print crate, kind, name }
+        function first_name(text) { return match(text, /^[A-Za-z_][A-Za-z0-9_]*/) ? substr(text, 1, RLENGTH) : "" }
+        # the text behind the type parameters at its beginning
+        function behind_brackets(text,   depth, at, c) {
+            if (text !~ /^</) return text
+            for (at = 1; at <= length(text); at++) {
+                c = substr(text, at, 1)
+                if (c == "<") depth++
+                if (c == ">" && --depth == 0) return substr(text, at + 2)
+            }
+            return ""
+        }
+        FILENAME ~ /\.rt$/ {
+            text = $0
+            if (text ~ /^[ \t]*\/\//) next
+            if (match(text, /(^|[ \t])(ensures\*?|requires\*?|ghost) [a-z_0-9]+ *[{:=]/)) {
+                part = substr(text, RSTART, RLENGTH); sub(/^[ \t]*[a-z]*\*? /, "", part); told("contract", first_name(part)); told("clause", call "." first_name(part))
+            }
+            if (text ~ /^(pub(\([a-z]*\))? )?(impl|trait)/) {
+                owner = text
+                sub(/^pub(\([a-z]*\))? /, "", owner)
+                if (owner ~ / for /) sub(/^.* for &?/, "", owner)
+                else { sub(/^(impl|trait) */, "", owner); owner = behind_brackets(owner) }
+                owner = first_name(owner)
+            } else if (text ~ /^}/) owner = ""
+            if (match(text, /(^|[ \t])fn [a-z_0-9]+/)) {
+                part = substr(text, RSTART, RLENGTH); sub(/^[ \t]*fn /, "", part); told("code", part); call = part
+                if (owner != "") told("code", owner "::" part)
+            }
+            if (match(text, /^[ \t]*(pub(\([a-z]*\))? )?(struct|enum|trait|type) [A-Za-z0-9_]+/)) {
+                part = substr(text, RSTART, RLENGTH); sub(/^.* /, "", part); told("code", part)
+            }
+            if (text ~ /^    [A-Z][A-Za-z0-9]*(,|\(.*\),| \{)$/) { sub(/^ */, "", text); told("code", first_name(text)) }
+            if (match(text, /^[ \t]*pub [a-z_0-9]+:/)) { part = substr(text, RSTART, RLENGTH - 1); sub(/^[ \t]*pub /, "", part); told("code", part) }
+        }
+        FILENAME ~ /\.antt$/ {
+            text = $0
+            if (text ~ /^[ \t]*(--|use |pub use |mod |pub mod )/) next
+            if (match(text, /^[ \t]*((abbrev|record|data|unfoldable|pub) )*[A-Za-z_][A-Za-z0-9_]* (.*)?:|^[ \t]*((abbrev|record|data|unfoldable|pub) )+[A-Za-z_][A-Za-z0-9_]*/)) {
+                part = text; sub(/^[ \t]*/, "", part)
+                while (part ~ /^(abbrev|record|data|unfoldable|pub) /) sub(/^[a-z]* /, "", part)
+                told("definition", first_name(part))
+            }
+        }
+    ' "$file"
+done | sort -u >"$folder/index"
+
+awk -v document="$document" -v folder="$folder" '
+    BEGIN {
+        while ((getline line < (folder "/crates")) > 0) { split(line, w, " "); is_crate[w[1]] = 1; line = substr(line, length(w[1]) + 1); below[w[1]] = line }
+        while ((getline line < (folder "/files")) > 0) is_file[line] = 1
+        while ((getline line < (folder "/index")) > 0) { split(line, w, " "); there[w[1], w[2], w[3]] = 1; anywhere[w[2], w[3]] = 1 }
+        while ((getline line < (folder "/words")) > 0) { at = index(line, " "); word[substr(line, 1, at - 1), substr(line, at + 1)] = 1 }
+    }
+    # the name has one of these kinds in a crate of the paragraph, or, unless it is to be a clause, is defined below one
+    function is_there(name, kinds,   count, kind, i, c) {
+        count = split(kinds, kind, " ")
+        for (i = 1; i <= count; i++) {
+            if (home == "-") { if ((kind[i], name) in anywhere) return 1 }
+            else for (c in scope) if ((c, kind[i], name) in there) return 1
+        }
+        if (home == "-" || kinds !~ /code$/) return 0
+        delete seen
+        for (c in scope) if (is_below(name, c)) return 1
+        return 0
+    }
+    # a crate, or one below it, defines the name
+    function is_below(name, crate,   count, lower, i) {
+        if (crate in seen) return 0
+        seen[crate] = 1
+        if ((crate, "definition", name) in there) return 1
+        count = split(below[crate], lower, " ")
+        for (i = 1; i <= count; i++) if (is_below(name, lower[i])) return 1
+        return 0
+    }
+    function glob_found(name,   pattern, f, c) {
+        pattern = name; gsub(/[.+]/, "[&]", pattern); gsub(/\*/, "[^/]*", pattern)
+        for (f in is_file) {
+            if (f ~ ("^(docs/|crates/)?" pattern "/?$")) return 1
+            for (c in scope) if (f ~ ("^crates/" c "/" pattern "/?$")) return 1
+            if (home == "-" && f ~ ("^crates/[a-z0-9_]*/" pattern "/?$")) return 1
+        }
+        return 0
+    }
+    function judge(name, is_clause, call,   bare) {
+        tried++
+        if ((home, name) in word) return
+        if (name in is_crate && !is_clause) return
+        if (name ~ /\// || name ~ /\.(md|antt|rt|sh)$/) {
+            bare = name
+            gsub(/^\.\/|\/$/, "", bare)
+            if (bare in is_file || glob_found(bare)) return
+        } else if (is_clause) { if (is_there(name, "contract definition")) return }
+        else if (call != "") { if (is_there(call "." name, "clause") || is_there(name, "definition code")) return }
+        else if (is_there(name, "contract definition code")) return
+        failed++
+        printf "FAILED: %s, the part that begins in line %d (%s): `%s`%s\n", document, start, home == "-" ? "any crate" : home, name,
+            is_clause ? ", as a clause" : call == "" ? "" : ", of the call `" call "`"
+    }
+    function close_paragraph(   pieces, count, i) {
+        if (paragraph == "") return
+        if (match(paragraph, /^\*\*`[a-z_0-9]*`\*\*/)) {
+            home = substr(paragraph, 4, RLENGTH - 6)
+            if (!(home in is_crate)) home = "-"
+        }
+        delete scope
+        scope[home] = 1
+        count = split(paragraph, pieces, "`")
+        for (i = 2; i <= count; i += 2) if (pieces[i] in is_crate) {
+            scope[pieces[i]] = 1
+            if (pieces[i - 1] ~ /\*\*$/) told[pieces[i]] = 1
+        }
+        for (i = 2; i <= count; i += 2) judge(pieces[i], is_clause_at(pieces, i), call_before(pieces, i))
+        paragraph = ""
+    }
+    # it stands behind `clause` or `clauses`, or behind others that do, or in the first cell of a row
+    function is_clause_at(pieces, i,   j, before) {
+        if (paragraph ~ /^\|/) {
+            for (j = 1; j < i; j++) before = before pieces[j]
+            if (gsub(/\|/, "", before) == 1) return 1
+        }
+        for (j = i - 1; j > 0 && pieces[j] ~ /^(, | and |, and )$/; j -= 2) { }
+        return pieces[j] ~ /clauses? $/
+    }
+    # the call behind which it stands in brackets
+    function call_before(pieces, i,   j, name) {
+        for (j = i - 1; j > 0 && pieces[j] ~ /^(, | and |, and )$/; j -= 2) { }
+        if (j < 2 || pieces[j] != " (") return ""
+        name = pieces[j - 1]; sub(/^.*::/, "", name)
+        return name ~ /^[a-z_0-9]+$/ && !(name in is_crate) && is_there(name, "code") ? name : ""
+    }
+    BEGIN { home = "-" }
+    /^#/ { close_paragraph(); home = "-"; next }
+    /^$/ { close_paragraph(); next }
+    /^\|/ { close_paragraph(); start = NR; paragraph = $0; close_paragraph(); next }
+    { if (paragraph == "") { start = NR; paragraph = $0 } else paragraph = paragraph " " $0 }
+    END {
+        close_paragraph()
+        for (c in is_crate) if (!(c in told)) { failed++; printf "FAILED: %s has no part on `%s`\n", document, c }
+        printf "%d names, %d failed\n", tried, failed
+        exit failed > 0 || tried == 0
+    }
+' "$document"

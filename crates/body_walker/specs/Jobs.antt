@@ -1,0 +1,14 @@
+-- Which jobs may be fired.
+use Rattle.std.specs.Prelude.{◌<◌}
+use Rattle.estelle_model.specs.declared.job.Job.{Job}
+use Rattle.estelle_model.specs.Subject.{Subject}
+use Rattle.estelle_model_legality.specs.Jobs.{IsJob}
+use Rattle.body_walker_state.specs.InOrder.{InOrder}
+
+-- a firing asks of a job only that its parts stand in path order
+abbrev pub MayBeFired : Job → Type 0
+MayBeFired job = 0 < job.trans → InOrder job.image.parts
+
+-- each job that meets the condition of a job may be fired
+abbrev pub JobsMayBeFired : Type 0
+JobsMayBeFired = (s : Subject) (job : Job) → IsJob s job → MayBeFired job
