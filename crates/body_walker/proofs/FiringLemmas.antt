@@ -13,7 +13,8 @@ use Rattle.estelle_model.specs.States.{Logged, on_log}
 use Rattle.estelle_model.specs.Steps.{Running}
 use Rattle.estelle_model.specs.Meant.{Meanings}
 use Rattle.estelle_model.specs.Blocks.{fresh, block_step}
-use Rattle.estelle_model.specs.Actions.{act, enter_state}
+use Rattle.estelle_model.specs.Actions.{enters_state}
+use Rattle.estelle_model.specs.Acts.{act}
 use Rattle.estelle_model.specs.Transitions.{Choice, Transition}
 use Rattle.estelle_model.specs.Subject as model
 use Rattle.estelle_model.specs.Subject.{Subject, meant, meant_with, of_block, begins, nothing_to_do, transition}
@@ -23,7 +24,7 @@ use Rattle.meaning_table.specs.Known.{Known, meanings_of}
 use Rattle.body_walker_state.specs.declared.bodies.Initialization.{Initialization}
 use Rattle.body_walker_values.specs.declared.stop.Stop.{Stop}
 use Rattle.body_walker_state.specs.Bodies.{initialization_of}
-use Rattle.body_walker_state.specs.Follows.{Leads}
+use Rattle.body_walker_state.specs.Follows.{Leads, carried}
 use Rattle.body_walker_state.specs.InOrder.{InOrder, instance_in}
 use Rattle.body_walker_state.proofs.OrderLemmas.{holds_of}
 use Rattle.body_walker_state.proofs.PartLemmas.{shown}
@@ -35,11 +36,11 @@ use Rattle.body_walker.specs.Runs.{block_and_state, job_of}
 -- ---- a block, and then the state
 
 module _ (s : Subject) (known : Meanings) (p : Path) (r : Routine) (vs : List Value) (to : Option ℕ) where
-  pub run_ok : (old u new : Running Logged) (x : Result (Unit {0}) Stop) → Leads (block_step Logged on_log known (act Logged on_log s known) p r vs) old (Ok tt) u → Leads (enter_state Logged on_log s (meant s) p to) u x new → Leads (block_and_state s known p r vs to) old x new
-  run_ok old u new x h k = follows_next (block_step Logged on_log known (act Logged on_log s known) p r vs) (enter_state Logged on_log s (meant s) p to) old u new tt x h k
+  pub run_ok : (old u new : Running Logged) (x : Result (Unit {0}) Stop) → Leads (block_step Logged on_log known (act Logged on_log s known) p r vs) old (Ok tt) u → Leads (carried (enters_state s p to)) u x new → Leads (block_and_state s known p r vs to) old x new
+  run_ok old u new x h k = follows_next (block_step Logged on_log known (act Logged on_log s known) p r vs) (carried (enters_state s p to)) old u new tt x h k
 
   pub run_err : (old u : Running Logged) (e : Stop) → Leads (block_step Logged on_log known (act Logged on_log s known) p r vs) old (Err e) u → Leads (block_and_state s known p r vs to) old (Err e) u
-  run_err old u e h = follows_stops_next (block_step Logged on_log known (act Logged on_log s known) p r vs) (enter_state Logged on_log s (meant s) p to) old u e h
+  run_err old u e h = follows_stops_next (block_step Logged on_log known (act Logged on_log s known) p r vs) (carried (enters_state s p to)) old u e h
 
 -- what is made by a block that runs on a core
 abbrev pub MadeOn : Subject → Meanings → Path → Routine → List Value → Option ℕ → Core → ℕ → Result (Outcome × ℕ) AllocError → Type 0

@@ -15,7 +15,7 @@ use Rattle.estelle_model.specs.Expressions.{bool_step}
 use Rattle.estelle_model.specs.Blocks.{clause_value}
 use Rattle.estelle_model.specs.Transitions.{Transition, Delay}
 use Rattle.estelle_model.specs.Subject.{Subject, meant_with}
-use Rattle.estelle_model.specs.Actions.{act}
+use Rattle.estelle_model.specs.Acts.{act}
 use Rattle.estelle_model.specs.Clauses.{value_of_expr, provided_step, int_step, between, from_on, high_step, at_once, delay_step, guard_step}
 use Rattle.body_walker_values.specs.declared.stop.Stop.{Stop}
 use Rattle.body_walker_values.specs.Gives.{Gives}

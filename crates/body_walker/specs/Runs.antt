@@ -14,12 +14,14 @@ use Rattle.estelle_model.specs.Blocks.{block_step, fresh}
 use Rattle.estelle_model.specs.Clauses.{guard_step, answered}
 use Rattle.estelle_model.specs.Computed.{core_of, log_from}
 use Rattle.estelle_model.specs.Transitions.{Transition}
-use Rattle.estelle_model.specs.Subject.{Subject, meant}
-use Rattle.estelle_model.specs.Actions.{act, enter_state}
+use Rattle.estelle_model.specs.Subject.{Subject}
+use Rattle.estelle_model.specs.Actions.{enters_state}
+use Rattle.estelle_model.specs.Acts.{act}
+use Rattle.body_walker_state.specs.Follows.{carried}
 
 -- the block, and then the instance enters a state, if one is said
 abbrev pub block_and_state : Subject → Meanings → Path → Routine → List Value → Option ℕ → Do Logged
-block_and_state s known path routine values to = block_step Logged on_log known (act Logged on_log s known) path routine values >> enter_state Logged on_log s (meant s) path to
+block_and_state s known path routine values to = block_step Logged on_log known (act Logged on_log s known) path routine values >> carried (enters_state s path to)
 
 abbrev pub job_of : Path → ℕ → Image → Option Interaction → ℕ → Job
 job_of path trans image head budget = record { ticket = 0; path = path; trans = trans; image = image; head = head; budget = budget }

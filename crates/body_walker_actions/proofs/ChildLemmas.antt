@@ -8,7 +8,6 @@ use Rattle.pascal_values.specs.declared.fault.Fault.{Fault}
 use Rattle.pascal_values.specs.declared.fault.Fault.TheVariants.{Unset}
 use Rattle.pascal_values.specs.declared.value.Value.{Value}
 use Rattle.pascal_values.specs.Shapes.{blank_of}
-use Rattle.estelle_tree.specs.declared.link.IpAddr.{IpAddr}
 use Rattle.estelle_tree.specs.Paths.{Path, child, last_of}
 use Rattle.estelle_model.specs.declared.denoter.Denoter.{Denoter}
 use Rattle.estelle_model.specs.declared.image.Part.{Part}
@@ -17,22 +16,23 @@ use Rattle.estelle_model.specs.Belonging.{are_values_of}
 use Rattle.estelle_model.specs.Core.{Instance}
 use Rattle.estelle_model.specs.Effects.{Create, Remove, Hold, changed, changed_in}
 use Rattle.estelle_model.specs.States.{Logged, on_log}
-use Rattle.estelle_model.specs.Steps.{StepResult, Step, Do, and_then, ◌>>=◌, ◌>>◌, pure, checked, checked_at}
+use Rattle.estelle_model.specs.Steps.{StepResult, Step, and_then, pure, checked_at}
 use Rattle.estelle_model.specs.Operators.{◌>>>◌}
-use Rattle.estelle_model.specs.Meant.{Meanings}
 use Rattle.estelle_model.specs.Bodies.{BodyAlone}
 use Rattle.estelle_model.specs.Subject.{Subject, blanks, new_instance, child_of}
-use Rattle.estelle_model.specs.Actions.{at, count_from, may_hold, empty_in, make, keep, or_no_module, for_each, external, disconnect_if, disconnect_child, release_child, enter_state}
+use Rattle.estelle_model.specs.Plans.{Plan, ◌>>=◌, reads, makes, keeps, for_each}
+use Rattle.estelle_model.specs.Actions.{at, count_from, may_hold, empty_in, or_no_module, instance_at, disconnect_if, disconnect_child, free_point, release_child, enters_state, holds_child}
+use Rattle.estelle_model.proofs.Carried.{carry_then}
 use Rattle.estelle_model.specs.Jobs.{instance_of}
 use Rattle.body_walker_state.specs.declared.bodies.ModuleBody.{ModuleBody}
 use Rattle.body_walker_values.specs.declared.stop.Stop.{Stop}
 use Rattle.body_walker_state.specs.Bodies.{module_body}
 use Rattle.body_walker_state.specs.Progress.{Progress, running, after}
-use Rattle.body_walker_state.specs.Follows.{Follows}
-use Rattle.body_walker_actions.specs.Children.{external_of, free, beginning, begins_child, holds_child}
+use Rattle.body_walker_values.specs.declared.stop.Stop.TheVariants as stop
+use Rattle.body_walker_state.specs.Follows.{Leads, Follows, carried}
+use Rattle.body_walker_actions.specs.Children.{external_of, beginning, begins_child}
 use Rattle.body_walker_values.proofs.ValueLemmas.{same_some}
 use Rattle.body_walker_state.proofs.FollowLemmas.{follows_stops_next}
-use Rattle.body_walker_actions.proofs.ActionLemmas.{made, kept}
 
 -- what stops a call stops its caller
 pub passed_on : {A : Type 0} (p : Step Logged A) (w n : Progress) (r : Result A Stop) (e : Stop) → IsErrAnd r (λ y. y ≡ e) → Follows p w (Err e) n → Follows p w r n
@@ -46,6 +46,12 @@ last_at (k ∷ []) zero e = refl
 last_at (k ∷ []) (suc i) e = absurd (omega (arith, e))
 last_at (k ∷ (n ∷ p)) zero e = absurd (omega (arith, e))
 last_at (k ∷ (n ∷ p)) (suc i) e = last_at (n ∷ p) i (omega (arith, e))
+
+-- one plan after another, as one step after another
+pub follows_carried : {A B : Type 0} (p : Plan A) (f : A → Plan B) (w n : Progress) (r : Result B Stop) → Leads (λ s. and_then (carried p s) (λ a. carried (f a))) (running w) r (running n) → Follows (carried (p >>= f)) w r n
+follows_carried p f w n (Ok b) h = carry_then Logged on_log p f (running w) ∙ h
+follows_carried p f w n (Err (stop.Fault e)) h = carry_then Logged on_log p f (running w) ∙ h
+follows_carried p f w n (Err stop.Memory) h = tt
 
 -- ---- the values of new instances
 
@@ -61,41 +67,39 @@ new_is s k b body path values part is made =
     ∙ ap (λ (m : ModuleBody). record { body = k; state = None; variables = values ++ each blank_of (each shape_of (drop (length values) m.variables)); module_variables = replicate m.module_variables None; births = 0 }) is
     ∙ ap (λ us. record { body = k; state = None; variables = values ++ us; module_variables = replicate (module_body s k b).module_variables None; births = 0 }) (blanks_are (drop (length values) (module_body s k b).variables))
 
-module _ (s : Subject) (known : Meanings) where
+module _ (s : Subject) where
   -- ---- the external interaction points
 
   module _ (p : Path) (w : Progress) where
-    abbrev points_by : Option Instance → StepResult Logged (List IpAddr)
-    points_by o = and_then (checked_at (or_no_module o) (running w)) (λ i. pure (each (at p) (count_from 0 (child_of s i.body).external)))
+    points_by : (rest : ℕ → Plan (Unit {0})) (o : Option Instance) (count : ℕ) → external_of s o ≡ Ok count → and_then (checked_at (or_no_module o) (running w)) (λ i. carried (rest (child_of s i.body).external)) ≡ carried (rest count) (running w)
+    points_by rest None count e = absurd (cc)
+    points_by rest (Some i) count e = let same : (child_of s i.body).external ≡ count = cc in ap (λ n. carried (rest n) (running w)) same
 
-    by_count : (o : Option Instance) (count : ℕ) → external_of s o ≡ Ok count → points_by o ≡ Ok (each (at p) (count_from 0 count), running w)
-    by_count None count e = absurd (cc)
-    by_count (Some i) count e = let same : (child_of s i.body).external ≡ count = cc in ap (λ n. Ok (each (at p) (count_from 0 n), running w)) same
-
-    points_then : (rest : List IpAddr → Do Logged) (count : ℕ) → external_of s (map.get w.instances p) ≡ Ok count → (external Logged on_log s known p >>= rest) (running w) ≡ rest (each (at p) (count_from 0 count)) (running w)
-    points_then rest count e = ap (λ o. and_then o rest) (by_count (map.get w.instances p) count e)
+    points_then : (rest : ℕ → Plan (Unit {0})) (count : ℕ) → external_of s (map.get w.instances p) ≡ Ok count → carried (reads (instance_at p) >>= λ i. rest (child_of s i.body).external) (running w) ≡ carried (rest count) (running w)
+    points_then rest count e = points_by rest (map.get w.instances p) count e
 
   -- ---- disconnect a child
 
-  pub child_cut : (p : Path) (w n : Progress) (count : ℕ) → external_of s (map.get w.instances p) ≡ Ok count → for_each Logged on_log s known (disconnect_if Logged on_log s known) (each (at p) (count_from 0 count)) (running w) ≡ Ok (tt, running n) → disconnect_child Logged on_log s known p (running w) ≡ Ok (tt, running n)
-  child_cut p w n count e h = points_then p w (λ ips. for_each Logged on_log s known (disconnect_if Logged on_log s known) ips) count e ∙ h
+  pub child_cut : (p : Path) (w n : Progress) (count : ℕ) → external_of s (map.get w.instances p) ≡ Ok count → carried (for_each (disconnect_if s) (each (at p) (count_from 0 count))) (running w) ≡ Ok (tt, running n) → carried (disconnect_child s p) (running w) ≡ Ok (tt, running n)
+  child_cut p w n count e h = points_then p w (λ k. for_each (disconnect_if s) (each (at p) (count_from 0 k))) count e ∙ h
 
   -- ---- release
 
   module _ (p : Path) (m : ℕ) (c : Path) where
-    abbrev gone : Do Logged
-    gone = make Logged on_log s known (Remove p (last_of c)) >>= λ removed. keep Logged on_log s known p (Hold m None)
+    abbrev gone : Plan (Unit {0})
+    gone = makes (Remove p (last_of c)) >>= λ removed. keeps p (Hold m None)
 
-    abbrev freeing : List IpAddr → Do Logged
-    freeing ips = for_each Logged on_log s known (free s known) ips >>= λ freed. gone
+    abbrev freeing : ℕ → Plan (Unit {0})
+    freeing k = for_each (free_point s) (each (at c) (count_from 0 k)) >>= λ freed. gone
 
-    pub released : (w n1 n2 n3 : Progress) (count : ℕ) → external_of s (map.get w.instances c) ≡ Ok count → for_each Logged on_log s known (free s known) (each (at c) (count_from 0 count)) (running w) ≡ Ok (tt, running n1)
-        → n2 ≡ after (Remove p (last_of c)) n1 → n3 ≡ record n2 { instances = changed_in p (changed (Hold m None)) n2.instances } → release_child Logged on_log s known p m c (running w) ≡ Ok (tt, running n3)
+    pub released : (w n1 n2 n3 : Progress) (count : ℕ) → external_of s (map.get w.instances c) ≡ Ok count → carried (for_each (free_point s) (each (at c) (count_from 0 count))) (running w) ≡ Ok (tt, running n1)
+        → n2 ≡ after (Remove p (last_of c)) n1 → n3 ≡ record n2 { instances = changed_in p (changed (Hold m None)) n2.instances } → carried (release_child s p m c) (running w) ≡ Ok (tt, running n3)
     released w n1 n2 n3 count e frees removes empties =
         points_then c w freeing count e
-        ∙ ap (λ o. and_then o (λ freed. gone)) frees
-        ∙ ap (λ o. and_then o (λ removed. keep Logged on_log s known p (Hold m None))) (made s known (Remove p (last_of c)) n1 n2 removes)
-        ∙ kept s known p (Hold m None) n2 n3 empties
+        ∙ carry_then Logged on_log (for_each (free_point s) (each (at c) (count_from 0 count))) (λ freed. gone) (running w)
+        ∙ ap (λ o. and_then o (λ freed. carried gone)) frees
+        ∙ ap (λ (x : Progress). Ok (tt, running (record x { instances = changed_in p (changed (Hold m None)) x.instances }))) (sym removes)
+        ∙ ap (λ (x : Progress). Ok (tt, running x)) (sym empties)
 
   -- ---- the test before a child begins
 
@@ -111,7 +115,7 @@ module _ (s : Subject) (known : Meanings) where
 
   module _ (p : Path) (m : ℕ) (i new : Instance) (w : Progress) where
     abbrev begins_by : Result (Unit {0}) Fault → Step Logged Path
-    begins_by e = checked e >> make Logged on_log s known (Create p (suc i.births) new) >> pure (child p (suc i.births))
+    begins_by e = λ x. and_then (and_then (checked_at e x) (λ u. carried (makes (Create p (suc i.births) new)))) (λ u. pure (child p (suc i.births)))
 
     by_number : (e : Result (Unit {0}) Fault) (birth : ℕ) (n : Progress) → (e >>> λ ok. Ok (i.births + 1)) ≡ Ok birth → n ≡ after (Create p birth new) w → begins_by e (running w) ≡ Ok (child p birth, running n)
     by_number (Ok u) birth n e makes =
@@ -120,7 +124,7 @@ module _ (s : Subject) (known : Meanings) where
         ap (λ k. Ok (child p k, running (after (Create p k new) w))) next ∙ ap (λ (x : Progress). Ok (child p birth, running x)) (sym makes)
     by_number (Err f) birth n e makes = absurd (cc)
 
-    child_begins : (birth : ℕ) (n : Progress) → (empty_in (slice_get i.module_variables m) >>> λ ok. Ok (i.births + 1)) ≡ Ok birth → n ≡ after (Create p birth new) w → begins_child s known p m i new (running w) ≡ Ok (child p birth, running n)
+    child_begins : (birth : ℕ) (n : Progress) → (empty_in (slice_get i.module_variables m) >>> λ ok. Ok (i.births + 1)) ≡ Ok birth → n ≡ after (Create p birth new) w → begins_child s p m i new (running w) ≡ Ok (child p birth, running n)
     child_begins birth n e makes = by_number (empty_in (slice_get i.module_variables m)) birth n e makes
 
   -- a child is made for an instance that is there
@@ -129,7 +133,7 @@ module _ (s : Subject) (known : Meanings) where
       → (empty_in (slice_get held.modvars m) >>> λ ok. Ok (held.births + 1)) ≡ Ok birth
       → part ≡ record { path = q; body = k; state = None; vars = values ++ each blank_of (each shape_of (drop (length values) body.variables)); modvars = replicate body.module_variables None; births = 0 }
       → copy ≡ p → path ≡ child p birth → n ≡ after (Create copy birth (instance_of part)) w
-      → begins_child s known p m i (new_instance s k b values) (running w) ≡ Ok (path, running n)
+      → begins_child s p m i (new_instance s k b values) (running w) ≡ Ok (path, running n)
   child_begun p copy path q m k birth b body values w n i held part is there shows next new copied below makes =
       let same : instance_of held ≡ i = same_some (instance_of held) i (shows ∙ there) in
       child_begins p m i (new_instance s k b values) w birth n
@@ -139,13 +143,15 @@ module _ (s : Subject) (known : Meanings) where
 
   -- ---- the child is held
 
-  pub child_held : (p : Path) (m : ℕ) (to at_end : Option ℕ) (c : Path) (w n1 n2 : Progress) → at_end ≡ to → enter_state Logged on_log s known c at_end (running w) ≡ Ok (tt, running n1)
-      → n2 ≡ record n1 { instances = changed_in p (changed (Hold m (Some c))) n1.instances } → holds_child s known p m to c (running w) ≡ Ok (tt, running n2)
+  pub child_held : (p : Path) (m : ℕ) (to at_end : Option ℕ) (c : Path) (w n1 n2 : Progress) → at_end ≡ to → carried (enters_state s c at_end) (running w) ≡ Ok (tt, running n1)
+      → n2 ≡ record n1 { instances = changed_in p (changed (Hold m (Some c))) n1.instances } → carried (holds_child s p m to c) (running w) ≡ Ok (tt, running n2)
   child_held p m to at_end c w n1 n2 same enters holds =
-      ap (λ (o : StepResult Logged (Unit {0})). and_then o (λ _. keep Logged on_log s known p (Hold m (Some c)))) (ap (λ (t : Option ℕ). enter_state Logged on_log s known c t (running w)) (sym same) ∙ enters)
-      ∙ kept s known p (Hold m (Some c)) n1 n2 holds
+      carry_then Logged on_log (enters_state s c to) (λ u. keeps p (Hold m (Some c))) (running w)
+      ∙ ap (λ (o : StepResult Logged (Unit {0})). and_then o (λ u. carried (keeps p (Hold m (Some c))))) (ap (λ (t : Option ℕ). carried (enters_state s c t) (running w)) (sym same) ∙ enters)
+      ∙ ap (λ (x : Progress). Ok (tt, running x)) (sym holds)
 
-  pub child_not_held : (p : Path) (m : ℕ) (to at_end : Option ℕ) (c : Path) (w n : Progress) (e : Stop) → at_end ≡ to → Follows (enter_state Logged on_log s known c at_end) w (Err e) n → Follows (holds_child s known p m to c) w (Err e) n
+  pub child_not_held : (p : Path) (m : ℕ) (to at_end : Option ℕ) (c : Path) (w n : Progress) (e : Stop) → at_end ≡ to → Follows (carried (enters_state s c at_end)) w (Err e) n → Follows (carried (holds_child s p m to c)) w (Err e) n
   child_not_held p m to at_end c w n e same stops =
-      follows_stops_next (enter_state Logged on_log s known c to) (keep Logged on_log s known p (Hold m (Some c))) (running w) (running n) e
-      (subst (λ (t : Option ℕ). Follows (enter_state Logged on_log s known c t) w (Err e) n) same stops)
+      follows_carried (enters_state s c to) (λ u. keeps p (Hold m (Some c))) w n (Err e)
+      (follows_stops_next (carried (enters_state s c to)) (carried (keeps p (Hold m (Some c)))) (running w) (running n) e
+      (subst (λ (t : Option ℕ). Follows (carried (enters_state s c t)) w (Err e) n) same stops))

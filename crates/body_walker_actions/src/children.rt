@@ -5,15 +5,14 @@ ghost use Rattle.std.specs.FinMap as maps;
 ghost use Rattle.estelle_tree.specs.Paths.{last_of};
 ghost use Rattle.estelle_model.specs.Core.{Instance};
 ghost use Rattle.estelle_model.specs.Operators.{◌>>>◌};
-ghost use Rattle.estelle_model.specs.States.{Logged, on_log};
-ghost use Rattle.estelle_model.specs.Meant.{Meanings};
+ghost use Rattle.estelle_model.specs.Plans.{for_each};
 ghost use Rattle.estelle_model.specs.Bodies.{BodyAlone};
 ghost use Rattle.estelle_model.specs.Subject.{Subject, new_instance};
 ghost use Rattle.estelle_model.specs.Actions as actions;
 ghost use Rattle.body_walker_state.specs.Bodies.{module_body, state_after};
-ghost use Rattle.body_walker_actions.specs.Children.{external_of, free, beginning, begins_child, holds_child};
+ghost use Rattle.body_walker_actions.specs.Children.{external_of, beginning, begins_child};
 ghost use Rattle.body_walker_values.specs.Gives.{Gives};
-ghost use Rattle.body_walker_state.specs.Follows.{Does, Follows};
+ghost use Rattle.body_walker_state.specs.Follows.{Does, Follows, carried};
 
 use crate::linking::{detach_if, disconnect_if};
 use body_walker_state::{Alteration, LogEntry, ModuleBodies, ModuleBody, Walk, new_part};
@@ -49,7 +48,7 @@ fn disconnect_points(
     path: &Path,
     count: u32,
 ) -> Result<(), AllocError>
-    ensures { (s : Subject) (known : Meanings) → Does (actions.for_each Logged on_log s known (actions.disconnect_if Logged on_log s known) (map (actions.at path.now) (actions.count_from 0 count))) walk.old result walk.new }
+    ensures { (s : Subject) → Does (carried (for_each (actions.disconnect_if s) (map (actions.at path.now) (actions.count_from 0 count)))) walk.old result walk.new }
 {
     for ip in 0..count {
         let a = point_of(alloc, path, ip)?;
@@ -65,7 +64,7 @@ pub fn disconnect_child(
     walk: &mut Walk,
     path: &Path,
 ) -> Result<(), Stop>
-    ensures { (known : Meanings) → Follows (actions.disconnect_child Logged on_log bodies.now known path.now) walk.old result walk.new }
+    ensures { Follows (carried (actions.disconnect_child bodies.now path.now)) walk.old result walk.new }
 {
     let count = external(bodies, walk, path)?;
     disconnect_points(alloc, walk, path, count)?;
@@ -74,7 +73,7 @@ pub fn disconnect_child(
 
 /// Disconnects an interaction point and detaches it, where it is linked so.
 fn free_point(alloc: Global, walk: &mut Walk, a: &IpAddr) -> Result<(), AllocError>
-    ensures { (s : Subject) (known : Meanings) → Does (free s known a.now) walk.old result walk.new }
+    ensures { (s : Subject) → Does (carried (actions.free_point s a.now)) walk.old result walk.new }
 {
     disconnect_if(alloc, walk, a)?;
     detach_if(alloc, walk, a)?;
@@ -83,7 +82,7 @@ fn free_point(alloc: Global, walk: &mut Walk, a: &IpAddr) -> Result<(), AllocErr
 
 /// Frees each of so many interaction points.
 fn free_points(alloc: Global, walk: &mut Walk, path: &Path, count: u32) -> Result<(), AllocError>
-    ensures { (s : Subject) (known : Meanings) → Does (actions.for_each Logged on_log s known (free s known) (map (actions.at path.now) (actions.count_from 0 count))) walk.old result walk.new }
+    ensures { (s : Subject) → Does (carried (for_each (actions.free_point s) (map (actions.at path.now) (actions.count_from 0 count)))) walk.old result walk.new }
 {
     for ip in 0..count {
         let a = point_of(alloc, path, ip)?;
@@ -111,7 +110,7 @@ pub fn release_child(
     variable: u32,
     child: &Path,
 ) -> Result<(), Stop>
-    ensures { (known : Meanings) → Follows (actions.release_child Logged on_log bodies.now known parent.now variable child.now) walk.old result walk.new }
+    ensures { Follows (carried (actions.release_child bodies.now parent.now variable child.now)) walk.old result walk.new }
 {
     let count = external(bodies, walk, child)?;
     free_points(alloc, walk, child, count)?;
@@ -185,7 +184,7 @@ pub fn begin_child(
     body: &ModuleBody,
     values: Values,
 ) -> Result<Path, Stop>
-    ensures { (s : Subject) (known : Meanings) (b : BodyAlone) (i : Instance) → body.now ≡ module_body s number b → maps.get walk.old.instances parent.now ≡ Some i → Follows (begins_child s known parent.now variable i (new_instance s number b values)) walk.old result walk.new }
+    ensures { (s : Subject) (b : BodyAlone) (i : Instance) → body.now ≡ module_body s number b → maps.get walk.old.instances parent.now ≡ Some i → Follows (begins_child s parent.now variable i (new_instance s number b values)) walk.old result walk.new }
 {
     let birth = match walk.instance(parent) {
         None => return Err(Stop::Fault(Fault::NoModule)),
@@ -221,7 +220,7 @@ pub fn hold_child(
     body: &ModuleBody,
     child: Path,
 ) -> Result<(), Stop>
-    ensures { (s : Subject) (known : Meanings) → Follows (holds_child s known parent.now variable (state_after body.now) child) walk.old result walk.new }
+    ensures { (s : Subject) → Follows (carried (actions.holds_child s parent.now variable (state_after body.now) child)) walk.old result walk.new }
 {
     walk.enter_state(alloc, &child, state_after(body))?;
     let by = Alteration::Hold {

@@ -1,11 +1,9 @@
 //! The statements on links, at interaction points (ISO/IEC 9074: connect, disconnect, attach, detach).
 
 ghost use Rattle.std.specs.Prelude.{◌≡◌, ◌||◌};
-ghost use Rattle.estelle_model.specs.States.{Logged, on_log};
-ghost use Rattle.estelle_model.specs.Meant.{Meanings};
 ghost use Rattle.estelle_model.specs.Subject.{Subject};
 ghost use Rattle.estelle_model.specs.Actions as actions;
-ghost use Rattle.body_walker_state.specs.Follows.{Does, Follows};
+ghost use Rattle.body_walker_state.specs.Follows.{Does, Follows, carried};
 
 use crate::points::{connectable_at, external_at, may_attach, may_connect, point};
 use body_walker_state::{LogEntry, ModuleBodies, Walk, above, is_bound, is_connected, is_upper};
@@ -24,7 +22,7 @@ pub fn connect_points(
     first: IpAddr,
     second: IpAddr,
 ) -> Result<(), Stop>
-    ensures { (known : Meanings) → Follows (actions.connect_points Logged on_log bodies.now known here.now first second) walk.old result walk.new }
+    ensures { Follows (carried (actions.connect_points bodies.now here.now.path first second)) walk.old result walk.new }
 {
     if !may_connect(walk, bodies, &here.path, &first, &second) {
         return Err(Stop::Fault(Fault::Unset));
@@ -51,7 +49,7 @@ pub fn disconnect_point(
     here: &Environment,
     a: IpAddr,
 ) -> Result<(), Stop>
-    ensures { (known : Meanings) → Follows (actions.disconnect_point Logged on_log bodies.now known here.now a) walk.old result walk.new }
+    ensures { Follows (carried (actions.disconnect_point bodies.now here.now.path a)) walk.old result walk.new }
 {
     if !connectable_at(&here.path, &a, point(walk, bodies, &a)) {
         return Err(Stop::Fault(Fault::Unset));
@@ -71,7 +69,7 @@ pub fn attach_points(
     upper: IpAddr,
     lower: IpAddr,
 ) -> Result<(), Stop>
-    ensures { (known : Meanings) → Follows (actions.attach_points Logged on_log bodies.now known upper lower) walk.old result walk.new }
+    ensures { Follows (carried (actions.attach_points bodies.now upper lower)) walk.old result walk.new }
 {
     if !may_attach(walk, bodies, &upper, &lower) {
         return Err(Stop::Fault(Fault::Unset));
@@ -97,7 +95,7 @@ pub fn detach_point(
     walk: &mut Walk,
     upper: IpAddr,
 ) -> Result<(), Stop>
-    ensures { (known : Meanings) → Follows (actions.detach_point Logged on_log bodies.now known upper) walk.old result walk.new }
+    ensures { Follows (carried (actions.detach_point bodies.now upper)) walk.old result walk.new }
 {
     if !external_at(point(walk, bodies, &upper)) {
         return Err(Stop::Fault(Fault::Unset));
@@ -111,7 +109,7 @@ pub fn detach_point(
 
 /// Disconnects an interaction point if it is connected.
 pub fn disconnect_if(alloc: Global, walk: &mut Walk, a: &IpAddr) -> Result<(), AllocError>
-    ensures { (s : Subject) (known : Meanings) → Does (actions.disconnect_if Logged on_log s known a.now) walk.old result walk.new }
+    ensures { (s : Subject) → Does (carried (actions.disconnect_if s a.now)) walk.old result walk.new }
 {
     if !is_connected(a, walk.links()) {
         return Ok(());
@@ -123,7 +121,7 @@ pub fn disconnect_if(alloc: Global, walk: &mut Walk, a: &IpAddr) -> Result<(), A
 
 /// Detaches an interaction point if it is a lower end.
 pub fn detach_if(alloc: Global, walk: &mut Walk, a: &IpAddr) -> Result<(), AllocError>
-    ensures { (s : Subject) (known : Meanings) → Does (actions.detach_if Logged on_log s known a.now) walk.old result walk.new }
+    ensures { (s : Subject) → Does (carried (actions.detach_if s a.now)) walk.old result walk.new }
 {
     match above(walk.links(), a) {
         None => Ok(()),

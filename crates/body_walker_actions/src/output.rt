@@ -1,13 +1,11 @@
 //! Outputs, at interaction points (ISO/IEC 9074: output).
 
 ghost use Rattle.std.specs.Prelude.{◌≡◌, ◌&&◌};
-ghost use Rattle.estelle_model.specs.States.{Logged, on_log};
-ghost use Rattle.estelle_model.specs.Meant.{Meanings};
 ghost use Rattle.estelle_model.specs.Belonging.{are_values_of};
 ghost use Rattle.estelle_model.specs.InteractionPoints.{point};
 ghost use Rattle.estelle_model.specs.Actions as actions;
 ghost use Rattle.estelle_model.specs.Definitions.{types_received};
-ghost use Rattle.body_walker_state.specs.Follows.{Follows};
+ghost use Rattle.body_walker_state.specs.Follows.{Follows, carried};
 
 use crate::points::{is_sent_at, point};
 use body_walker_state::{LogEntry, ModuleBodies, Walk};
@@ -52,7 +50,7 @@ pub fn output_at(
     values: Values,
     a: IpAddr,
 ) -> Result<(), Stop>
-    ensures { (known : Meanings) → known interaction.now ≡ meaning.now → Follows (actions.output_at Logged on_log bodies.now known ip.now interaction.now values a) walk.old result walk.new }
+    ensures { Follows (carried (actions.output_at bodies.now ip.now.word interaction.now.word meaning.now values a)) walk.old result walk.new }
 {
     if !may_output(bodies, walk, &interaction.word, meaning, &values, &a) {
         return Err(Stop::Fault(Fault::Unset));

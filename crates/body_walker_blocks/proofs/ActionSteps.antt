@@ -1,5 +1,6 @@
 -- The statements of Estelle step by step.
 use Rattle.std.proofs.Common.{◌≡◌, ◌∙◌, ℕ, List, map, refl, sym, ap, Option, Some, None}
+use Rattle.std.specs.Prelude.{option_map}
 use Rattle.pascal_values.specs.declared.fault.Fault.TheVariants.{Unset}
 use Rattle.estelle_tree.specs.declared.tree.name.Name.{Name}
 use Rattle.estelle_tree.specs.declared.tree.expression.Expr.{Expr}
@@ -16,50 +17,64 @@ use Rattle.estelle_model.specs.Places.{child_step}
 use Rattle.estelle_model.specs.Expressions.{Operand}
 use Rattle.estelle_model.specs.Subject.{Subject, child_of}
 use Rattle.estelle_model.specs.Actions as estelle
-use Rattle.estelle_model.specs.Actions.{act}
+use Rattle.estelle_model.specs.Statements.{Output}
+use Rattle.estelle_model.specs.Acts as acts
+use Rattle.estelle_model.specs.Acts.{act}
+use Rattle.body_walker_state.specs.Follows.{carried}
 use Rattle.estelle_model.specs.Definitions.{types_received}
 use Rattle.body_walker_blocks.specs.Scopes.{Scoped, meanings}
 use Rattle.body_walker_blocks.specs.Points.{ip_at}
 use Rattle.body_walker_blocks.specs.Labels.{exprs_of}
 use Rattle.body_walker_blocks.specs.Walked.{entering, expr, value_arguments, ip_named, part_of_child, connect, disconnect, disconnect_ip, disconnect_module, attach, detach, release, output, init, create}
-use Rattle.body_walker_blocks.proofs.Plans.{Plan, First, Given, Last, Refuse, run, Is}
+use Rattle.body_walker_blocks.proofs.PlanSteps.{follow, carried_then}
+use Rattle.body_walker_blocks.proofs.Plans.{Plan, First, Given, Last, Check, Refuse, run, Is}
 use Rattle.body_walker_blocks.proofs.StatementSteps.{arguments_out}
 
 module _ (t : Scoped) (h : Environment) where
   -- ---- names
 
-  ip_out : (p : Path) (m : Meaning) → estelle.ip_of Logged on_log t.subject (meanings t) p m ≡ checked (ip_at p m)
+  ip_out : (p : Path) (m : Meaning) → carried (estelle.ip_of t.subject p m) ≡ checked (ip_at p m)
   ip_out p (Ip k) = refl
   ip_out p _ = refl
 
-  -- ---- links
+  pub part_steps : (x p : Name) → Is (part_of_child t h x p) (First (carried (estelle.child_in t.subject h.path (meanings t x))) (λ c. Check (ip_at c (meanings t p))))
+  part_steps x p = record {
+    is = carried_then (estelle.child_in t.subject h.path (meanings t x)) (λ c. estelle.ip_of t.subject c (meanings t p))
+        ∙ (λ i. carried (estelle.child_in t.subject h.path (meanings t x)) >>= λ c. ip_out c (meanings t p) i);
+  }
 
-  -- of the specification that is known
+  -- ---- links, of the specification that is known
 
-  pub connect_steps : (p q : IpTree) (s : Subject) → s ≡ t.subject → Is (connect t h p q) (First (ip_named t h p.name p.part) (λ a. First (ip_named t h q.name q.part) (λ b. Last (estelle.connect_points Logged on_log s (meanings t) h a b))))
+  pub connect_steps : (p q : IpTree) (s : Subject) → s ≡ t.subject → Is (connect t h p q) (First (ip_named t h p.name p.part) (λ a. First (ip_named t h q.name q.part) (λ b. Last (carried (estelle.connect_points s h.path a b)))))
   unfolding connect act
-  connect_steps p q s same = record { is = λ i. ip_named t h p.name p.part >>= λ a. ip_named t h q.name q.part >>= λ b. estelle.connect_points Logged on_log (sym same i) (meanings t) h a b }
+  connect_steps p q s same = record {
+    is = carried_then (estelle.ip_in t.subject h.path (meanings t p.name) (option_map (meanings t) p.part)) (λ a. follow (estelle.ip_in t.subject h.path (meanings t q.name) (option_map (meanings t) q.part)) (λ b. estelle.connect_points t.subject h.path a b))
+        ∙ (λ i. ip_named t h p.name p.part >>= λ a. carried_then (estelle.ip_in t.subject h.path (meanings t q.name) (option_map (meanings t) q.part)) (λ b. estelle.connect_points t.subject h.path a b) i)
+        ∙ (λ i. ip_named t h p.name p.part >>= λ a. ip_named t h q.name q.part >>= λ b. carried (estelle.connect_points (sym same i) h.path a b));
+  }
 
-  pub cut_ip_steps : (x : Name) (part : Option Name) (s : Subject) → s ≡ t.subject → Is (disconnect_ip t h x part) (First (ip_named t h x part) (λ a. Last (estelle.disconnect_point Logged on_log s (meanings t) h a)))
-  cut_ip_steps x part s same = record { is = λ i. ip_named t h x part >>= λ a. estelle.disconnect_point Logged on_log (sym same i) (meanings t) h a }
+  pub cut_ip_steps : (x : Name) (part : Option Name) (s : Subject) → s ≡ t.subject → Is (disconnect_ip t h x part) (First (ip_named t h x part) (λ a. Last (carried (estelle.disconnect_point s h.path a))))
+  cut_ip_steps x part s same = record { is = λ i. ip_named t h x part >>= λ a. carried (estelle.disconnect_point (sym same i) h.path a) }
 
-  pub cut_module_steps : (k : ℕ) (s : Subject) → s ≡ t.subject → Is (disconnect_module t h k) (First (child_step Logged on_log h.path k) (λ c. Last (estelle.disconnect_child Logged on_log s (meanings t) c)))
-  cut_module_steps k s same = record { is = λ i. child_step Logged on_log h.path k >>= λ c. estelle.disconnect_child Logged on_log (sym same i) (meanings t) c }
+  pub cut_module_steps : (k : ℕ) (s : Subject) → s ≡ t.subject → Is (disconnect_module t h k) (First (child_step Logged on_log h.path k) (λ c. Last (carried (estelle.disconnect_child s c))))
+  cut_module_steps k s same = record { is = λ i. child_step Logged on_log h.path k >>= λ c. carried (estelle.disconnect_child (sym same i) c) }
 
   abbrev pub disconnect_plan : Name → Option Name → Meaning → Plan (Unit {0})
   disconnect_plan x (Some p) m = Last (disconnect_ip t h x (Some p))
   disconnect_plan x None (Module k) = Last (disconnect_module t h k)
   disconnect_plan x None m = Last (disconnect_ip t h x None)
 
-  disconnect_out : (x : Name) (part : Option Name) (m : Meaning) → estelle.disconnect_of Logged on_log t.subject (meanings t) h x part m ≡ run (disconnect_plan x part m)
-  disconnect_out x (Some p) (Module k) = refl
-  disconnect_out x (Some p) _ = refl
-  disconnect_out x None (Module k) = refl
-  disconnect_out x None _ = refl
+  disconnect_out : (x : Name) (part : Option Name) (m : Meaning) → meanings t x ≡ m → carried (estelle.disconnect t.subject h.path (option_map (meanings t) part) m) ≡ run (disconnect_plan x part m)
+  unfolding child_step
+  disconnect_out x (Some p) m is = carried_then (estelle.ip_in t.subject h.path m (Some (meanings t p))) (λ a. estelle.disconnect_point t.subject h.path a)
+      ∙ (λ i. carried (estelle.ip_in t.subject h.path (sym is i) (Some (meanings t p))) >>= λ a. carried (estelle.disconnect_point t.subject h.path a))
+  disconnect_out x None (Module k) is = refl
+  disconnect_out x None m is = carried_then (estelle.ip_in t.subject h.path m None) (λ a. estelle.disconnect_point t.subject h.path a)
+      ∙ (λ i. carried (estelle.ip_in t.subject h.path (sym is i) None) >>= λ a. carried (estelle.disconnect_point t.subject h.path a))
 
   pub disconnect_steps : (p : IpTree) (o : Option Name) (m : Meaning) → p.part ≡ o → meanings t p.name ≡ m → Is (disconnect t h p) (disconnect_plan p.name o m)
   unfolding disconnect act
-  disconnect_steps p o m has is = record { is = disconnect_out p.name p.part (meanings t p.name) ∙ ap (λ (q : Option Name). run (disconnect_plan p.name q (meanings t p.name))) has ∙ ap (λ (k : Meaning). run (disconnect_plan p.name o k)) is }
+  disconnect_steps p o m has is = record { is = (λ i. carried (estelle.disconnect t.subject h.path (option_map (meanings t) (has i)) (is i))) ∙ disconnect_out p.name o m is }
 
   pub disconnect_part : (p : IpTree) (q : Name) → p.part ≡ Some q → Is (disconnect t h p) (Last (disconnect_ip t h p.name p.part))
   disconnect_part p q has = record { is = (disconnect_steps p (Some q) (meanings t p.name) has refl).is ∙ ap (λ (o : Option Name). disconnect_ip t h p.name o) (sym has) }
@@ -68,21 +83,29 @@ module _ (t : Scoped) (h : Environment) where
   disconnect_other p (Module k) has is no_module = absurd (no_module k refl)
   disconnect_other p m has is no_module = record { is = (disconnect_steps p None m has is).is ∙ ap (λ (q : Option Name). disconnect_ip t h p.name q) (sym has) }
 
-  pub attach_steps : (p x q : Name) (s : Subject) → s ≡ t.subject → Is (attach t h p x q) (Given (ip_at h.path (meanings t p)) (λ upper. First (part_of_child t h x q) (λ lower. Last (estelle.attach_points Logged on_log s (meanings t) upper lower))))
+  pub attach_steps : (p x q : Name) (s : Subject) → s ≡ t.subject → Is (attach t h p x q) (Given (ip_at h.path (meanings t p)) (λ upper. First (part_of_child t h x q) (λ lower. Last (carried (estelle.attach_points s upper lower)))))
   unfolding attach act
-  attach_steps p x q s same = record { is = λ i. ip_out h.path (meanings t p) i >>= λ upper. part_of_child t h x q >>= λ lower. estelle.attach_points Logged on_log (sym same i) (meanings t) upper lower }
+  attach_steps p x q s same = record {
+    is = carried_then (estelle.ip_of t.subject h.path (meanings t p)) (λ upper. follow (estelle.ip_in t.subject h.path (meanings t x) (Some (meanings t q))) (λ lower. estelle.attach_points t.subject upper lower))
+        ∙ (λ i. ip_out h.path (meanings t p) i >>= λ upper. carried_then (estelle.ip_in t.subject h.path (meanings t x) (Some (meanings t q))) (λ lower. estelle.attach_points t.subject upper lower) i)
+        ∙ (λ i. checked (ip_at h.path (meanings t p)) >>= λ upper. part_of_child t h x q >>= λ lower. carried (estelle.attach_points (sym same i) upper lower));
+  }
 
-  pub detach_steps : (p : Name) (s : Subject) → s ≡ t.subject → Is (detach t h p) (Given (ip_at h.path (meanings t p)) (λ upper. Last (estelle.detach_point Logged on_log s (meanings t) upper)))
+  pub detach_steps : (p : Name) (s : Subject) → s ≡ t.subject → Is (detach t h p) (Given (ip_at h.path (meanings t p)) (λ upper. Last (carried (estelle.detach_point s upper))))
   unfolding detach act
-  detach_steps p s same = record { is = λ i. ip_out h.path (meanings t p) i >>= λ upper. estelle.detach_point Logged on_log (sym same i) (meanings t) upper }
+  detach_steps p s same = record {
+    is = carried_then (estelle.ip_of t.subject h.path (meanings t p)) (estelle.detach_point t.subject)
+        ∙ (λ i. ip_out h.path (meanings t p) i >>= λ upper. carried (estelle.detach_point (sym same i) upper));
+  }
 
   -- ---- release
 
   abbrev pub release_plan : Meaning → Plan (Unit {0})
-  release_plan (Module k) = First (child_step Logged on_log h.path k) (λ c. Last (estelle.release_child Logged on_log t.subject (meanings t) h.path k c))
+  release_plan (Module k) = First (child_step Logged on_log h.path k) (λ c. Last (carried (estelle.release_child t.subject h.path k c)))
   release_plan _ = Refuse Unset
 
-  release_out : (m : Meaning) → estelle.release Logged on_log t.subject (meanings t) h m ≡ run (release_plan m)
+  release_out : (m : Meaning) → carried (estelle.release t.subject h.path m) ≡ run (release_plan m)
+  unfolding child_step
   release_out (Module k) = refl
   release_out _ = refl
 
@@ -90,8 +113,8 @@ module _ (t : Scoped) (h : Environment) where
   unfolding release act
   release_steps x m is = record { is = release_out (meanings t x) ∙ ap (λ (k : Meaning). run (release_plan k)) is }
 
-  pub release_walks : (x : Name) (k : ℕ) (s : Subject) → meanings t x ≡ Module k → s ≡ t.subject → Is (release t h x) (First (child_step Logged on_log h.path k) (λ c. Last (estelle.release_child Logged on_log s (meanings t) h.path k c)))
-  release_walks x k s is same = record { is = (release_steps x (Module k) is).is ∙ (λ i. child_step Logged on_log h.path k >>= λ c. estelle.release_child Logged on_log (sym same i) (meanings t) h.path k c) }
+  pub release_walks : (x : Name) (k : ℕ) (s : Subject) → meanings t x ≡ Module k → s ≡ t.subject → Is (release t h x) (First (child_step Logged on_log h.path k) (λ c. Last (carried (estelle.release_child s h.path k c))))
+  release_walks x k s is same = record { is = (release_steps x (Module k) is).is ∙ (λ i. child_step Logged on_log h.path k >>= λ c. carried (estelle.release_child (sym same i) h.path k c)) }
 
   pub release_other : (x : Name) (m : Meaning) → meanings t x ≡ m → ((k : ℕ) → m ≡ Module k → ⊥) → Is (release t h x) (Refuse Unset)
   release_other x (Module k) is no_module = absurd (no_module k refl)
@@ -99,18 +122,21 @@ module _ (t : Scoped) (h : Environment) where
 
   -- ---- output
 
-  abbrev pub output_plan : Name → Name → Subject → List Denoter → List Expr → Plan (Unit {0})
-  output_plan p m s ts xs = First (value_arguments t h ts xs) (λ g. First spend (λ u. Given (ip_at h.path (meanings t p)) (λ a. Last (estelle.output_at Logged on_log s (meanings t) p m g.values a))))
+  abbrev pub output_plan : Name → Name → Subject → Meaning → List Denoter → List Expr → Plan (Unit {0})
+  output_plan p m s mean ts xs = First (value_arguments t h ts xs) (λ g. First spend (λ u. Given (ip_at h.path (meanings t p)) (λ a. Last (carried (estelle.output_at s p.word m.word mean g.values a)))))
 
-  output_out : (p m : Name) (xs : List Expr) → estelle.output Logged on_log t.subject (meanings t) h p m (map (expr t h) xs) ≡ run (output_plan p m t.subject (types_received (meanings t m)) xs)
-  output_out p m xs = λ i. value_arguments t h (types_received (meanings t m)) xs >>= λ g. spend >>= λ u. ip_out h.path (meanings t p) i >>= λ a. estelle.output_at Logged on_log t.subject (meanings t) p m g.values a
+  output_out : (p m : Name) (xs : List Expr) → (value_arguments t h (types_received (meanings t m)) xs >>= λ g. carried (estelle.plan_of t.subject (meanings t) h.path (Output p m) g.values)) ≡ run (output_plan p m t.subject (meanings t m) (types_received (meanings t m)) xs)
+  output_out p m xs =
+      (λ i. value_arguments t h (types_received (meanings t m)) xs >>= λ g. spend >>= λ u. carried_then (estelle.ip_of t.subject h.path (meanings t p)) (λ a. estelle.output_at t.subject p.word m.word (meanings t m) g.values a) i)
+      ∙ (λ i. value_arguments t h (types_received (meanings t m)) xs >>= λ g. spend >>= λ u. ip_out h.path (meanings t p) i >>= λ a. carried (estelle.output_at t.subject p.word m.word (meanings t m) g.values a))
 
-  pub output_steps : (p m : Name) (es : Option Args) (s : Subject) (ts : List Denoter) (xs : List Expr) → s ≡ t.subject → ts ≡ types_received (meanings t m) → xs ≡ exprs_of es → Is (output t h p m es) (output_plan p m s ts xs)
+  pub output_steps : (p m : Name) (es : Option Args) (s : Subject) (mean : Meaning) (ts : List Denoter) (xs : List Expr) → s ≡ t.subject → mean ≡ meanings t m → ts ≡ types_received mean → xs ≡ exprs_of es → Is (output t h p m es) (output_plan p m s mean ts xs)
   unfolding output act
-  output_steps p m es s ts xs same types exprs = record {
-    is = ap (λ (fs : List (Operand Logged)). estelle.output Logged on_log t.subject (meanings t) h p m fs) (arguments_out t h es)
+  output_steps p m es s mean ts xs same means types exprs = record {
+    is = ap (λ (fs : List (Operand Logged)). acts.act Logged on_log t.subject (meanings t) (entering t h) h (Output p m) fs) (arguments_out t h es)
         ∙ output_out p m (exprs_of es)
-        ∙ (λ i. run (output_plan p m (sym same i) (sym types i) (sym exprs i)));
+        ∙ (λ i. run (output_plan p m (sym same i) (sym means i) (types_received (sym means i)) (sym exprs i)))
+        ∙ (λ i. run (output_plan p m s mean (sym types i) xs));
   }
 
   -- ---- init
@@ -119,7 +145,7 @@ module _ (t : Scoped) (h : Environment) where
   init_plan (Module m) (Body k) es = First (value_arguments t h (child_of t.subject k).parameters es) (λ g. Last (create t h m k g.values))
   init_plan _ _ es = Refuse Unset
 
-  init_out : (x b : Meaning) (es : List Expr) → estelle.init_of Logged on_log t.subject (meanings t) (entering t h) h x b (map (expr t h) es) ≡ run (init_plan x b es)
+  init_out : (x b : Meaning) (es : List Expr) → acts.init_of Logged on_log t.subject (meanings t) (entering t h) h.path x b (map (expr t h) es) ≡ run (init_plan x b es)
   unfolding create
   init_out (Module m) (Body k) es = refl
   init_out (Module m) _ es = refl
@@ -128,7 +154,7 @@ module _ (t : Scoped) (h : Environment) where
   init_steps : (x b : Name) (es : Option Args) (m k : Meaning) → meanings t x ≡ m → meanings t b ≡ k → Is (init t h x b es) (init_plan m k (exprs_of es))
   unfolding init act
   init_steps x b es m k is_m is_k = record {
-    is = ap (λ (fs : List (Operand Logged)). estelle.init_of Logged on_log t.subject (meanings t) (entering t h) h (meanings t x) (meanings t b) fs) (arguments_out t h es)
+    is = ap (λ (fs : List (Operand Logged)). acts.init_of Logged on_log t.subject (meanings t) (entering t h) h.path (meanings t x) (meanings t b) fs) (arguments_out t h es)
         ∙ init_out (meanings t x) (meanings t b) (exprs_of es)
         ∙ ap (λ (y : Meaning). run (init_plan y (meanings t b) (exprs_of es))) is_m
         ∙ ap (λ (y : Meaning). run (init_plan m y (exprs_of es))) is_k;

@@ -13,7 +13,6 @@ use Rattle.estelle_model.specs.declared.meaning.Routine.{Routine}
 use Rattle.estelle_model.specs.declared.place.Environment.{Environment}
 use Rattle.estelle_model.specs.Belonging.{are_values_of}
 use Rattle.estelle_model.specs.Core.{Instance, Instances}
-use Rattle.estelle_model.specs.Effects.{Create}
 use Rattle.estelle_model.specs.States.{Logged, on_log}
 use Rattle.estelle_model.specs.Steps.{Running, StepResult, Step, Do, and_then, ◌>>=◌, ◌>>◌, pure, fail, checked, checked_at, all, spend}
 use Rattle.estelle_model.specs.Expressions.{no_arguments}
@@ -24,7 +23,9 @@ use Rattle.estelle_model.specs.Statements as statements
 use Rattle.estelle_model.specs.Subject as model
 use Rattle.estelle_model.specs.Subject.{Subject, body, begins, nothing_to_do, meant, of_init, no_body, new_instance, child_of, headers_of, no_statements}
 use Rattle.estelle_model.specs.Attributes.{allows, attribute, may_have_transitions}
+use Rattle.estelle_model.specs.Plans.{stops_unless}
 use Rattle.estelle_model.specs.Actions as estelle
+use Rattle.estelle_model.specs.Acts as acts
 use Rattle.estelle_model.specs.Actions.{empty_in, has_header, may_hold, or_no_module}
 use Rattle.estelle_model.proofs.StatementEquations.{stmts_opened}
 use Rattle.body_walker_state.specs.declared.bodies.ModuleBody.{ModuleBody}
@@ -34,8 +35,8 @@ use Rattle.body_walker_values.specs.declared.stop.Stop.TheVariants as stop
 use Rattle.body_walker_values.specs.Gives.{Gives}
 use Rattle.body_walker_state.specs.Bodies.{module_body, initialization_of, block_by, block_of, state_of, state_after}
 use Rattle.body_walker_state.specs.Progress.{Progress, running}
-use Rattle.body_walker_state.specs.Follows.{Follows, Leads}
-use Rattle.body_walker_actions.specs.Children.{beginning, begins_child, holds_child}
+use Rattle.body_walker_state.specs.Follows.{Follows, Leads, carried}
+use Rattle.body_walker_actions.specs.Children.{beginning, begins_child}
 use Rattle.body_walker_actions.proofs.ChildLemmas.{tests_ok}
 use Rattle.body_walker_blocks.specs.Scopes.{Scoped, meanings}
 use Rattle.body_walker_blocks.specs.Walked.{actions, acting, entering, calling, stmts, within, create, initialize}
@@ -74,26 +75,27 @@ none_there s k (Some b) e = absurd (cc)
 
 module _ (t : Scoped) (h : Environment) (m k : ℕ) (vs : List Value) where
   abbrev pub creating : Instance → Do Logged
-  creating i = estelle.create Logged on_log t.subject (meanings t) (entering t h) h m (child_of t.subject k) vs i
+  creating i = acts.create Logged on_log t.subject (meanings t) (entering t h) h.path m (child_of t.subject k) vs i
 
   abbrev tests : Instance → Bool
   tests i = may_hold t.subject i.body m k && are_values_of (child_of t.subject k).parameters vs
 
-  abbrev passes : Bool → Do Logged
-  passes b = cond b (pure tt) (fail Unset)
+  -- the instance, where the tests hold
+  abbrev passed : Bool → Instance → Step Logged Instance
+  passed b i = λ s. and_then (checked_at (stops_unless b Unset) s) (λ u. pure i)
 
   abbrev create_by : Option Instance → Do Logged
-  create_by o = λ s. and_then (checked_at (or_no_module o) s) (λ i. passes (tests i) >> creating i)
+  create_by o = λ s. and_then (and_then (checked_at (or_no_module o) s) (λ i. passed (tests i) i)) creating
 
   pub create_tested : (w : Progress) (i : Instance) → maps.get w.instances h.path ≡ Some i → tests i ≡ true → create t h m k vs (running w) ≡ creating i (running w)
   unfolding create
-  create_tested w i there may = ap (λ o. create_by o (running w)) there ∙ ap (λ b. (passes b >> creating i) (running w)) may
+  create_tested w i there may = ap (λ o. create_by o (running w)) there ∙ ap (λ b. and_then (passed b i (running w)) creating) may
 
   create_fails : (w : Progress) (o : Option Instance) (f : Fault) → beginning t.subject m k vs o ≡ Err f → create_by o (running w) ≡ Err (f, w.left)
   create_fails w None f e = let same : NoModule ≡ f = cc in ap (λ g. Err (g, w.left)) same
   create_fails w (Some i) f e = by (tests i) e
     where
-      by : (b : Bool) → ◌≡◌ {A = Result (Unit {0}) Fault} (cond b (Ok tt) (Err Unset)) (Err f) → (passes b >> creating i) (running w) ≡ Err (f, w.left)
+      by : (b : Bool) → ◌≡◌ {A = Result (Unit {0}) Fault} (cond b (Ok tt) (Err Unset)) (Err f) → and_then (passed b i (running w)) creating ≡ Err (f, w.left)
       by true e = absurd (cc)
       by false e = let same : Unset ≡ f = cc in ap (λ g. Err (g, w.left)) same
 
@@ -105,7 +107,7 @@ module _ (t : Scoped) (h : Environment) (m k : ℕ) (vs : List Value) where
   -- what may be made is of a body that is there
   pub body_is_there : (o : Option Instance) → beginning t.subject m k vs o ≡ Ok tt → None ≡ option_map (module_body t.subject k) (body t.subject k) → ⊥
   body_is_there o may none =
-      let found_one = tests_ok t.subject (meanings t) m k vs o may in
+      let found_one = tests_ok t.subject m k vs o may in
       let no : tests found_one.0 ≡ false = ap (λ b. (b && (has_header (slice_get (headers_of t.subject found_one.0.body) m) (child_of t.subject k).header && (allows (attribute t.subject found_one.0.body) (attribute t.subject k) && may_have_transitions t.subject k))) && are_values_of (child_of t.subject k).parameters vs) (none_there t.subject k (body t.subject k) none) in
       let yes_ : tests found_one.0 ≡ true = found_one.2 in
       absurd (cc)
@@ -116,10 +118,10 @@ module _ (t : Scoped) (h : Environment) (m k : ℕ) (vs : List Value) where
   child_path i = child h.path (suc i.births)
 
   abbrev begins_with : Instance → Instance → Do Logged
-  begins_with i new = checked (empty_in (slice_get i.module_variables m)) >> estelle.make Logged on_log t.subject (meanings t) (Create h.path (suc i.births) new)
+  begins_with i new = carried (estelle.begins_child t.subject h.path m i new)
 
   abbrev holding : Option ℕ → Path → Do Logged
-  holding to c = holds_child t.subject (meanings t) h.path m to c
+  holding to c = carried (estelle.holds_child t.subject h.path m to c)
 
   abbrev in_depth : ℕ → Instance → Instance → Routine → Option ℕ → Do Logged
   in_depth n i new r to = nested Logged on_log (meanings t) (actions t) n (begins_with i new) (child_path i) r no_arguments >>= λ ran. holding to (child_path i)
@@ -141,7 +143,7 @@ module _ (t : Scoped) (h : Environment) (m k : ℕ) (vs : List Value) where
   inner c = record { path = c; frame = h.frame + 1; references = [] }
 
   abbrev pub creation_plan : Instance → Instance → ModuleBody → Plan (Unit {0})
-  creation_plan i new b = First spend (λ u. First (begins_child t.subject (meanings t) h.path m i new) (λ c. First (initialize t (inner c) b) (λ v. Last (holding (state_after b) c))))
+  creation_plan i new b = First spend (λ u. First (begins_child t.subject h.path m i new) (λ c. First (initialize t (inner c) b) (λ v. Last (holding (state_after b) c))))
 
   -- the initialization within its frame
   framed : (i : Instance) (r : Routine) → h.frame < max_depth → calls.within Logged on_log (meanings t) (actions t) (nested Logged on_log (meanings t) (actions t) (max_depth - (h.frame + 1))) (max_depth - (max_depth - (h.frame + 1))) (child_path i) r no_arguments ≡ within t (inner (child_path i)) r []
@@ -188,7 +190,7 @@ module _ (t : Scoped) (h : Environment) (m k : ℕ) (vs : List Value) where
 
   pub tested : (w : Progress) → beginning t.subject m k vs (maps.get w.instances h.path) ≡ Ok tt → Tested w
   tested w ok =
-      let x = tests_ok t.subject (meanings t) m k vs (maps.get w.instances h.path) ok in
+      let x = tests_ok t.subject m k vs (maps.get w.instances h.path) ok in
       record { parent = x.0; there = x.1; may = x.2 }
 
   pub create_goes : (w n : Progress) (x : Tested w) (r : Result (Unit {0}) Stop) → Leads (creating x.parent) (running w) r (running n) → Follows (create t h m k vs) w r n

@@ -11,6 +11,7 @@ pub mod CallSteps
 pub mod HostSteps
 pub mod LoopSteps
 pub mod StatementSteps
+pub mod PlanSteps
 pub mod ActionSteps
 pub mod InitSteps
 pub mod BlockSteps

@@ -21,9 +21,11 @@ use Rattle.estelle_model.specs.Places.{store_ordinal, put}
 use Rattle.estelle_model.specs.Loops as loops
 use Rattle.estelle_model.specs.Loops.{next_of, comes_to, turns_of, count_turns}
 use Rattle.estelle_model.proofs.LoopLaws.{AtMost, NeverRaises, while_unrolls, repeat_unrolls}
-use Rattle.estelle_model.proofs.Units.{CallNever, pure_never, of_value_never, store_ordinal_never}
+use Rattle.estelle_model.proofs.Units.{CallNever, NoMoreUnits, units_closed, of_value_never, store_ordinal_never}
 use Rattle.estelle_model.proofs.UnitsOfBlocks as units
-use Rattle.estelle_model.proofs.UnitsOfBlocks.{EntersNever, expr_never}
+use Rattle.estelle_model.proofs.UnitsOfBlocks.{ActsNever, EntersNever, expr_never}
+use Rattle.estelle_model.proofs.BlocksKept.{call_by_kept, nested_kept}
+use Rattle.estelle_model.proofs.AlikeFirings.{log_is_faithful}
 use Rattle.estelle_model.proofs.UnitsOfActions.{act_never}
 use Rattle.body_walker_values.specs.declared.stop.Stop.{Stop}
 use Rattle.body_walker_state.specs.Follows.{Leads}
@@ -53,13 +55,16 @@ pub keeps_units : {A : Type 0} (p : Step Logged A) → NeverRaises p → (s u : 
 keeps_units {A} p never s u a does = subst (λ (o : StepResult Logged A). AtMost s.left o) does (never s)
 
 module _ (t : Scoped) (h : Environment) where
+  acts_never : ActsNever Logged on_log (actions t)
+  acts_never = act_never Logged on_log log_is_faithful t.subject (meanings t)
+
   enters_never : EntersNever Logged (entering t h)
   unfolding entering
-  enters_never before never p r g = units.nested_never Logged on_log (meanings t) (actions t) (act_never Logged on_log t.subject (meanings t)) (max_depth - h.frame) before never p r g
+  enters_never = nested_kept Logged on_log (NoMoreUnits Logged) (units_closed Logged on_log) (meanings t) (actions t) acts_never (max_depth - h.frame)
 
   calls_never : CallNever Logged (calling t h)
   unfolding calling
-  calls_never r g = enters_never (pure tt) (pure_never Logged (Unit {0}) tt) h.path r g
+  calls_never = call_by_kept Logged on_log (NoMoreUnits Logged) (units_closed Logged on_log) (meanings t) (actions t) acts_never (entering t h) enters_never h.path
 
   pub condition_never : (e : Expr) → NeverRaises (condition t h e)
   unfolding expr
@@ -67,11 +72,11 @@ module _ (t : Scoped) (h : Environment) where
 
   pub stmt_never : (x : Stmt) → NeverRaises (stmt t h x)
   unfolding stmt
-  stmt_never x = units.stmt_never Logged on_log (meanings t) (acting t h) (act_never Logged on_log t.subject (meanings t) (entering t h) enters_never) (calling t h) calls_never h x
+  stmt_never x = units.stmt_never Logged on_log (meanings t) (acting t h) (acts_never (entering t h) enters_never) (calling t h) calls_never h x
 
   pub stmts_never : (x : Stmts) → NeverRaises (stmts t h x)
   unfolding stmts
-  stmts_never x = units.stmts_never Logged on_log (meanings t) (acting t h) (act_never Logged on_log t.subject (meanings t) (entering t h) enters_never) (calling t h) calls_never h x
+  stmts_never x = units.stmts_never Logged on_log (meanings t) (acting t h) (acts_never (entering t h) enters_never) (calling t h) calls_never h x
 
 -- what is left of a loop does what the whole of it does
 pub record StillDoes (loop : Do Logged) (s s0 : Running Logged) : Type 0 where

@@ -1,5 +1,5 @@
 -- What each function of the walk does: the definitions of the model on the private part with a log, for what names mean and what is known of bodies.
-use Rattle.std.specs.Prelude.{◌≡◌, ℕ, ◌-◌, Bool, ◌&&◌, List, [], map, option_map, Option, Some, None, ℤ}
+use Rattle.std.specs.Prelude.{◌≡◌, ℕ, ◌-◌, Bool, List, [], map, option_map, Option, Some, None, ℤ}
 use Rattle.pascal_values.specs.declared.fault.Fault.TheVariants.{Unset}
 use Rattle.pascal_values.specs.declared.value.Value.{Value}
 use Rattle.pascal_values.specs.declared.value.Value.TheVariants as pascal
@@ -33,17 +33,18 @@ use Rattle.estelle_model.specs.declared.place.ActualParameters.{ActualParameters
 use Rattle.estelle_model.specs.States.{Logged, on_log}
 use Rattle.estelle_model.specs.Steps.{Step, Do, ◌>>=◌, ◌>>◌, pure, fail}
 use Rattle.estelle_model.specs.Places.{put, store_ordinal, child_step}
-use Rattle.estelle_model.specs.Belonging.{are_values_of}
 use Rattle.estelle_model.specs.Subject.{body, child_of}
 use Rattle.body_walker_state.specs.declared.bodies.ModuleBody.{ModuleBody}
 use Rattle.body_walker_state.specs.Bodies.{module_body, block_of}
+use Rattle.body_walker_state.specs.Follows.{carried}
 use Rattle.estelle_model.specs.Expressions as spec
 use Rattle.estelle_model.specs.Expressions.{Operand, Access, Selecting, Call, bool_step, ordinal_step, give_all, no_arguments}
 use Rattle.estelle_model.specs.Loops as loops
 use Rattle.estelle_model.specs.Statements as statements
-use Rattle.estelle_model.specs.Statements.{Action, Init, Release, Connect, Disconnect, Attach, Detach, Output}
+use Rattle.estelle_model.specs.Statements.{Acts, Init, Release, Connect, Disconnect, Attach, Detach, Output}
 use Rattle.estelle_model.specs.Actions as estelle
-use Rattle.estelle_model.specs.Actions.{act}
+use Rattle.estelle_model.specs.Acts as acts
+use Rattle.estelle_model.specs.Acts.{act}
 use Rattle.estelle_model.specs.Calls as calls
 use Rattle.estelle_model.specs.Calls.{Enters, call_by, nested, max_depth}
 use Rattle.body_walker_blocks.specs.Scopes.{Scoped, meanings}
@@ -58,7 +59,7 @@ abbrev pub IsBody : Scoped → ModuleBody → Type 0
 IsBody t m = (k : ℕ) × (option_map (module_body t.subject k) (body t.subject k) ≡ Some m)
 
 -- what the statements of Estelle do
-abbrev pub actions : Scoped → Enters Logged → Environment → Action Logged → Do Logged
+abbrev pub actions : Scoped → Enters Logged → Acts Logged
 actions t = act Logged on_log t.subject (meanings t)
 
 -- calls and inits from a frame, which is as deep as its number tells
@@ -66,7 +67,7 @@ unfoldable pub entering : Scoped → Environment → Enters Logged
 entering t h = nested Logged on_log (meanings t) (actions t) (max_depth - h.frame)
 
 -- what the statements of Estelle do in a frame
-abbrev pub acting : Scoped → Environment → Environment → Action Logged → Do Logged
+abbrev pub acting : Scoped → Environment → Acts Logged
 acting t h = actions t (entering t h)
 
 unfoldable pub calling : Scoped → Environment → Call Logged
@@ -193,46 +194,45 @@ value_arguments t h ts es = arguments t h (map ByValue ts) es
 
 -- an interaction point by its name, or by that of a module variable and its own
 abbrev pub ip_named : Scoped → Environment → Name → Option Name → Step Logged IpAddr
-ip_named t h x part = estelle.ip_named Logged on_log t.subject (meanings t) h x part
+ip_named t h x part = carried (estelle.ip_in t.subject h.path (meanings t x) (option_map (meanings t) part))
 
 abbrev pub part_of_child : Scoped → Environment → Name → Name → Step Logged IpAddr
-part_of_child t h x p = estelle.part_of_child Logged on_log t.subject (meanings t) h x p
+part_of_child t h x p = carried (estelle.ip_in t.subject h.path (meanings t x) (Some (meanings t p)))
 
 unfoldable pub connect : Scoped → Environment → Ip → Ip → Do Logged
-connect t h a b = acting t h h (Connect a b)
+connect t h a b = acting t h h (Connect a b) []
 
 -- one interaction point
 abbrev pub disconnect_ip : Scoped → Environment → Name → Option Name → Do Logged
-disconnect_ip t h x part = ip_named t h x part >>= estelle.disconnect_point Logged on_log t.subject (meanings t) h
+disconnect_ip t h x part = ip_named t h x part >>= λ a. carried (estelle.disconnect_point t.subject h.path a)
 
 -- each connected one of the child in a module variable
 abbrev pub disconnect_module : Scoped → Environment → ℕ → Do Logged
-disconnect_module t h m = child_step Logged on_log h.path m >>= estelle.disconnect_child Logged on_log t.subject (meanings t)
+disconnect_module t h m = child_step Logged on_log h.path m >>= λ c. carried (estelle.disconnect_child t.subject c)
 
 unfoldable pub disconnect : Scoped → Environment → Ip → Do Logged
-disconnect t h a = acting t h h (Disconnect a)
+disconnect t h a = acting t h h (Disconnect a) []
 
 unfoldable pub attach : Scoped → Environment → Name → Name → Name → Do Logged
-attach t h p x q = acting t h h (Attach p x q)
+attach t h p x q = acting t h h (Attach p x q) []
 
 unfoldable pub detach : Scoped → Environment → Name → Do Logged
-detach t h p = acting t h h (Detach p)
+detach t h p = acting t h h (Detach p) []
 
 unfoldable pub output : Scoped → Environment → Name → Name → Option Args → Do Logged
-output t h p m es = acting t h h (Output p m (statements.arguments Logged on_log (meanings t) (acting t h) (calling t h) h es))
+output t h p m es = acting t h h (Output p m) (statements.arguments Logged on_log (meanings t) (acting t h) (calling t h) h es)
 
 unfoldable pub release : Scoped → Environment → Name → Do Logged
-release t h x = acting t h h (Release x)
+release t h x = acting t h h (Release x) []
 
 unfoldable pub init : Scoped → Environment → Name → Name → Option Args → Do Logged
-init t h x b es = acting t h h (Init x b (statements.arguments Logged on_log (meanings t) (acting t h) (calling t h) h es))
+init t h x b es = acting t h h (Init x b) (statements.arguments Logged on_log (meanings t) (acting t h) (calling t h) h es)
 
 -- a child of the body with a number, for a module variable, with these values of its parameters
 unfoldable pub create : Scoped → Environment → ℕ → ℕ → List Value → Do Logged
 create t h m k values = do
-  i ← estelle.read Logged on_log t.subject (meanings t) (estelle.instance_at h.path)
-  allowed ← estelle.needs Logged on_log t.subject (meanings t) (λ c. estelle.may_hold t.subject i.body m k && are_values_of (child_of t.subject k).parameters values)
-  estelle.create Logged on_log t.subject (meanings t) (entering t h) h m (child_of t.subject k) values i
+  i ← carried (estelle.may_begin t.subject h.path m k values)
+  acts.create Logged on_log t.subject (meanings t) (entering t h) h.path m (child_of t.subject k) values i
 
 -- the initialization of a body, in its frame
 unfoldable pub initialize : Scoped → Environment → ModuleBody → Do Logged

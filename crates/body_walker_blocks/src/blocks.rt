@@ -1,7 +1,7 @@
 //! Blocks of an instance, and expressions in its clauses.
 
 ghost use Rattle.estelle_model.specs.States.{Logged, on_log};
-ghost use Rattle.estelle_model.specs.Actions.{act};
+ghost use Rattle.estelle_model.specs.Acts.{act};
 ghost use Rattle.estelle_model.specs.Blocks.{block_step, clause_value};
 ghost use Rattle.meaning_table.specs.Known.{meanings_of};
 ghost use Rattle.body_walker_state.specs.Follows.{Follows};

@@ -1,9 +1,8 @@
 //! Interaction points by their names.
 
-ghost use Rattle.estelle_model.specs.States.{Logged, on_log};
 ghost use Rattle.estelle_model.specs.Actions as actions;
 ghost use Rattle.body_walker_values.specs.Gives.{Gives};
-ghost use Rattle.body_walker_state.specs.Follows.{Follows};
+ghost use Rattle.body_walker_state.specs.Follows.{Follows, carried};
 ghost use Rattle.body_walker_blocks.specs.Points.{ip_at};
 ghost use Rattle.body_walker_blocks.specs.Scopes.{meanings};
 ghost use Rattle.body_walker_blocks.specs.Walked as walked;
@@ -24,7 +23,7 @@ fn child_named(
     walk: &Walk,
     name: &Name,
 ) -> Result<Path, Stop>
-    ensures { Follows (actions.child_in Logged on_log scope.now.subject (meanings scope.now) here.now (meanings scope.now name.now)) walk.now result walk.now }
+    ensures { Follows (carried (actions.child_in scope.now.subject here.now.path (meanings scope.now name.now))) walk.now result walk.now }
 {
     match scope.meaning(name) {
         Meaning::Module(number) => walk.child(alloc, &here.path, *number),

@@ -3,8 +3,9 @@ use Rattle.std.specs.Prelude.{◌≡◌, Result, Ok, Err, OnOk}
 use Rattle.std.specs.declared.alloc.AllocError.{AllocError}
 use Rattle.body_walker_values.specs.declared.stop.Stop.{Stop}
 use Rattle.body_walker_values.specs.declared.stop.Stop.TheVariants as stop
-use Rattle.estelle_model.specs.States.{Logged}
+use Rattle.estelle_model.specs.States.{Logged, on_log}
 use Rattle.estelle_model.specs.Steps.{Running, Step, Do}
+use Rattle.estelle_model.specs.Plans.{Plan, carry}
 use Rattle.body_walker_state.specs.Progress.{Progress, running}
 
 -- the value and the new state, or the fault and the units left; nothing is said where memory is wanting
@@ -20,3 +21,7 @@ Follows step old result new = Leads step (running old) result (running new)
 -- a call that only wants memory does what a step says
 abbrev pub Does : Do Logged → Progress → Result (Unit {0}) AllocError → Progress → Type 0
 Does step old result new = OnOk result (step (running old) ≡ Ok (tt, running new))
+
+-- a plan, carried out on a log
+abbrev pub carried : {A : Type 0} → Plan A → Step Logged A
+carried p = carry Logged on_log p

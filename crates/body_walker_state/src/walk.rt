@@ -7,16 +7,15 @@ ghost use Rattle.estelle_model.specs.declared.place.Place.TheVariants.{Of};
 ghost use Rattle.estelle_model.specs.States.{Logged, on_log};
 ghost use Rattle.estelle_model.specs.Steps.{spend};
 ghost use Rattle.estelle_model.specs.Places.{load, put, store, store_ordinal, child_step};
-ghost use Rattle.estelle_model.specs.Meant.{Meanings};
 ghost use Rattle.estelle_model.specs.Effects.{changed_in};
 ghost use Rattle.estelle_model.specs.Subject.{Subject};
-ghost use Rattle.estelle_model.specs.Actions.{enter_state};
+ghost use Rattle.estelle_model.specs.Actions.{enters_state};
 ghost use Rattle.estelle_model.specs.Calls.{enter, leave};
 ghost use Rattle.estelle_model.specs.Blocks.{fresh, enter_values};
 ghost use Rattle.estelle_model.specs.Jobs.{instance_of, Shows, all_logged};
 ghost use Rattle.estelle_model.specs.Computed.{core_of, log_from};
 ghost use Rattle.body_walker_state.specs.Progress.{running, after};
-ghost use Rattle.body_walker_state.specs.Follows.{Follows};
+ghost use Rattle.body_walker_state.specs.Follows.{Follows, carried};
 ghost use Rattle.body_walker_state.specs.InOrder.{InOrder};
 ghost use Rattle.body_walker_state.specs.Alterations.{altered};
 ghost use Rattle.body_walker_state.specs.Entries.{effect_of};
@@ -314,7 +313,7 @@ impl<'a> Walk<'a> {
 
     /// An instance enters a state, if one is said.
     pub fn enter_state(&mut self, alloc: Global, path: &Path, to: Option<u32>) -> Result<(), Stop>
-        ensures { (s : Subject) (known : Meanings) → Follows (enter_state Logged on_log s known path.now to) self.old result self.new }
+        ensures { (s : Subject) → Follows (carried (enters_state s path.now to)) self.old result self.new }
     {
         match to {
             Some(state) => {

@@ -14,7 +14,7 @@ use Rattle.estelle_model.specs.Meant.{Meanings, result_number}
 use Rattle.estelle_model.specs.declared.place.Environment.{Environment}
 use Rattle.estelle_model.specs.declared.place.ActualParameters.{ActualParameters}
 use Rattle.estelle_model.specs.Expressions.{Call, expr}
-use Rattle.estelle_model.specs.Statements.{Action, stmts}
+use Rattle.estelle_model.specs.Statements.{Acts, stmts}
 use Rattle.estelle_model.specs.Calls.{Enters, call_by, frame_of, last_or, enter, leave, within, nested, max_depth}
 use Rattle.estelle_model.specs.Blocks.{given_values, enter_values, leave_values, from_block, block_step, clause_value}
 use Rattle.estelle_model.proofs.Alike.{Same, RunningAlike, OutcomeAlike, DoAlike, ValueAlike, and_then_alike, then_same, pure_alike, fail_alike, spend_alike}
@@ -33,7 +33,7 @@ module _ (S T : Type 0) (on : Offers S) (on' : Offers T) (m : Path) (R : S → T
   entered_alike enters enters' h before before' b p inside r g w s t a = h before before' p inside r g w s t a (seq_alike S T R spend before spend before' (spend_alike S T R) b s t a)
 
   -- the statements of Estelle do alike, where what they enter does
-  abbrev pub ActsAlike : (Enters S → Environment → Action S → Do S) → (Enters T → Environment → Action T → Do T) → Type 0
+  abbrev pub ActsAlike : (Enters S → Acts S) → (Enters T → Acts T) → Type 0
   ActsAlike act act' = (enters : Enters S) (enters' : Enters T) → EntersAlike enters enters' → ActAlike S T on on' m R (act enters) (act' enters')
 
   enter_alike : (r : Routine) (vs : List Value) → DoAlike S T R (enter r vs) (enter r vs)
@@ -49,7 +49,7 @@ module _ (S T : Type 0) (on : Offers S) (on' : Offers T) (m : Path) (R : S → T
   leave_values_alike : (v : Value) → ValueAlike S T R (leave_values v) (leave_values v)
   leave_values_alike v s t a = (refl, record { state = a.state; frames = refl; left = a.left })
 
-module _ (S T : Type 0) (on : Offers S) (on' : Offers T) (m : Path) (R : S → T → Type 0) (show : ShowAlike S T on on' m R) (meant : Meanings) (act : Enters S → Environment → Action S → Do S) (act' : Enters T → Environment → Action T → Do T) (acts : ActsAlike S T on on' m R act act') where
+module _ (S T : Type 0) (on : Offers S) (on' : Offers T) (m : Path) (R : S → T → Type 0) (show : ShowAlike S T on on' m R) (meant : Meanings) (act : Enters S → Acts S) (act' : Enters T → Acts T) (acts : ActsAlike S T on on' m R act act') where
   call_by_alike : (enters : Enters S) (enters' : Enters T) → EntersAlike S T on on' m R enters enters' → (p : Path) → is_inside m p ≡ true → CallAlike S T on on' m R (call_by enters p) (call_by enters' p)
   call_by_alike enters enters' h p inside r g w = entered_alike S T on on' m R enters enters' h (pure tt) (pure tt) (pure_alike S T R (Same {A = Unit {0}}) tt tt refl) p inside r g w
 

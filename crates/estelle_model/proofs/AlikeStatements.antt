@@ -29,7 +29,7 @@ use Rattle.estelle_model.specs.declared.place.Environment.{Environment}
 use Rattle.estelle_model.specs.declared.place.ActualParameters.{ActualParameters}
 use Rattle.estelle_model.specs.Expressions.{Call, Operand, Access, Selecting, ordinal_step, give_all, no_arguments, result_of, assigned, target, variable}
 use Rattle.estelle_model.specs.Loops.{while_turns, repeat_turns, while_loop, repeat_loop, next_of, turns_of, count_turns, count_loop}
-use Rattle.estelle_model.specs.Statements.{Action, Init, Release, Connect, Disconnect, Attach, Detach, Output, is_labelled, chosen, or_nothing, value_of_expr, arguments, assign_to, assign, invoke_of, invoke, choose, count_over, count, select, stmt, branch, stmts}
+use Rattle.estelle_model.specs.Statements.{Statement, Acts, Init, Release, Connect, Disconnect, Attach, Detach, Output, is_labelled, chosen, or_nothing, value_of_expr, arguments, assign_to, assign, invoke_of, invoke, choose, count_over, count, select, stmt, branch, stmts}
 use Rattle.estelle_model.proofs.Alike.{Same, EachAlike, MaybeAlike, each_related, OutcomeAlike, StepAlike, DoAlike, ValueAlike, then_alike, then_same, pure_alike, fail_alike, if_alike, all_alike, spend_alike}
 use Rattle.estelle_model.proofs.AlikePlaces.{PlaceAlike, ShowAlike, put_alike, store_alike, store_ordinal_alike}
 use Rattle.estelle_model.proofs.AlikeOperands.{GivenAlike, IsHereWithin, OperandAlike, AccessAlike, SelectingAlike, CallAlike, bool_alike, ordinal_alike, give_all_alike}
@@ -74,21 +74,11 @@ module _ (S T : Type 0) (R : S → T → Type 0) where
 -- ---- statements
 
 module _ (S T : Type 0) (on : Offers S) (on' : Offers T) (m : Path) (R : S → T → Type 0) where
-  -- the same statement of Estelle, with arguments that are alike
-  abbrev pub ActionAlike : Action S → Action T → Type 0
-  ActionAlike (Init x b es) (Init y c fs) = (x ≡ y) × (b ≡ c) × EachAlike (OperandAlike S T on on' m R) es fs
-  ActionAlike (Release x) (Release y) = x ≡ y
-  ActionAlike (Connect p q) (Connect p' q') = (p ≡ p') × (q ≡ q')
-  ActionAlike (Disconnect p) (Disconnect q) = p ≡ q
-  ActionAlike (Attach p x q) (Attach p' y q') = (p ≡ p') × (x ≡ y) × (q ≡ q')
-  ActionAlike (Detach p) (Detach q) = p ≡ q
-  ActionAlike (Output p n es) (Output q k fs) = (p ≡ q) × (n ≡ k) × EachAlike (OperandAlike S T on on' m R) es fs
-  ActionAlike a b = ⊥
+  -- a statement of Estelle with arguments that are alike does alike
+  abbrev pub ActAlike : Acts S → Acts T → Type 0
+  ActAlike act act' = (here : Environment) → IsHereWithin m here → (st : Statement) (es : List (Operand S)) (fs : List (Operand T)) → EachAlike (OperandAlike S T on on' m R) es fs → DoAlike S T R (act here st es) (act' here st fs)
 
-  abbrev pub ActAlike : (Environment → Action S → Do S) → (Environment → Action T → Do T) → Type 0
-  ActAlike act act' = (here : Environment) → IsHereWithin m here → (a : Action S) (b : Action T) → ActionAlike a b → DoAlike S T R (act here a) (act' here b)
-
-module _ (S T : Type 0) (on : Offers S) (on' : Offers T) (m : Path) (R : S → T → Type 0) (show : ShowAlike S T on on' m R) (meant : Meanings) (act : Environment → Action S → Do S) (act' : Environment → Action T → Do T) (acts : ActAlike S T on on' m R act act')
+module _ (S T : Type 0) (on : Offers S) (on' : Offers T) (m : Path) (R : S → T → Type 0) (show : ShowAlike S T on on' m R) (meant : Meanings) (act : Acts S) (act' : Acts T) (acts : ActAlike S T on on' m R act act')
     (call : Call S) (call' : Call T) (calls : CallAlike S T on on' m R call call') (here : Environment) (within : IsHereWithin m here) where
   value_alike : (e : Expr) → ValueAlike S T R (value_of_expr S on meant act call here e) (value_of_expr T on' meant act' call' here e)
   value_alike e = (expr_alike S T on on' m R show meant call call' calls here within e).value
@@ -188,13 +178,13 @@ module _ (S T : Type 0) (on : Offers S) (on' : Offers T) (m : Path) (R : S → T
   keeps kind.stmt (Stmt-F.Repeat body test span) = repeat_alike S T R _ _ _ _ body.holds (bool_alike S T on on' m R _ _ (value_alike test))
   keeps kind.stmt (Stmt-F.Count x first dir last body span) = for_alike x first dir last _ _ body.holds
   keeps kind.stmt (Stmt-F.Case e cases semicolon span) = select_alike e _ _ (each_related CaseAlike cases)
-  keeps kind.stmt (Stmt-F.Init x b es span) = acts here within _ _ (refl, refl, arguments_alike es)
-  keeps kind.stmt (Stmt-F.Release x span) = acts here within (Release x) (Release x) refl
-  keeps kind.stmt (Stmt-F.Connect p q span) = acts here within (Connect p q) (Connect p q) (refl, refl)
-  keeps kind.stmt (Stmt-F.Disconnect p span) = acts here within (Disconnect p) (Disconnect p) refl
-  keeps kind.stmt (Stmt-F.Attach p x q span) = acts here within (Attach p x q) (Attach p x q) (refl, refl, refl)
-  keeps kind.stmt (Stmt-F.Detach p span) = acts here within (Detach p) (Detach p) refl
-  keeps kind.stmt (Stmt-F.Output p n es span) = acts here within _ _ (refl, refl, arguments_alike es)
+  keeps kind.stmt (Stmt-F.Init x b es span) = acts here within (Init x b) _ _ (arguments_alike es)
+  keeps kind.stmt (Stmt-F.Release x span) = acts here within (Release x) [] [] tt
+  keeps kind.stmt (Stmt-F.Connect p q span) = acts here within (Connect p q) [] [] tt
+  keeps kind.stmt (Stmt-F.Disconnect p span) = acts here within (Disconnect p) [] [] tt
+  keeps kind.stmt (Stmt-F.Attach p x q span) = acts here within (Attach p x q) [] [] tt
+  keeps kind.stmt (Stmt-F.Detach p span) = acts here within (Detach p) [] [] tt
+  keeps kind.stmt (Stmt-F.Output p n es span) = acts here within (Output p n) _ _ (arguments_alike es)
   keeps kind.branch l = (refl, l.body.holds)
   keeps kind.stmts l = all_alike S T R _ _ (each_related (DoAlike S T R) l.stmts)
 

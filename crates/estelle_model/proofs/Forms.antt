@@ -23,7 +23,7 @@ use Rattle.estelle_model.specs.Meant.{Meanings}
 use Rattle.estelle_model.specs.declared.place.Environment.{Environment}
 use Rattle.estelle_model.specs.Expressions.{Call, Operand, Written, computed, multiplied, multiplied_host, added, added_host, both, valued, designated, assigned, accessed, indexed, bool_step, ordinal_step, member_step, set_step, expr, args, elem, term, factor, variable, selector, target}
 use Rattle.estelle_model.specs.Loops.{while_loop}
-use Rattle.estelle_model.specs.Statements.{Action, assign_to, invoke_of, count_over, chosen, stmt, branch, stmts, assign, invoke, count, select}
+use Rattle.estelle_model.specs.Statements.{Acts, assign_to, invoke_of, count_over, chosen, stmt, branch, stmts, assign, invoke, count, select}
 use Rattle.estelle_model.proofs.ExpressionEquations.{factor_made, selector_made, args_made, elem_made, expr_made, simple_made, term_made, variable_made}
 use Rattle.estelle_model.proofs.StatementEquations.{stmt_made, stmts_made}
 use Rattle.estelle_model.proofs.Trees as tree
@@ -91,7 +91,7 @@ module _ (S : Type 0) (on : Offers S) (meant : Meanings) (call : Call S) (here :
   pub set_is : (es : List Elem) → mean_factor (tree.set_of es) ≡ computed host.Integer (set_step [] (map (elem S on meant call here) es))
   set_is es = factor_made S on meant call here (Factor-F.Set es tree.nowhere)
 
-module _ (S : Type 0) (on : Offers S) (meant : Meanings) (act : Environment → Action S → Do S) (call : Call S) (here : Environment) where
+module _ (S : Type 0) (on : Offers S) (meant : Meanings) (act : Acts S) (call : Call S) (here : Environment) where
   abbrev pub run : Stmt → Do S
   run p = stmt S on meant act call here p
 

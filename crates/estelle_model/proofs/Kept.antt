@@ -19,7 +19,7 @@ use Rattle.estelle_model.specs.declared.denoter.Denoter.{Denoter}
 use Rattle.estelle_model.specs.Types.{ordinal_of, shape_of, host_of, value_in}
 use Rattle.estelle_model.specs.Operators.{bool_of, plus, minus, times, divided, modulo, one_member, members_from}
 use Rattle.estelle_model.specs.States.{Offers}
-use Rattle.estelle_model.specs.Steps.{Running, StepResult, Step, Do, ◌>>=◌, ◌>>◌, pure, fail, checked, all, spend}
+use Rattle.estelle_model.specs.Steps.{Running, StepResult, Step, Do, and_then, ◌>>=◌, ◌>>◌, pure, fail, checked, all, spend}
 use Rattle.estelle_model.specs.declared.meaning.Routine.{Routine}
 use Rattle.estelle_model.specs.declared.meaning.Passing.{Passing}
 use Rattle.estelle_model.specs.declared.meaning.Passing.TheVariants.{ByValue, ByPlace}
@@ -53,7 +53,7 @@ Has {S} {A} Q p = (s : Running S) → Q A s (p s)
 
 -- the property holds of each step that there is, and of what is made of steps
 pub record IsClosed (S : Type 0) (on : Offers S) (Q : (A : Type 0) → Running S → StepResult S A → Type 0) : Type 1 where
-  pub then : (A B : Type 0) (p : Step S A) (f : A → Step S B) → Has Q p → ((a : A) → Has Q (f a)) → Has Q (p >>= f)
+  pub then : (A B : Type 0) (s : Running S) (o : StepResult S A) (f : A → Step S B) → Q A s o → ((a : A) → Has Q (f a)) → Q B s (and_then o f)
   pub pure : (A : Type 0) (a : A) → Has {S = S} {A = A} Q (pure a)
   pub fail : (A : Type 0) (f : Fault) → Has {S = S} {A = A} Q (fail f)
   pub spend : Has {S = S} {A = Unit {0}} Q spend
@@ -64,7 +64,7 @@ pub record IsClosed (S : Type 0) (on : Offers S) (Q : (A : Type 0) → Running S
 
 module _ (S : Type 0) (on : Offers S) (Q : (A : Type 0) → Running S → StepResult S A → Type 0) (closed : IsClosed S on Q) where
   pub then_kept : (A B : Type 0) (p : Step S A) (f : A → Step S B) → Has Q p → ((a : A) → Has Q (f a)) → Has Q (p >>= f)
-  then_kept A B p f h k = closed.then A B p f h k
+  then_kept A B p f h k s = closed.then A B s (p s) f (h s) k
 
   pub pure_kept : (A : Type 0) (a : A) → Has {A = A} Q (pure a)
   pure_kept A a = closed.pure A a

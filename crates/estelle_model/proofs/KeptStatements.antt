@@ -31,7 +31,7 @@ use Rattle.estelle_model.specs.declared.place.Environment.{Environment}
 use Rattle.estelle_model.specs.declared.place.ActualParameters.{ActualParameters}
 use Rattle.estelle_model.specs.Expressions.{Call, Operand, Access, Selecting, bool_step, ordinal_step, give_all, no_arguments, accessed, result_of, assigned, target, variable}
 use Rattle.estelle_model.specs.Loops.{while_turns, repeat_turns, while_loop, repeat_loop, next_of, turns_of, count_turns, count_loop}
-use Rattle.estelle_model.specs.Statements.{Action, Init, Release, Connect, Disconnect, Attach, Detach, Output, is_labelled, chosen, or_nothing, value_of_expr, arguments, assign_to, assign, invoke_of, invoke, choose, count_over, count, select, stmt, branch, stmts}
+use Rattle.estelle_model.specs.Statements.{Statement, Acts, Init, Release, Connect, Disconnect, Attach, Detach, Output, is_labelled, chosen, or_nothing, value_of_expr, arguments, assign_to, assign, invoke_of, invoke, choose, count_over, count, select, stmt, branch, stmts}
 use Rattle.estelle_model.proofs.Kept.{Each, IfThere, each_has, Has, IsClosed, OperandKept, AccessKept, SelectingKept, CallKept, then_kept, pure_kept, fail_kept, if_kept, seq_kept, all_kept, spend_kept, of_value_kept, give_all_kept, put_kept, store_kept, store_ordinal_kept}
 use Rattle.estelle_model.proofs.KeptExpressions.{accessed_kept, args_kept, expr_kept, variable_kept}
 use Rattle.estelle_model.proofs.StatementEquations.{Results, layers}
@@ -65,19 +65,13 @@ module _ (S : Type 0) (on : Offers S) (Q : (A : Type 0) → Running S → StepRe
   unfolding count_loop
   count_kept dir first last f u b h i j = counts_kept (turns_of dir first last) dir first f u b h i j
 
-  -- ---- what statements of Estelle are given
-
-  abbrev pub ActionKept : Action S → Type 0
-  ActionKept (Init x b es) = Each (OperandKept S on Q closed) es
-  ActionKept (Output p n es) = Each (OperandKept S on Q closed) es
-  ActionKept a = Unit {0}
-
-  abbrev pub ActKept : (Environment → Action S → Do S) → Environment → Type 0
-  ActKept act here = (a : Action S) → ActionKept a → Has Q (act here a)
+  -- what a statement of Estelle with such arguments does has the property
+  abbrev pub ActKept : Acts S → Environment → Type 0
+  ActKept act here = (st : Statement) (es : List (Operand S)) → Each (OperandKept S on Q closed) es → Has Q (act here st es)
 
 -- ---- statements
 
-module _ (S : Type 0) (on : Offers S) (Q : (A : Type 0) → Running S → StepResult S A → Type 0) (closed : IsClosed S on Q) (meant : Meanings) (act : Environment → Action S → Do S) (here : Environment) (acts : ActKept S on Q closed act here) (call : Call S) (calls : CallKept S on Q closed call) where
+module _ (S : Type 0) (on : Offers S) (Q : (A : Type 0) → Running S → StepResult S A → Type 0) (closed : IsClosed S on Q) (meant : Meanings) (act : Acts S) (here : Environment) (acts : ActKept S on Q closed act here) (call : Call S) (calls : CallKept S on Q closed call) where
   value_kept : (e : Expr) → Has Q (value_of_expr S on meant act call here e)
   value_kept e = (expr_kept S on Q closed meant call calls here e).value
 
@@ -164,13 +158,13 @@ module _ (S : Type 0) (on : Offers S) (Q : (A : Type 0) → Running S → StepRe
   keeps kind.stmt (Stmt-F.Repeat body test span) = repeat_kept S on Q closed body.left (bool_step (value_of_expr S on meant act call here test)) body.holds (test_kept test)
   keeps kind.stmt (Stmt-F.Count x first dir last body span) = for_kept x first dir last body.left body.holds
   keeps kind.stmt (Stmt-F.Case e cases semicolon span) = select_kept e (map (λ (c : Related (List Const × Do S) (List Const × Do S) (λ x y. CaseKept x)). c.left) cases) (each_has CaseKept cases)
-  keeps kind.stmt (Stmt-F.Init x b es span) = acts (Init x b (arguments S on meant act call here es)) (arguments_kept es)
-  keeps kind.stmt (Stmt-F.Release x span) = acts (Release x) tt
-  keeps kind.stmt (Stmt-F.Connect p q span) = acts (Connect p q) tt
-  keeps kind.stmt (Stmt-F.Disconnect p span) = acts (Disconnect p) tt
-  keeps kind.stmt (Stmt-F.Attach p x q span) = acts (Attach p x q) tt
-  keeps kind.stmt (Stmt-F.Detach p span) = acts (Detach p) tt
-  keeps kind.stmt (Stmt-F.Output p n es span) = acts (Output p n (arguments S on meant act call here es)) (arguments_kept es)
+  keeps kind.stmt (Stmt-F.Init x b es span) = acts (Init x b) _ (arguments_kept es)
+  keeps kind.stmt (Stmt-F.Release x span) = acts (Release x) [] tt
+  keeps kind.stmt (Stmt-F.Connect p q span) = acts (Connect p q) [] tt
+  keeps kind.stmt (Stmt-F.Disconnect p span) = acts (Disconnect p) [] tt
+  keeps kind.stmt (Stmt-F.Attach p x q span) = acts (Attach p x q) [] tt
+  keeps kind.stmt (Stmt-F.Detach p span) = acts (Detach p) [] tt
+  keeps kind.stmt (Stmt-F.Output p n es span) = acts (Output p n) _ (arguments_kept es)
   keeps kind.branch l = l.body.holds
   keeps kind.stmts l = all_kept S on Q closed (map (λ (x : Related (Do S) (Do S) (λ x y. Has {A = Unit {0}} Q x)). x.left) l.stmts) (each_has (Has {A = Unit {0}} Q) l.stmts)
 

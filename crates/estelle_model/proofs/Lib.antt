@@ -8,7 +8,9 @@ pub mod AlikeOperands
 pub mod AlikeExpressions
 pub mod AlikeStatements
 pub mod AlikeCalls
-pub mod AlikeActions
+pub mod Carried
+pub mod Stated
+pub mod ActsAlike
 pub mod AlikeFirings
 -- ---- maps of instances, pairs, private parts, and the body of the specification
 pub mod Members
@@ -20,7 +22,8 @@ pub mod RootBodies
 pub mod Kept
 pub mod KeptExpressions
 pub mod KeptStatements
-pub mod KeptActions
+pub mod ActsKept
+pub mod BlocksKept
 -- ---- loops, units and frames
 pub mod LoopLaws
 pub mod Units

@@ -14,7 +14,7 @@ use Rattle.estelle_model.specs.Steps.{Running, Do, ◌>>=◌, all}
 use Rattle.estelle_model.specs.Meant.{Meanings}
 use Rattle.estelle_model.specs.declared.place.Environment.{Environment}
 use Rattle.estelle_model.specs.Expressions.{Call, Operand, Access, Selecting, valued, added, designated, assigned, indexed, selector, elem, set_step, member_step, both, ordinal_step}
-use Rattle.estelle_model.specs.Statements.{Action, assign_to, invoke_of, chosen, branch, stmts}
+use Rattle.estelle_model.specs.Statements.{Acts, assign_to, invoke_of, chosen, branch, stmts}
 use Rattle.estelle_model.proofs.Trees as tree
 use Rattle.estelle_model.proofs.Forms.{mean, mean_factor, run, value_of, set_is, member_is, range_is, relation_is, sum_is, case_is, number_is, index_is, call_is, access_is, alone_is, assignment_is, call_statement_is, plain_call_is, sequence_is, empty_is}
 
@@ -59,7 +59,7 @@ module _ (S : Type 0) (on : Offers S) (meant : Meanings) (call : Call S) (here :
   pub index_at : (es : List Expr) → (selector S on meant call here (tree.index es)).over a ≡ indexed S on meant call here (map (mean S on meant call here) es) a
   index_at es = ap (λ (x : Selecting S). x.over a) (index_is S on meant call here es)
 
-module _ (S : Type 0) (on : Offers S) (meant : Meanings) (act : Environment → Action S → Do S) (call : Call S) (here : Environment) (s : Running S) where
+module _ (S : Type 0) (on : Offers S) (meant : Meanings) (act : Acts S) (call : Call S) (here : Environment) (s : Running S) where
   pub sequence_at : (ps : List Stmt) → stmts S on meant act call here (tree.sequence ps) s ≡ all (map (run S on meant act call here) ps) s
   sequence_at ps = ap (λ p. p s) (sequence_is S on meant act call here ps)
 

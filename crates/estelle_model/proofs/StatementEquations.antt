@@ -13,7 +13,7 @@ use Rattle.estelle_model.specs.Steps.{Do}
 use Rattle.estelle_model.specs.Meant.{Meanings}
 use Rattle.estelle_model.specs.declared.place.Environment.{Environment}
 use Rattle.estelle_model.specs.Expressions.{Call}
-use Rattle.estelle_model.specs.Statements.{Action, stmt_layer, case_layer, stmts_layer, stmt, branch, stmts}
+use Rattle.estelle_model.specs.Statements.{Acts, stmt_layer, case_layer, stmts_layer, stmt, branch, stmts}
 
 module _ (S : Type 0) where
   -- what each type of node comes to
@@ -22,13 +22,13 @@ module _ (S : Type 0) where
   Results kind.branch = List Const × Do S
   Results kind.stmts = Do S
 
-module _ (S : Type 0) (on : Offers S) (meant : Meanings) (act : Environment → Action S → Do S) (call : Call S) (here : Environment) where
+module _ (S : Type 0) (on : Offers S) (meant : Meanings) (act : Acts S) (call : Call S) (here : Environment) where
   abbrev pub layers : (k : Kind) → Layer k (Results S) → Results S k
   layers kind.stmt = stmt_layer S on meant act call here
   layers kind.branch = case_layer S on meant act call here
   layers kind.stmts = stmts_layer S on meant act call here
 
-module _ (S : Type 0) (on : Offers S) (meant : Meanings) (act : Environment → Action S → Do S) (call : Call S) (here : Environment) where
+module _ (S : Type 0) (on : Offers S) (meant : Meanings) (act : Acts S) (call : Call S) (here : Environment) where
   -- one layer
   abbrev pub stmt_at : Stmt-F Stmt Case Stmts → Do S
   stmt_at l = stmt_layer S on meant act call here (map-Stmt Stmt Case Stmts (Do S) (List Const × Do S) (Do S) (stmt S on meant act call here) (branch S on meant act call here) (stmts S on meant act call here) l)

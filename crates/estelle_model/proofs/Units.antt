@@ -25,12 +25,12 @@ module _ (S : Type 0) where
   at_most_less A k n (Ok r) h l = omega (arith, h, l)
   at_most_less A k n (Err e) h l = tt
 
+  pub and_then_never : (A B : Type 0) (n : ℕ) (o : StepResult S A) (f : A → Step S B) → AtMost n o → ((a : A) → NeverRaises (f a)) → AtMost n (and_then o f)
+  and_then_never A B n (Ok r) f h k = at_most_less B r.1.left n (f r.0 r.1) (k r.0 r.1) h
+  and_then_never A B n (Err e) f h k = tt
+
   pub then_never : (A B : Type 0) (p : Step S A) (f : A → Step S B) → NeverRaises p → ((a : A) → NeverRaises (f a)) → NeverRaises (p >>= f)
-  then_never A B p f h k s = go (p s) (h s)
-    where
-      go : (o : StepResult S A) → AtMost s.left o → AtMost s.left (and_then o f)
-      go (Ok r) i = at_most_less B r.1.left s.left (f r.0 r.1) (k r.0 r.1) i
-      go (Err e) i = tt
+  then_never A B p f h k s = and_then_never A B s.left (p s) f (h s) k
 
   pub pure_never : (A : Type 0) (a : A) → NeverRaises {S = S} (pure a)
   pure_never A a s = omega arith
@@ -80,7 +80,7 @@ module _ (S : Type 0) (on : Offers S) where
       by (Some i) = kept i (may_store ((on.core s.state).types i.body) x way v)
 
   pub units_closed : IsClosed S on (NoMoreUnits S)
-  units_closed = record { then = then_never S; pure = pure_never S; fail = fail_never S; spend = spend_never S; framed = λ A f s. omega arith; stored = stored_never }
+  units_closed = record { then = λ A B s o f h k. and_then_never S A B s.left o f h k; pure = pure_never S; fail = fail_never S; spend = spend_never S; framed = λ A f s. omega arith; stored = stored_never }
 
   pub store_ordinal_never : (d : Denoter) (a : Place) (n : ℤ) → NeverRaises (store_ordinal S on d a n)
   store_ordinal_never = store_ordinal_kept S on (NoMoreUnits S) units_closed

@@ -14,32 +14,35 @@ use Rattle.estelle_model.specs.Meant.{Meanings}
 use Rattle.estelle_model.specs.Places.{child_step}
 use Rattle.estelle_model.specs.declared.place.Environment.{Environment}
 use Rattle.estelle_model.specs.Calls.{nested}
-use Rattle.estelle_model.specs.Subject.{Subject, Child}
+use Rattle.estelle_model.specs.Subject.{Subject, child_of}
 use Rattle.estelle_model.specs.InteractionPoints.{point, external_at, may_connect}
-use Rattle.estelle_model.specs.Actions.{act, at, is_bound, is_upper, may_hold, release, connect, detach, init}
+use Rattle.estelle_model.specs.Plans.{carry}
+use Rattle.estelle_model.specs.Statements.{Connect, Detach}
+use Rattle.estelle_model.specs.Actions.{at, is_bound, is_upper, may_hold, release, plan_of}
+use Rattle.estelle_model.specs.Acts.{init, act}
 use Rattle.estelle_model.specs.Clauses.{between, from_on}
 use Rattle.estelle_model.proofs.Trees as tree
 use Rattle.estelle_model.proofs.WorkedStatements.{spend_some}
 
 module _ (S : Type 0) (on : Offers S) (subject : Subject) (meant : Meanings) (here : Environment) (s : Running S) where
   -- release x, where x is empty
-  pub release_empty : (m : ℕ) (i : Instance) → map.get (on.core s.state).instances here.path ≡ Some i → slice_get i.module_variables m ≡ Some None → release S on subject meant here (Module m) s ≡ Err (fault.NoModule, s.left)
+  pub release_empty : (m : ℕ) (i : Instance) → map.get (on.core s.state).instances here.path ≡ Some i → slice_get i.module_variables m ≡ Some None → carry S on (release subject here.path (Module m)) s ≡ Err (fault.NoModule, s.left)
   unfolding child_step
   release_empty m i there empty = simp (there, empty)
 
   -- init x with a body without parameters, where x holds an instance: the unit is taken
-  pub init_taken : (m k n : ℕ) (i : Instance) (p : Path) (new : Child) → s.left ≡ suc n → map.get (on.core s.state).instances here.path ≡ Some i → slice_get i.module_variables m ≡ Some (Some p) → new.parameters ≡ []
+  pub init_taken : (m k n : ℕ) (i : Instance) (p : Path) → s.left ≡ suc n → map.get (on.core s.state).instances here.path ≡ Some i → slice_get i.module_variables m ≡ Some (Some p) → (child_of subject k).parameters ≡ []
       → may_hold subject i.body m k ≡ true
-      → init S on subject meant (nested S on meant (act S on subject meant) 1) here m k new [] s ≡ Err (fault.ModuleTaken, n)
-  init_taken m k n i p new left there full none allowed = simp (there, full, none, allowed, spend_some s n left)
+      → init S on subject meant (nested S on meant (act S on subject meant) 1) here.path m k [] s ≡ Err (fault.ModuleTaken, n)
+  init_taken m k n i p left there full none allowed = simp (there, full, none, allowed, spend_some s n left)
 
   -- connect p to q, where p is in a connection or a lower end
   pub connect_taken : (p q : Name) (k n : ℕ) → meant p ≡ Ip k → meant q ≡ Ip n → may_connect subject (on.core s.state).instances here.path (at here.path k) (at here.path n) ≡ true → is_bound (at here.path k) (on.core s.state).links ≡ true
-      → connect S on subject meant here (record { name = p; part = None; span = tree.nowhere }) (record { name = q; part = None; span = tree.nowhere }) s ≡ Err (fault.LinkTaken, s.left)
+      → carry S on (plan_of subject meant here.path (Connect (record { name = p; part = None; span = tree.nowhere }) (record { name = q; part = None; span = tree.nowhere })) []) s ≡ Err (fault.LinkTaken, s.left)
   connect_taken p q k n is_p is_q allowed bound = simp (is_p, is_q, allowed, bound)
 
   -- detach p, where p is no upper end
-  pub detach_absent : (p : Name) (k : ℕ) → meant p ≡ Ip k → external_at (point subject (on.core s.state).instances (at here.path k)) ≡ true → is_upper (at here.path k) (on.core s.state).links ≡ false → detach S on subject meant here p s ≡ Err (fault.LinkAbsent, s.left)
+  pub detach_absent : (p : Name) (k : ℕ) → meant p ≡ Ip k → external_at (point subject (on.core s.state).instances (at here.path k)) ≡ true → is_upper (at here.path k) (on.core s.state).links ≡ false → carry S on (plan_of subject meant here.path (Detach p) []) s ≡ Err (fault.LinkAbsent, s.left)
   detach_absent p k is_p external free = simp (is_p, external, free)
 
   -- ---- delays

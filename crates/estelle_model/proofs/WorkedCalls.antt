@@ -17,7 +17,7 @@ use Rattle.estelle_model.specs.Meant.{Meanings}
 use Rattle.estelle_model.specs.Places.{load, store, put}
 use Rattle.estelle_model.specs.declared.place.Environment.{Environment}
 use Rattle.estelle_model.specs.Expressions.{called, no_arguments}
-use Rattle.estelle_model.specs.Statements.{Action}
+use Rattle.estelle_model.specs.Statements.{Acts}
 use Rattle.estelle_model.specs.Calls.{Enters, call_by, nested, within, leave, max_depth}
 use Rattle.estelle_model.proofs.Trees as tree
 use Rattle.estelle_model.proofs.Fitting.{shape_ordinal, within_int, blank_int}
@@ -60,7 +60,7 @@ endless = record { parameters = []; locals = []; result = None; body = tree.sequ
 abbrev pub idle : Routine
 idle = record { parameters = []; locals = []; result = None; body = tree.sequence (tree.empty ∷ []) }
 
-module _ (S : Type 0) (on : Offers S) (act : Enters S → Environment → Action S → Do S) (path : Path) (st : S) where
+module _ (S : Type 0) (on : Offers S) (act : Enters S → Acts S) (path : Path) (st : S) where
   abbrev pub running : List Value → ℕ → Running S
   running vs n = record { state = st; frames = pascal.Fields vs ∷ []; left = n }
 

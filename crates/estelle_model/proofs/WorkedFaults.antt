@@ -22,14 +22,14 @@ use Rattle.estelle_model.specs.declared.meaning.Meaning.TheVariants.{Local, Requ
 use Rattle.estelle_model.specs.Places.{load}
 use Rattle.estelle_model.specs.declared.place.Environment.{Environment}
 use Rattle.estelle_model.specs.Expressions.{Call}
-use Rattle.estelle_model.specs.Statements.{Action}
+use Rattle.estelle_model.specs.Statements.{Acts}
 use Rattle.estelle_model.proofs.Trees as tree
 use Rattle.estelle_model.proofs.StatementEquations.{branch_made}
 use Rattle.estelle_model.proofs.Forms.{mean, run, alone_is, access_is, number_is}
 use Rattle.estelle_model.proofs.Points.{number_at, function_at, set_at, member_at, range_at, relation_at, number_factor_at, set_factor_at, case_at}
 use Rattle.estelle_model.proofs.WorkedStatements.{meanings}
 
-module _ (S : Type 0) (on : Offers S) (act : Environment → Action S → Do S) (call : Call S) (path : Path) (st : S) where
+module _ (S : Type 0) (on : Offers S) (act : Acts S) (call : Call S) (path : Path) (st : S) where
   abbrev pub running : List Value → ℕ → Running S
   running vs n = record { state = st; frames = pascal.Fields vs ∷ []; left = n }
 

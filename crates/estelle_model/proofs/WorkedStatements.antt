@@ -28,7 +28,7 @@ use Rattle.estelle_model.specs.Places.{load, store, store_ordinal, put}
 use Rattle.estelle_model.specs.Loops.{count_loop, while_loop, while_turns}
 use Rattle.estelle_model.specs.declared.place.Environment.{Environment}
 use Rattle.estelle_model.specs.Expressions.{Call, Operand, Access, Selecting, computed, both, assigned, index_step, ordinal_step, bool_step}
-use Rattle.estelle_model.specs.Statements.{Action, assign_to, count_over}
+use Rattle.estelle_model.specs.Statements.{Acts, assign_to, count_over}
 use Rattle.estelle_model.proofs.Trees as tree
 use Rattle.estelle_model.proofs.Fitting.{shape_ordinal, within_int, fit_int}
 use Rattle.estelle_model.proofs.Forms.{mean, run, value_of, number_is, access_is, index_is, alone_is, product_is, assignment_is, while_is, for_is, empty_is}
@@ -48,7 +48,7 @@ pub spend_some : {S : Type 0} (s : Running S) (n : ℕ) → s.left ≡ suc n →
 unfolding spend
 spend_some s n e = grind (arith)
 
-module _ (S : Type 0) (on : Offers S) (act : Environment → Action S → Do S) (call : Call S) (path : Path) (st : S) where
+module _ (S : Type 0) (on : Offers S) (act : Acts S) (call : Call S) (path : Path) (st : S) where
   -- a block runs with these variables, and so many units are left
   abbrev pub running : List Value → ℕ → Running S
   running vs n = record { state = st; frames = pascal.Fields vs ∷ []; left = n }

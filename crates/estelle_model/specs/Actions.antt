@@ -1,5 +1,5 @@
--- The statements of Estelle (ISO/IEC 9074): what each does, and the order in which it is refused.
-use Rattle.std.specs.Prelude.{ℕ, zero, suc, Bool, true, false, ◌&&◌, ◌||◌, nat_eq, if◌then◌else◌, List, [], ◌∷◌, map, slice_get, is_some, Option, Some, None, Result, Ok, Err}
+-- The statements of Estelle (ISO/IEC 9074): what each does, and the order in which it is refused, as plans.
+use Rattle.std.specs.Prelude.{ℕ, zero, suc, Bool, true, false, ◌&&◌, ◌||◌, nat_eq, List, [], ◌∷◌, map, slice_get, option_map, is_some, Option, Some, None, Result, Ok, Err}
 use Rattle.std.specs.Option.{ok_or}
 use Rattle.std.specs.List.{list_any}
 use Rattle.std.specs.Str.{bytes_eq}
@@ -10,29 +10,24 @@ use Rattle.pascal_values.specs.declared.value.Value.{Value}
 use Rattle.estelle_tree.specs.declared.link.IpAddr.{IpAddr}
 use Rattle.estelle_tree.specs.declared.link.Link.{Link}
 use Rattle.estelle_tree.specs.declared.tree.name.Name.{Name}
-use Rattle.estelle_tree.specs.declared.tree.statement.Ip.{Ip as IpTree}
 use Rattle.estelle_tree.specs.Paths.{Path, child, last_of}
 use Rattle.estelle_tree.specs.Links.{joins, is_upper_of, is_lower_of, above}
 use Rattle.estelle_model.specs.Core.{Instance, Core}
 use Rattle.estelle_model.specs.Effects.{StatementEffect, Change, Hold, Enter}
 use Rattle.estelle_model.specs.Effects as effect
-use Rattle.estelle_model.specs.States.{Offers}
-use Rattle.estelle_model.specs.Steps.{Step, Do, ◌>>=◌, ◌>>◌, pure, fail, checked, checked_at, spend}
-use Rattle.estelle_model.specs.declared.meaning.Passing.TheVariants.{ByValue}
+use Rattle.estelle_model.specs.Plans.{Plan, Done, Fails, ◌>>=◌, reads, spends, makes, keeps, fails_if, fails_unless, for_each}
+use Rattle.estelle_model.specs.declared.denoter.Denoter.{Denoter}
 use Rattle.estelle_model.specs.declared.meaning.Meaning.{Meaning}
 use Rattle.estelle_model.specs.declared.meaning.Meaning.TheVariants.{Module, Ip, Body, Interaction}
 use Rattle.estelle_model.specs.Meant.{Meanings}
 use Rattle.estelle_model.specs.declared.meaning.InteractionPoint.{InteractionPoint}
 use Rattle.estelle_model.specs.Definitions.{types_received}
-use Rattle.estelle_model.specs.Subject.{Subject, Child, body, headers_of, child_of}
+use Rattle.estelle_model.specs.Subject.{Subject, body, headers_of, child_of}
 use Rattle.estelle_model.specs.Attributes.{allows, attribute, may_have_transitions}
 use Rattle.estelle_model.specs.InteractionPoints.{point, sent_at, connectable_at, external_at, may_connect, may_attach}
 use Rattle.estelle_model.specs.Belonging.{are_values_of}
-use Rattle.estelle_model.specs.Places.{child_step}
-use Rattle.estelle_model.specs.declared.place.Environment.{Environment}
-use Rattle.estelle_model.specs.Expressions.{Operand, give_all, no_arguments}
-use Rattle.estelle_model.specs.Statements.{Action, Init, Release, Connect, Disconnect, Attach, Detach, Output}
-use Rattle.estelle_model.specs.Calls.{Enters}
+use Rattle.estelle_model.specs.Places.{child_at}
+use Rattle.estelle_model.specs.Statements.{Statement, Init, Release, Connect, Disconnect, Attach, Detach, Output}
 
 -- the interaction point is in a connection, or is the lower end of an attachment
 abbrev pub is_bound : IpAddr → List Link → Bool
@@ -81,195 +76,158 @@ abbrev pub empty_in : Option (Option Path) → Result (Unit {0}) Fault
 empty_in (Some None) = Ok tt
 empty_in _ = Err fault.ModuleTaken
 
-module _ (S : Type 0) (on : Offers S) (subject : Subject) (meant : Meanings) where
-  -- something done to the state itself
-  abbrev pub change : (S → S) → Do S
-  change f = λ s. Ok (tt, record s { state = f s.state })
-
-  abbrev pub make : StatementEffect → Do S
-  make e = change (on.does e)
-
-  abbrev pub keep : Path → Change → Do S
-  keep p c = change (on.keeps p c)
-
-  -- what is read of instances and links, or its fault
-  abbrev pub read : {A : Type 0} → (Core → Result A Fault) → Step S A
-  read f = λ s. checked_at (f (on.core s.state)) s
-
-  abbrev pub fails_if : Bool → Fault → Do S
-  fails_if b f = if b then fail f else pure tt
+module _ (subject : Subject) where
+  -- ---- interaction points, by what their names mean
 
   -- a statement with a name of another kind counts as the fault Unset
-  abbrev pub no_such : {A : Type 0} → Step S A
-  no_such = fail fault.Unset
-
-  -- the child that a module variable of the instance holds
-  abbrev pub child_in : Environment → Meaning → Step S Path
-  child_in here (Module m) = child_step S on here.path m
-  child_in here _ = no_such
-
-  abbrev pub ip_of : Path → Meaning → Step S IpAddr
-  ip_of p (Ip k) = pure (at p k)
-  ip_of p _ = no_such
-
-  abbrev pub part_of_child : Environment → Name → Name → Step S IpAddr
-  part_of_child here x p = do
-    c ← child_in here (meant x)
-    ip_of c (meant p)
-
-  abbrev pub ip_named : Environment → Name → Option Name → Step S IpAddr
-  ip_named here p None = ip_of here.path (meant p)
-  ip_named here x (Some p) = part_of_child here x p
+  abbrev pub no_such : {A : Type 0} → Plan A
+  no_such = Fails fault.Unset
 
   -- what the statement presumes: else it is as one with a name of another kind
-  abbrev pub needs : (Core → Bool) → Do S
-  needs test = do
-    b ← read (λ c. Ok (test c))
-    if b then pure tt else no_such
+  abbrev pub needs : (Core → Bool) → Plan (Unit {0})
+  needs test = fails_unless test fault.Unset
+
+  -- the child that a module variable of the instance holds
+  abbrev pub child_in : Path → Meaning → Plan Path
+  child_in p (Module m) = reads (child_at p m)
+  child_in p _ = no_such
+
+  abbrev pub ip_of : Path → Meaning → Plan IpAddr
+  ip_of p (Ip k) = Done (at p k)
+  ip_of p _ = no_such
+
+  -- of the instance, or of the child that a module variable holds
+  abbrev pub ip_in : Path → Meaning → Option Meaning → Plan IpAddr
+  ip_in p x None = ip_of p x
+  ip_in p x (Some part) = child_in p x >>= λ c. ip_of c part
+
+  -- the external interaction points of an instance, in declaration order
+  abbrev pub points_of : Path → Instance → List IpAddr
+  points_of p i = map (at p) (count_from 0 (child_of subject i.body).external)
 
   -- ---- connect, disconnect, attach, detach
 
-  abbrev pub connect_points : Environment → IpAddr → IpAddr → Do S
-  connect_points here a b = do
-    allowed ← needs (λ c. may_connect subject c.instances here.path a b)
-    links ← read (λ c. Ok c.links)
-    fails_if (is_bound a links || is_bound b links) fault.LinkTaken
-    make (effect.Connect a b)
+  abbrev pub connect_points : Path → IpAddr → IpAddr → Plan (Unit {0})
+  connect_points p a b = do
+    allowed ← needs (λ c. may_connect subject c.instances p a b)
+    free ← fails_if (λ c. is_bound a c.links || is_bound b c.links) fault.LinkTaken
+    makes (effect.Connect a b)
 
-  abbrev pub connect : Environment → IpTree → IpTree → Do S
-  connect here p q = do
-    a ← ip_named here p.name p.part
-    b ← ip_named here q.name q.part
-    connect_points here a b
+  abbrev pub disconnect_point : Path → IpAddr → Plan (Unit {0})
+  disconnect_point p a = do
+    allowed ← needs (λ c. connectable_at p a (point subject c.instances a))
+    there ← fails_unless (λ c. is_connected a c.links) fault.LinkAbsent
+    makes (effect.Disconnect a)
 
-  abbrev pub disconnect_one : IpAddr → Do S
-  disconnect_one a = do
-    links ← read (λ c. Ok c.links)
-    fails_if (if is_connected a links then false else true) fault.LinkAbsent
-    make (effect.Disconnect a)
+  abbrev pub disconnect_where : IpAddr → Bool → Plan (Unit {0})
+  disconnect_where a true = makes (effect.Disconnect a)
+  disconnect_where a false = Done tt
 
   -- disconnects it if it is connected
-  abbrev pub disconnect_if : IpAddr → Do S
-  disconnect_if a = do
-    links ← read (λ c. Ok c.links)
-    if is_connected a links then make (effect.Disconnect a) else pure tt
+  abbrev pub disconnect_if : IpAddr → Plan (Unit {0})
+  disconnect_if a = reads (λ c. Ok (is_connected a c.links)) >>= disconnect_where a
 
-  abbrev pub detach_above : Option IpAddr → Do S
-  detach_above None = pure tt
-  detach_above (Some upper) = make (effect.Detach upper)
-
-  -- detaches it if it is a lower end
-  abbrev pub detach_if : IpAddr → Do S
-  detach_if a = do
-    links ← read (λ c. Ok c.links)
-    detach_above (above links a)
-
-  abbrev pub for_each : {A : Type 0} → (A → Do S) → List A → Do S
-  for_each f [] = pure tt
-  for_each f (a ∷ more) = f a >> for_each f more
-
-  -- the external interaction points of an instance, in declaration order
-  abbrev pub external : Path → Step S (List IpAddr)
-  external p = do
-    i ← read (instance_at p)
-    pure (map (at p) (count_from 0 (child_of subject i.body).external))
-
-  abbrev pub disconnect_child : Path → Do S
-  disconnect_child p = do
-    ips ← external p
-    for_each disconnect_if ips
-
-  abbrev pub disconnect_point : Environment → IpAddr → Do S
-  disconnect_point here a = do
-    allowed ← needs (λ c. connectable_at here.path a (point subject c.instances a))
-    disconnect_one a
+  -- each connected one of a child
+  abbrev pub disconnect_child : Path → Plan (Unit {0})
+  disconnect_child p = reads (instance_at p) >>= λ i. for_each disconnect_if (points_of p i)
 
   -- one interaction point, or each connected one of a child
-  abbrev pub disconnect_of : Environment → Name → Option Name → Meaning → Do S
-  disconnect_of here x None (Module m) = child_in here (Module m) >>= disconnect_child
-  disconnect_of here x part mean = ip_named here x part >>= disconnect_point here
+  abbrev pub disconnect : Path → Option Meaning → Meaning → Plan (Unit {0})
+  disconnect p None (Module m) = child_in p (Module m) >>= disconnect_child
+  disconnect p part x = ip_in p x part >>= disconnect_point p
 
-  abbrev pub attach_points : IpAddr → IpAddr → Do S
+  abbrev pub attach_points : IpAddr → IpAddr → Plan (Unit {0})
   attach_points upper lower = do
     allowed ← needs (λ c. may_attach subject c.instances upper lower)
-    links ← read (λ c. Ok c.links)
-    fails_if (is_upper upper links || is_bound lower links) fault.LinkTaken
-    make (effect.Attach upper lower)
+    free ← fails_if (λ c. is_upper upper c.links || is_bound lower c.links) fault.LinkTaken
+    makes (effect.Attach upper lower)
 
-  abbrev pub attach : Environment → Name → Name → Name → Do S
-  attach here p x q = do
-    upper ← ip_of here.path (meant p)
-    lower ← part_of_child here x q
-    attach_points upper lower
-
-  abbrev pub detach_point : IpAddr → Do S
+  abbrev pub detach_point : IpAddr → Plan (Unit {0})
   detach_point upper = do
     allowed ← needs (λ c. external_at (point subject c.instances upper))
-    links ← read (λ c. Ok c.links)
-    fails_if (if is_upper upper links then false else true) fault.LinkAbsent
-    make (effect.Detach upper)
+    there ← fails_unless (λ c. is_upper upper c.links) fault.LinkAbsent
+    makes (effect.Detach upper)
 
-  abbrev pub detach : Environment → Name → Do S
-  detach here p = ip_of here.path (meant p) >>= detach_point
+  abbrev pub detach_above : Option IpAddr → Plan (Unit {0})
+  detach_above None = Done tt
+  detach_above (Some upper) = makes (effect.Detach upper)
+
+  -- detaches it if it is a lower end
+  abbrev pub detach_if : IpAddr → Plan (Unit {0})
+  detach_if a = reads (λ c. Ok (above c.links a)) >>= detach_above
 
   -- ---- output
 
-  abbrev pub output_at : Name → Name → List Value → IpAddr → Do S
-  output_at p m values a = do
-    allowed ← needs (λ c. is_sent_at (point subject c.instances a) m.word (meant m) && are_values_of (types_received (meant m)) values)
-    make (effect.Output a p.word m.word values)
-
-  -- the arguments, then the unit
-  abbrev pub output : Environment → Name → Name → List (Operand S) → Do S
-  output here p m es = do
-    given ← give_all (map ByValue (types_received (meant m))) es no_arguments
-    spent ← spend
-    a ← ip_of here.path (meant p)
-    output_at p m given.values a
+  -- by the words of the interaction point and of the interaction
+  abbrev pub output_at : List ℕ → List ℕ → Meaning → List Value → IpAddr → Plan (Unit {0})
+  output_at ip word mean values a = do
+    allowed ← needs (λ c. is_sent_at (point subject c.instances a) word mean && are_values_of (types_received mean) values)
+    makes (effect.Output a ip word values)
 
   -- ---- init and release
 
-  abbrev pub enter_state : Path → Option ℕ → Do S
-  enter_state p None = pure tt
-  enter_state p (Some k) = keep p (Enter k)
+  -- whether a module variable of the instance may hold a child of the body with these values; the instance
+  abbrev pub may_begin : Path → ℕ → ℕ → List Value → Plan Instance
+  may_begin p m k values = do
+    i ← reads (instance_at p)
+    allowed ← needs (λ c. may_hold subject i.body m k && are_values_of (child_of subject k).parameters values)
+    Done i
 
-  -- the unit and the depth, then whether the variable is empty; the child is made and runs its initialization, takes its state, and then the variable holds it
-  abbrev pub create : Enters S → Environment → ℕ → Child → List Value → Instance → Do S
-  create enters here m new values i = do
-    ran ← enters (checked (empty_in (slice_get i.module_variables m)) >> make (effect.Create here.path (suc i.births) (new.with_parameters values))) (child here.path (suc i.births)) new.block no_arguments
-    entered ← enter_state (child here.path (suc i.births)) new.to
-    keep here.path (Hold m (Some (child here.path (suc i.births))))
+  -- behind the unit and the depth: the child is made where the variable is empty
+  abbrev pub begins_child : Path → ℕ → Instance → Instance → Plan (Unit {0})
+  begins_child p m i new = do
+    empty ← reads (λ c. empty_in (slice_get i.module_variables m))
+    makes (effect.Create p (suc i.births) new)
 
-  -- the arguments come first
-  abbrev pub init : Enters S → Environment → ℕ → ℕ → Child → List (Operand S) → Do S
-  init enters here m k new es = do
-    given ← give_all (map ByValue new.parameters) es no_arguments
-    i ← read (instance_at here.path)
-    allowed ← needs (λ c. may_hold subject i.body m k && are_values_of new.parameters given.values)
-    create enters here m new given.values i
+  abbrev pub enters_state : Path → Option ℕ → Plan (Unit {0})
+  enters_state p None = Done tt
+  enters_state p (Some k) = keeps p (Enter k)
 
-  abbrev pub init_of : Enters S → Environment → Meaning → Meaning → List (Operand S) → Do S
-  init_of enters here (Module m) (Body k) es = init enters here m k (child_of subject k) es
-  init_of enters here x b es = no_such
+  -- behind its initialization the child takes its state, and then the variable holds it
+  abbrev pub holds_child : Path → ℕ → Option ℕ → Path → Plan (Unit {0})
+  holds_child p m to c = do
+    entered ← enters_state c to
+    keeps p (Hold m (Some c))
+
+  abbrev pub free_point : IpAddr → Plan (Unit {0})
+  free_point a = disconnect_if a >>= λ cut. detach_if a
 
   -- each external interaction point is disconnected and detached; then the child vanishes with all below it, and the variable is empty
-  abbrev pub release_child : Path → ℕ → Path → Do S
+  abbrev pub release_child : Path → ℕ → Path → Plan (Unit {0})
   release_child p m c = do
-    ips ← external c
-    freed ← for_each (λ a. disconnect_if a >> detach_if a) ips
-    removed ← make (effect.Remove p (last_of c))
-    keep p (Hold m None)
+    i ← reads (instance_at c)
+    freed ← for_each free_point (points_of c i)
+    removed ← makes (effect.Remove p (last_of c))
+    keeps p (Hold m None)
 
-  abbrev pub release : Environment → Meaning → Do S
-  release here (Module m) = child_in here (Module m) >>= release_child here.path m
-  release here _ = no_such
+  abbrev pub release : Path → Meaning → Plan (Unit {0})
+  release p (Module m) = child_in p (Module m) >>= release_child p m
+  release p _ = no_such
 
-  -- what a statement of Estelle does
-  unfoldable pub act : Enters S → Environment → Action S → Do S
-  act enters here (Init x b es) = init_of enters here (meant x) (meant b) es
-  act enters here (Release x) = release here (meant x)
-  act enters here (Connect p q) = connect here p q
-  act enters here (Disconnect p) = disconnect_of here p.name p.part (meant p.name)
-  act enters here (Attach p x q) = attach here p x q
-  act enters here (Detach p) = detach here p
-  act enters here (Output p m es) = output here p m es
+  module _ (meant : Meanings) where
+    abbrev pub meant_part : Option Name → Option Meaning
+    meant_part = option_map meant
+
+    -- the types of the values that a statement is given
+    abbrev pub given_types : Statement → List Denoter
+    given_types (Output p m) = types_received (meant m)
+    given_types _ = []
+
+    -- what a statement does with its values; what `init` does stands below
+    abbrev pub plan_of : Path → Statement → List Value → Plan (Unit {0})
+    plan_of p (Connect x y) values = do
+      a ← ip_in p (meant x.name) (meant_part x.part)
+      b ← ip_in p (meant y.name) (meant_part y.part)
+      connect_points p a b
+    plan_of p (Disconnect x) values = disconnect p (meant_part x.part) (meant x.name)
+    plan_of p (Attach own x part) values = do
+      upper ← ip_of p (meant own)
+      lower ← ip_in p (meant x) (Some (meant part))
+      attach_points upper lower
+    plan_of p (Detach own) values = ip_of p (meant own) >>= detach_point
+    plan_of p (Output ip m) values = do
+      taken ← spends
+      a ← ip_of p (meant ip)
+      output_at ip.word m.word (meant m) values a
+    plan_of p (Release x) values = release p (meant x)
+    plan_of p (Init x b) values = no_such

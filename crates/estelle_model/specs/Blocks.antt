@@ -11,7 +11,7 @@ use Rattle.estelle_model.specs.Meant.{Meanings}
 use Rattle.estelle_model.specs.declared.place.Environment.{Environment}
 use Rattle.estelle_model.specs.declared.place.ActualParameters.{ActualParameters}
 use Rattle.estelle_model.specs.Expressions.{expr}
-use Rattle.estelle_model.specs.Statements.{Action}
+use Rattle.estelle_model.specs.Statements.{Acts}
 use Rattle.estelle_model.specs.Calls.{Enters, call_by, within, nested, max_depth}
 
 -- a state as a block finds it: no frame, and the whole budget
@@ -30,7 +30,7 @@ enter_values values = λ s. Ok (tt, record s { frames = pascal.Fields values ∷
 abbrev pub leave_values : {S : Type 0} → Value → Step S Value
 leave_values v = λ s. Ok (v, record s { frames = [] })
 
-module _ (S : Type 0) (on : Offers S) (meant : Meanings) (act : Enters S → Environment → Action S → Do S) where
+module _ (S : Type 0) (on : Offers S) (meant : Meanings) (act : Enters S → Acts S) where
   -- what a block calls is nested one deep
   abbrev pub from_block : Enters S
   from_block = nested S on meant act max_depth

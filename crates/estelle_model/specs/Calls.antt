@@ -15,7 +15,7 @@ use Rattle.estelle_model.specs.Meant.{Meanings, result_types, result_number}
 use Rattle.estelle_model.specs.declared.place.Environment.{Environment}
 use Rattle.estelle_model.specs.declared.place.ActualParameters.{ActualParameters}
 use Rattle.estelle_model.specs.Expressions.{Call}
-use Rattle.estelle_model.specs.Statements.{Action, stmts}
+use Rattle.estelle_model.specs.Statements.{Acts, stmts}
 
 -- a variable of a type as it begins: each simple part and each set is unset
 abbrev pub blank : Denoter → Value
@@ -48,7 +48,7 @@ Enters S = Do S → Path → Routine → ActualParameters → Step S Value
 abbrev pub call_by : {S : Type 0} → Enters S → Path → Call S
 call_by enters path r given = enters (pure tt) path r given
 
-module _ (S : Type 0) (on : Offers S) (meant : Meanings) (act : Enters S → Environment → Action S → Do S) where
+module _ (S : Type 0) (on : Offers S) (meant : Meanings) (act : Enters S → Acts S) where
   -- the statements of a routine in a frame of its own, at a depth
   abbrev pub within : Enters S → ℕ → Path → Routine → ActualParameters → Step S Value
   within enters depth path r given =

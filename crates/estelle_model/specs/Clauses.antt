@@ -15,7 +15,9 @@ use Rattle.estelle_model.specs.States.{Offers}
 use Rattle.estelle_model.specs.Steps.{StepResult, Step, Do, ◌>>=◌, ◌>>◌, pure, checked}
 use Rattle.estelle_model.specs.Operators.{int_of}
 use Rattle.estelle_model.specs.Expressions.{bool_step}
-use Rattle.estelle_model.specs.Actions.{act, enter_state}
+use Rattle.estelle_model.specs.Plans.{carry}
+use Rattle.estelle_model.specs.Actions.{enters_state}
+use Rattle.estelle_model.specs.Acts.{act}
 use Rattle.estelle_model.specs.Blocks.{block_step, clause_value}
 use Rattle.estelle_model.specs.Transitions.{Transition, Delay}
 use Rattle.estelle_model.specs.Subject.{Subject, meant, meant_with, begins, of_block}
@@ -23,11 +25,11 @@ use Rattle.estelle_model.specs.Subject.{Subject, meant, meant_with, begins, of_b
 module _ (S : Type 0) (on : Offers S) (s : Subject) where
   -- the block of a transition, with the values of the interaction that it received; then the state is set
   abbrev pub fire_step : Path → Transition → List Value → Do S
-  fire_step p t values = block_step S on (meant_with s t.chosen) (act S on s (meant_with s t.chosen)) p (of_block (meant_with s t.chosen) t.received t.block) values >> enter_state S on s (meant s) p t.to
+  fire_step p t values = block_step S on (meant_with s t.chosen) (act S on s (meant_with s t.chosen)) p (of_block (meant_with s t.chosen) t.received t.block) values >> carry S on (enters_state s p t.to)
 
   -- the initialization of the specification
   abbrev pub start_step : Do S
-  start_step = block_step S on (meant s) (act S on s (meant s)) [] (begins s 0).block [] >> enter_state S on s (meant s) [] (begins s 0).to
+  start_step = block_step S on (meant s) (act S on s (meant s)) [] (begins s 0).block [] >> carry S on (enters_state s [] (begins s 0).to)
 
   -- ---- guards
 

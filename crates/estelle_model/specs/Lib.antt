@@ -23,8 +23,10 @@ pub mod Places
 pub mod Expressions
 pub mod Loops
 pub mod Statements
+pub mod Plans
 pub mod Calls
 pub mod Actions
+pub mod Acts
 pub mod Blocks
 pub mod Clauses
 -- ---- situations

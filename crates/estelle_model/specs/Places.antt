@@ -9,7 +9,7 @@ use Rattle.pascal_values.specs.Shapes.{is_unset, fit_of}
 use Rattle.estelle_model.specs.declared.denoter.Denoter.{Denoter}
 use Rattle.estelle_model.specs.Types.{shape_of, host_of, value_in}
 use Rattle.estelle_tree.specs.Paths.{Path}
-use Rattle.estelle_model.specs.Core.{Instance}
+use Rattle.estelle_model.specs.Core.{Instance, Core}
 use Rattle.estelle_model.specs.Effects.{Store}
 use Rattle.estelle_model.specs.Belonging.{may_store}
 use Rattle.estelle_model.specs.States.{Offers}
@@ -43,6 +43,10 @@ abbrev pub module_variables_of : Option Instance → List (Option Path)
 module_variables_of None = []
 module_variables_of (Some i) = i.module_variables
 
+-- the child that a module variable of an instance holds; NoModule where it is empty
+abbrev pub child_at : Path → ℕ → Core → Result Path Fault
+child_at p m c = held_in (slice_get (module_variables_of (map.get c.instances p)) m)
+
 module _ (S : Type 0) (on : Offers S) where
   -- what stands at a place, if it is a place; NoModule where its instance is gone
   abbrev pub held : Place → Running S → Result (Option Value) Fault
@@ -70,6 +74,5 @@ module _ (S : Type 0) (on : Offers S) where
   unfoldable pub store_ordinal : Denoter → Place → ℤ → Do S
   store_ordinal t place n = checked (value_in (host_of t) n) >>= λ v. store t place v
 
-  -- the child that a module variable of an instance holds; NoModule where it is empty
   unfoldable pub child_step : Path → ℕ → Step S Path
-  child_step p m = λ s. checked_at (held_in (slice_get (module_variables_of (map.get (on.core s.state).instances p)) m)) s
+  child_step p m = λ s. checked_at (child_at p m (on.core s.state)) s

@@ -30,15 +30,19 @@ use Rattle.estelle_model.specs.declared.place.Environment.{Environment}
 use Rattle.estelle_model.specs.Expressions.{Call, Operand, Access, bool_step, ordinal_step, give_all, no_arguments, expr, args, target, accessed}
 use Rattle.estelle_model.specs.Loops.{while_loop, repeat_loop, count_loop}
 
--- the statements of Estelle (ISO/IEC 9074), with their arguments as expressions
-pub data Action (S : Type 0) : Type 0 where
-  Init : (module_variable body : Name) (arguments : List (Operand S)) → Action S
-  Release : (module_variable : Name) → Action S
-  Connect : (first second : Ip) → Action S
-  Disconnect : (a : Ip) → Action S
-  Attach : (own module_variable ip : Name) → Action S
-  Detach : (own : Name) → Action S
-  Output : (ip interaction : Name) (arguments : List (Operand S)) → Action S
+-- the statements of Estelle (ISO/IEC 9074), by what they name
+pub data Statement : Type 0 where
+  Init : (module_variable body : Name) → Statement
+  Release : (module_variable : Name) → Statement
+  Connect : (first second : Ip) → Statement
+  Disconnect : (a : Ip) → Statement
+  Attach : (own module_variable ip : Name) → Statement
+  Detach : (own : Name) → Statement
+  Output : (ip interaction : Name) → Statement
+
+-- what a statement of Estelle does with its arguments
+abbrev pub Acts : Type 0 → Type 0
+Acts S = Environment → Statement → List (Operand S) → Do S
 
 -- ---- labels
 
@@ -60,8 +64,7 @@ abbrev pub or_nothing : {S : Type 0} → Option (Do S) → Do S
 or_nothing None = pure tt
 or_nothing (Some p) = p
 
--- act : what a statement of Estelle does
-module _ (S : Type 0) (on : Offers S) (meant : Meanings) (act : Environment → Action S → Do S) (call : Call S) (here : Environment) where
+module _ (S : Type 0) (on : Offers S) (meant : Meanings) (act : Acts S) (call : Call S) (here : Environment) where
   abbrev pub value_of_expr : Expr → Step S Value
   value_of_expr e = (expr S on meant call here e).value
 
@@ -120,13 +123,13 @@ module _ (S : Type 0) (on : Offers S) (meant : Meanings) (act : Environment → 
   stmt_layer (Stmt-F.Repeat body test span) = repeat_loop body (bool_step (value_of_expr test))
   stmt_layer (Stmt-F.Count x first dir last body span) = count x first dir last body
   stmt_layer (Stmt-F.Case e cases semicolon span) = select e cases
-  stmt_layer (Stmt-F.Init x b es span) = act here (Init x b (arguments es))
-  stmt_layer (Stmt-F.Release x span) = act here (Release x)
-  stmt_layer (Stmt-F.Connect a b span) = act here (Connect a b)
-  stmt_layer (Stmt-F.Disconnect a span) = act here (Disconnect a)
-  stmt_layer (Stmt-F.Attach p x q span) = act here (Attach p x q)
-  stmt_layer (Stmt-F.Detach p span) = act here (Detach p)
-  stmt_layer (Stmt-F.Output p m es span) = act here (Output p m (arguments es))
+  stmt_layer (Stmt-F.Init x b es span) = act here (Init x b) (arguments es)
+  stmt_layer (Stmt-F.Release x span) = act here (Release x) []
+  stmt_layer (Stmt-F.Connect a b span) = act here (Connect a b) []
+  stmt_layer (Stmt-F.Disconnect a span) = act here (Disconnect a) []
+  stmt_layer (Stmt-F.Attach p x q span) = act here (Attach p x q) []
+  stmt_layer (Stmt-F.Detach p span) = act here (Detach p) []
+  stmt_layer (Stmt-F.Output p m es span) = act here (Output p m) (arguments es)
 
   abbrev pub case_layer : Case-F (Do S) (List Const × Do S) (Do S) → List Const × Do S
   case_layer c = (c.labels, c.body)

@@ -28,7 +28,9 @@ use Rattle.estelle_model.specs.Operators.{int_of}
 use Rattle.estelle_model.specs.Places.{module_variables_of}
 use Rattle.estelle_model.specs.Bodies.{BodyAlone}
 use Rattle.estelle_model.specs.Blocks.{fresh, block_step}
-use Rattle.estelle_model.specs.Actions.{act, enter_state}
+use Rattle.estelle_model.specs.Plans.{carry}
+use Rattle.estelle_model.specs.Actions.{enters_state}
+use Rattle.estelle_model.specs.Acts.{act}
 use Rattle.estelle_model.specs.Transitions.{Transition, When, Delay}
 use Rattle.estelle_model.specs.Subject.{Subject, meant, meant_with, of_block, begins, body, types_of_variables, new_instance}
 use Rattle.estelle_model.specs.Clauses.{fire_step, start_step, value_of_expr, provided_step, int_step, between, from_on, high_step, at_once, delay_step, guard_step, answered}
@@ -39,7 +41,7 @@ use Rattle.estelle_model.specs.Jobs.{part_of_entry, is_private, private, Shows, 
 use Rattle.estelle_model.specs.Computed.{core_of, log_from, values_of, start_run, job_run, IsMadeBy, IsOfTransition, IsComputedOf}
 use Rattle.estelle_model.proofs.Alike.{Same, RunningAlike, OutcomeAlike, StepAlike, DoAlike, ValueAlike, then_same, pure_alike, checked_alike, if_alike}
 use Rattle.estelle_model.proofs.AlikeOperands.{bool_alike}
-use Rattle.estelle_model.proofs.AlikeActions.{inside_root}
+use Rattle.estelle_model.proofs.AlikeFirings.{inside_root}
 use Rattle.estelle_model.proofs.AlikeFirings.{situation_is_faithful}
 use Rattle.estelle_model.proofs.Maps.{total, apart, get_inserted, same_told}
 use Rattle.std.specs.Option.{option_or}
@@ -47,7 +49,7 @@ use Rattle.estelle_model.proofs.Members.{contained}
 use Rattle.estelle_model.proofs.PrivateParts.{inside_self, none_else, told_parts, get_inside, core_private, privates_same, remove_empty}
 use Rattle.estelle_model_answers.specs.Laws.{JobsAreAnswered, GuardsAreAnswered}
 use Rattle.estelle_model_answers.proofs.Owned.{none_held}
-use Rattle.estelle_model_answers.proofs.Alike.{KeepsAlike, enter_state_alike, blocks_alike, clauses_alike}
+use Rattle.estelle_model_answers.proofs.Alike.{KeepsAlike, enters_alike, blocks_alike, clauses_alike}
 use Rattle.estelle_model_answers.proofs.Within.{outline_of, HoldChildren}
 use Rattle.estelle_model_answers.proofs.Follows.{with_instances, done_by, Follows, keeps_following}
 
@@ -147,9 +149,9 @@ module _ (s : Subject) (m : Path) (g : Situation) where
   pub fire_alike : (t : Transition) (vs : List Value) → DoAlike Acting Logged R (fire_step Acting on_situation s m t vs) (fire_step Logged on_log s m t vs)
   fire_alike t vs = then_same Acting Logged R (Same {A = Unit {0}})
       (block_step Acting on_situation (meant_with s t.chosen) (act Acting on_situation s (meant_with s t.chosen)) m (of_block (meant_with s t.chosen) t.received t.block) vs) (block_step Logged on_log (meant_with s t.chosen) (act Logged on_log s (meant_with s t.chosen)) m (of_block (meant_with s t.chosen) t.received t.block) vs)
-      (λ _. enter_state Acting on_situation s (meant s) m t.to) (λ _. enter_state Logged on_log s (meant s) m t.to)
+      (λ _. carry Acting on_situation (enters_state s m t.to)) (λ _. carry Logged on_log (enters_state s m t.to))
       (blocks_alike Acting Logged on_situation on_log situation_is_faithful s m R Keeps (meant_with s t.chosen) m (inside_self m) (of_block (meant_with s t.chosen) t.received t.block) vs)
-      (λ _. enter_state_alike Acting Logged on_situation on_log situation_is_faithful s m R Keeps (meant s) m t.to (inside_self m))
+      (λ _. enters_alike Acting Logged on_situation on_log situation_is_faithful s m R Keeps (meant s) m t.to (inside_self m))
 
   -- ---- guards
 
@@ -251,9 +253,9 @@ module _ (s : Subject) where
   start_alike : DoAlike Acting Logged (R s [] (bare s)) (start_step Acting on_situation s) (start_step Logged on_log s)
   start_alike = then_same Acting Logged (R s [] (bare s)) (Same {A = Unit {0}})
       (block_step Acting on_situation (meant s) (act Acting on_situation s (meant s)) [] (begins s 0).block []) (block_step Logged on_log (meant s) (act Logged on_log s (meant s)) [] (begins s 0).block [])
-      (λ _. enter_state Acting on_situation s (meant s) [] (begins s 0).to) (λ _. enter_state Logged on_log s (meant s) [] (begins s 0).to)
+      (λ _. carry Acting on_situation (enters_state s [] (begins s 0).to)) (λ _. carry Logged on_log (enters_state s [] (begins s 0).to))
       (blocks_alike Acting Logged on_situation on_log situation_is_faithful s [] (R s [] (bare s)) (Keeps s [] (bare s)) (meant s) [] (inside_root []) (begins s 0).block [])
-      (λ _. enter_state_alike Acting Logged on_situation on_log situation_is_faithful s [] (R s [] (bare s)) (Keeps s [] (bare s)) (meant s) [] (begins s 0).to (inside_root []))
+      (λ _. enters_alike Acting Logged on_situation on_log situation_is_faithful s [] (R s [] (bare s)) (Keeps s [] (bare s)) (meant s) [] (begins s 0).to (inside_root []))
 
   -- where no timer runs, none is dropped
   untimed_start : (x : StepResult Acting (Unit {0})) (y : StepResult Logged (Unit {0})) → OutcomeAlike Acting Logged (R s [] (bare s)) (Same {A = Unit {0}}) x y → untimed [] 0 (done x) ≡ done x

@@ -64,7 +64,7 @@ other_path m p q h n = by (eq_by_cmp path_cmp q p) refl
 
 -- below an instance that is at or below m
 deeper : (m p q : Path) → is_inside m p ≡ true → is_inside p q ≡ true → is_inside m q ≡ true
-deeper [] p q h k = Rattle.estelle_model.proofs.AlikeActions.inside_root q
+deeper [] p q h k = Rattle.estelle_model.proofs.AlikeFirings.inside_root q
 deeper (x ∷ m) [] q h k = absurd (cc)
 deeper (x ∷ m) (y ∷ p) [] h k = absurd (cc)
 deeper (x ∷ m) (y ∷ p) (z ∷ q) h k = ap (λ n. Rattle.std.specs.Prelude.nat_eq x n && is_inside m q) (sym (Rattle.std.proofs.Common.eqb-true y z (left_true (Rattle.std.specs.Prelude.nat_eq y z) (is_inside p q) k))) ∙ ap (λ b. b && is_inside m q) (left_true (Rattle.std.specs.Prelude.nat_eq x y) (is_inside m p) h) ∙ deeper m p q (right_true (Rattle.std.specs.Prelude.nat_eq x y) (is_inside m p) h) (right_true (Rattle.std.specs.Prelude.nat_eq y z) (is_inside p q) k)

@@ -11,6 +11,7 @@ use Rattle.estelle_model.specs.declared.image.Interaction.{Interaction}
 use Rattle.estelle_model.specs.Effects.{StatementEffect, Output, Connect, Disconnect, Attach, Detach, Create, Remove}
 use Rattle.estelle_model.specs.Situation.{Waiting, Acting, on_situation, acting_after, put_number, arrived, mail_after, made_after, outs_after, drops_after}
 use Rattle.estelle_model.specs.Queues.{Head, Absent, head_at}
+use Rattle.estelle_model.proofs.AlikeFirings.{situation_is_faithful}
 use Rattle.estelle_model_fates.specs.Fates.{numbers, lost_after, Fate, times}
 use Rattle.estelle_model_fates.proofs.EveryBlock.{IsInvariant}
 
@@ -158,7 +159,7 @@ module _ (i before : ℕ) (mail : List Waiting) where
   }
 
   pub counted : IsInvariant Acting on_situation (IsCounted i before mail)
-  counted = record { does = λ e a may h. after e a h; keeps = λ p change a h. record { made = h.made; each = h.each } }
+  counted = record { faithful = situation_is_faithful; does = λ e a may h. after e a h; keeps = λ p change a h. record { made = h.made; each = h.each } }
 
 -- ---- what a firing takes
 

@@ -82,6 +82,7 @@ module _ (i : ℕ) (K : Core → List Waiting → ℕ → Type 0) (lasting : IsL
 
   kept : IsKept Watched Acting on_watched on_situation IsWatched
   kept = record {
+    faithful = record { does_core = λ e w. refl; keeps_core = λ p change w. refl };
     cores = λ w a r. ap (λ (x : Acting). x.situation.core) r.0;
     does = λ e w a may r. (ap (acting_after e) r.0, does e w may r.1);
     keeps = λ p change w a r. (ap (λ (x : Acting). on_situation.keeps p change x) r.0, keeps p change w r.1);

@@ -19,10 +19,12 @@ use Rattle.estelle_model.specs.Core.{Instance}
 use Rattle.estelle_model.specs.Effects.{Enter, changed, changed_in}
 use Rattle.estelle_model.specs.Steps.{Running, StepResult, and_then}
 use Rattle.estelle_model.specs.Transitions.{Transition, When}
-use Rattle.estelle_model.specs.Subject.{Subject, body, transition, meant, meant_with, of_block}
+use Rattle.estelle_model.specs.Subject.{Subject, body, transition, meant_with, of_block}
 use Rattle.estelle_model.specs.Blocks.{fresh, block_step}
 use Rattle.estelle_model.specs.Situation.{Waiting, Situation, Acting, on_situation}
-use Rattle.estelle_model.specs.Actions.{act, enter_state}
+use Rattle.estelle_model.specs.Plans.{carry}
+use Rattle.estelle_model.specs.Actions.{enters_state}
+use Rattle.estelle_model.specs.Acts.{act}
 use Rattle.estelle_model.specs.Queues.{Found, NotNeeded, Head, Absent, one_queue, is_common, received}
 use Rattle.estelle_model.specs.Firing.{Firing, Ran, Failed, Undefined, begun, done, untimed, taken, fire_with, fire_found, fire_of, fire, transition_at}
 use Rattle.estelle_model_legality.specs.Instances.{LeadsToStates}
@@ -135,7 +137,7 @@ module _ (s : Subject) (leads : LeadsToStates s) (budget : ℕ) (g : Situation) 
     same_timers h e k p x at = k p x (sym (ap (λ (z : Timers). fin.get z p) e) ∙ at)
 
     -- the instance goes to its next state
-    next_state : (to : Option ℕ) → to ≡ t.to → (u : Running Acting) → Within s [] u.state.situation → Outside m g u.state.situation → HasFired s m g (done (enter_state Acting on_situation s (meant s) m to u))
+    next_state : (to : Option ℕ) → to ≡ t.to → (u : Running Acting) → Within s [] u.state.situation → Outside m g u.state.situation → HasFired s m g (done (carry Acting on_situation (enters_state s m to) u))
     next_state None is u v o = record { within = v; others = o.others; mail = o.mail; pending = o.pending; timers = same_timers u.state.situation o.timers }
     next_state (Some state) is u v o =
         let h = u.state.situation in
@@ -159,7 +161,7 @@ module _ (s : Subject) (leads : LeadsToStates s) (budget : ℕ) (g : Situation) 
           timers = same_timers h o.timers;
         }
 
-    fired_block : (o : StepResult Acting (Unit {0})) → Comes s [] m (Unit {0}) (taken s g m t.when) o → HasFired s m g (done (and_then o (λ _. enter_state Acting on_situation s (meant s) m t.to)))
+    fired_block : (o : StepResult Acting (Unit {0})) → Comes s [] m (Unit {0}) (taken s g m t.when) o → HasFired s m g (done (and_then o (λ _. carry Acting on_situation (enters_state s m t.to))))
     fired_block (Ok r) c = next_state t.to refl r.1 c.0 (outside_then m g (taken s g m t.when) r.1.state.situation (taken_within t.when).1 c.1)
     fired_block (Err e) c = tt
 

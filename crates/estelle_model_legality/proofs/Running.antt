@@ -12,7 +12,7 @@ use Rattle.estelle_model.specs.Effects as effect
 use Rattle.estelle_model.specs.Bodies.{BodyAlone, heading, variables_in, variable_types, states_in, module_variables_in}
 use Rattle.estelle_model.specs.declared.denoter.Denoter.{Denoter}
 use Rattle.estelle_model.specs.Denoted.{section_types}
-use Rattle.estelle_model.specs.Steps.{Running, StepResult, Step, Do, and_then, ◌>>=◌, ◌>>◌, pure, fail, checked, checked_at, spend}
+use Rattle.estelle_model.specs.Steps.{Running, StepResult, Step, Do, and_then, ◌>>=◌, pure, fail, checked_at, spend}
 use Rattle.estelle_model.specs.declared.meaning.Passing.TheVariants.{ByValue}
 use Rattle.estelle_model.specs.declared.meaning.Routine.{Routine}
 use Rattle.estelle_model.specs.declared.meaning.Meaning.{Meaning}
@@ -21,8 +21,8 @@ use Rattle.estelle_model.specs.Meant.{Meanings}
 use Rattle.estelle_model.specs.declared.place.Environment.{Environment}
 use Rattle.estelle_model.specs.declared.place.ActualParameters.{ActualParameters}
 use Rattle.estelle_model.specs.Expressions.{Operand, give_all, no_arguments}
-use Rattle.estelle_model.specs.Statements.{Init, Release, Connect, Disconnect, Attach, Detach, Output, stmts}
-use Rattle.estelle_model.specs.Calls.{Enters, call_by, enter, leave, within, nested, max_depth}
+use Rattle.estelle_model.specs.Statements.{Statement, Init, Release}
+use Rattle.estelle_model.specs.Calls.{Enters, call_by, within, nested, max_depth}
 use Rattle.estelle_model.specs.Blocks.{given_values, from_block, block_step}
 use Rattle.estelle_model.specs.Transitions.{Choice}
 use Rattle.estelle_model.specs.Subject.{Subject, body, no_body, begins, blanks, child_of, headers_of, new_instance, meant_with}
@@ -30,17 +30,21 @@ use Rattle.estelle_model.specs.Subject as subject
 use Rattle.estelle_model.specs.Attributes.{attribute, allows, may_have_transitions}
 use Rattle.estelle_model.specs.Belonging.{are_values_of}
 use Rattle.estelle_model.specs.Situation.{Situation, Acting, on_situation, situation_after, situation_kept}
-use Rattle.estelle_model.specs.Actions.{instance_at, has_header, may_hold, empty_in, or_no_module, make, keep, read, needs, enter_state, create, init, init_of, act}
+use Rattle.estelle_model.specs.Plans.{makes, carry}
+use Rattle.estelle_model.specs.Actions.{has_header, may_hold, empty_in, may_begin, begins_child, holds_child, plan_of}
+use Rattle.estelle_model.specs.Acts.{create, init, init_of, act}
 use Rattle.estelle_model_legality.specs.Instances.{IsStateOf, LeadsToStates}
 use Rattle.estelle_model.proofs.Units.{Each}
-use Rattle.estelle_model.proofs.Kept.{Has, OperandKept, CallKept, give_all_kept, seq_kept}
-use Rattle.estelle_model.proofs.KeptStatements.{ActKept, stmts_kept}
+use Rattle.estelle_model.proofs.Kept.{Has, OperandKept, CallKept, then_kept, give_all_kept}
+use Rattle.estelle_model.proofs.KeptStatements.{ActKept}
+use Rattle.estelle_model.proofs.ActsKept.{begun_keeps, acts_by}
+use Rattle.estelle_model.proofs.BlocksKept.{within_kept}
 use Rattle.estelle_model_legality.proofs.Lists.{and_both, same_number, in_cases, in_head, not_true}
 use Rattle.estelle_model_legality.proofs.Ways.{inside_itself, inside_child, not_below_itself}
 use Rattle.estelle_model_legality.proofs.Belonging.{values_new}
 use Rattle.estelle_model_legality.proofs.Standing.{stands_of, none_holds_new}
-use Rattle.estelle_model_legality.proofs.Within.{Within, Outside, Comes, Keeps, outline, mark, outside_same, outside_then, outside_parent, mapped_there}
-use Rattle.estelle_model_legality.proofs.Acts.{closed, connect_keeps, disconnect_of_keeps, attach_keeps, detach_keeps, output_keeps}
+use Rattle.estelle_model_legality.proofs.Within.{Within, Outside, Comes, Keeps, outline, mark, outside_then, outside_parent, mapped_there}
+use Rattle.estelle_model_legality.proofs.Acts.{closed, planned_keeps}
 use Rattle.estelle_model_legality.proofs.Making.{entered, IsEntered, is_entered, good_held, IsCreated, is_created}
 use Rattle.estelle_model_legality.proofs.Nested.{release_keeps}
 
@@ -131,10 +135,10 @@ module _ (s : Subject) (leads : LeadsToStates s) where
           })
           (none_held (length (module_variables_in (unwrap_or (body s k) no_body)))) rest.0 rest.1
 
-      began : (u : Running Acting) → u.state ≡ t.state → Began (child here.path (suc i.births) ∷ making) Made ((checked (empty_in (slice_get i.module_variables m)) >> make Acting on_situation s meant (effect.Create here.path (suc i.births) ((child_of s k).with_parameters values))) u)
+      began : (u : Running Acting) → u.state ≡ t.state → Began (child here.path (suc i.births) ∷ making) Made ((carry Acting on_situation (begins_child s here.path m i ((child_of s k).with_parameters values))) u)
       began u same = go (slice_get i.module_variables m) refl
         where
-          go : (o : Option (Option Path)) → slice_get i.module_variables m ≡ o → Began (child here.path (suc i.births) ∷ making) Made (and_then (checked (empty_in o) u) (λ _. make Acting on_situation s meant (effect.Create here.path (suc i.births) ((child_of s k).with_parameters values))))
+          go : (o : Option (Option Path)) → slice_get i.module_variables m ≡ o → Began (child here.path (suc i.births) ∷ making) Made (and_then (checked_at (empty_in o) u) (λ empty. carry Acting on_situation (makes (effect.Create here.path (suc i.births) ((child_of s k).with_parameters values)))))
           go None e = tt
           go (Some (Some p)) e = tt
           go (Some None) e = subst (λ (a : Acting). Within s (child here.path (suc i.births) ∷ making) (situation_after (effect.Create here.path (suc i.births) ((child_of s k).with_parameters values)) a.situation) × Made (situation_after (effect.Create here.path (suc i.births) ((child_of s k).with_parameters values)) a.situation)) (sym same)
@@ -142,7 +146,7 @@ module _ (s : Subject) (leads : LeadsToStates s) where
 
       -- then it takes its state, and is held
       finished : (to : Option ℕ) → ((d : BodyAlone) → body s k ≡ Some d → IsStateOf (length (states_in d)) to) → (h : Situation) → Made h → (u : Running Acting) → Within s (child here.path (suc i.births) ∷ making) u.state.situation → Outside (child here.path (suc i.births)) h u.state.situation
-          → Comes s making here.path (Unit {0}) t.state.situation ((enter_state Acting on_situation s meant (child here.path (suc i.births)) to >>= λ entered. keep Acting on_situation s meant here.path (effect.Hold m (Some (child here.path (suc i.births))))) u)
+          → Comes s making here.path (Unit {0}) t.state.situation (carry Acting on_situation (holds_child s here.path m to (child here.path (suc i.births))) u)
       finished to initial h is u v o = go to refl
         where
           g2 : Situation
@@ -170,15 +174,15 @@ module _ (s : Subject) (leads : LeadsToStates s) where
               (λ d at. subst (IsStateOf (length (states_in d))) (sym e.state) (initial d (sym (ap (λ (z : ℕ). body s z) (e.body ∙ ap (λ (z : Instance). z.body) made_child.2)) ∙ at)))
               (ap (λ (z : Instance). slice_get (headers_of s z.body) m) parent.2 ∙ header_is (slice_get (headers_of s i.body) m) (child_of s k).header header.0 ∙ ap (λ (z : ℕ). Some (child_of s z).header) (sym (e.body ∙ ap (λ (z : Instance). z.body) made_child.2)))
 
-          go : (x : Option ℕ) → x ≡ to → Comes s making here.path (Unit {0}) t.state.situation ((enter_state Acting on_situation s meant (child here.path (suc i.births)) x >>= λ entered. keep Acting on_situation s meant here.path (effect.Hold m (Some (child here.path (suc i.births))))) u)
-          go x same = subst (λ (y : Option ℕ). Comes s making here.path (Unit {0}) t.state.situation ((enter_state Acting on_situation s meant (child here.path (suc i.births)) y >>= λ entered. keep Acting on_situation s meant here.path (effect.Hold m (Some (child here.path (suc i.births))))) u)) (sym same)
+          go : (x : Option ℕ) → x ≡ to → Comes s making here.path (Unit {0}) t.state.situation (carry Acting on_situation (holds_child s here.path m x (child here.path (suc i.births))) u)
+          go x same = subst (λ (y : Option ℕ). Comes s making here.path (Unit {0}) t.state.situation (carry Acting on_situation (holds_child s here.path m y (child here.path (suc i.births))) u)) (sym same)
               (whole to (entered s making here.path (suc i.births) u.state.situation v made_child.0 made_child.1 (ap (λ (z : Instance). z.state) made_child.2) to) refl
               (outside_then here.path t.state.situation h (entered s making here.path (suc i.births) u.state.situation v made_child.0 made_child.1 (ap (λ (z : Instance). z.state) made_child.2) to) is.3
               (outside_then here.path h u.state.situation (entered s making here.path (suc i.births) u.state.situation v made_child.0 made_child.1 (ap (λ (z : Instance). z.state) made_child.2) to) (outside_parent here.path (suc i.births) h u.state.situation o) e.outside)) final)
             where
               whole : (y : Option ℕ) (g3 : Situation) → entered s making here.path (suc i.births) u.state.situation v made_child.0 made_child.1 (ap (λ (z : Instance). z.state) made_child.2) y ≡ g3 → Outside here.path t.state.situation g3
                   → Within s making (situation_kept here.path (effect.Hold m (Some (child here.path (suc i.births)))) g3) × Outside here.path g3 (situation_kept here.path (effect.Hold m (Some (child here.path (suc i.births)))) g3)
-                  → Comes s making here.path (Unit {0}) t.state.situation ((enter_state Acting on_situation s meant (child here.path (suc i.births)) y >>= λ entered. keep Acting on_situation s meant here.path (effect.Hold m (Some (child here.path (suc i.births))))) u)
+                  → Comes s making here.path (Unit {0}) t.state.situation (carry Acting on_situation (holds_child s here.path m y (child here.path (suc i.births))) u)
               whole None g3 same out fin_ = subst (λ (z : Situation). Within s making (situation_kept here.path (effect.Hold m (Some (child here.path (suc i.births)))) z) × Outside here.path t.state.situation (situation_kept here.path (effect.Hold m (Some (child here.path (suc i.births)))) z)) (sym same)
                   (fin_.0, outside_then here.path t.state.situation g3 (situation_kept here.path (effect.Hold m (Some (child here.path (suc i.births)))) g3) out fin_.1)
               whole (Some j) g3 same out fin_ = subst (λ (z : Situation). Within s making (situation_kept here.path (effect.Hold m (Some (child here.path (suc i.births)))) z) × Outside here.path t.state.situation (situation_kept here.path (effect.Hold m (Some (child here.path (suc i.births)))) z)) (sym same)
@@ -190,48 +194,37 @@ module _ (s : Subject) (leads : LeadsToStates s) where
         | inr d ↦ inside_child p here.path (suc i.births) (all_above p d)
       ]
 
-      create_keeps : Comes s making here.path (Unit {0}) t.state.situation (create Acting on_situation s meant enters here m (child_of s k) values i t)
-      create_keeps = go (enters (checked (empty_in (slice_get i.module_variables m)) >> make Acting on_situation s meant (effect.Create here.path (suc i.births) ((child_of s k).with_parameters values))) (child here.path (suc i.births)) (child_of s k).block no_arguments t)
-          (into (child here.path (suc i.births) ∷ making) (child here.path (suc i.births)) deeper_above (checked (empty_in (slice_get i.module_variables m)) >> make Acting on_situation s meant (effect.Create here.path (suc i.births) ((child_of s k).with_parameters values))) Made (child_of s k).block no_arguments t began)
+      create_keeps : Comes s making here.path (Unit {0}) t.state.situation (create Acting on_situation s meant enters here.path m (child_of s k) values i t)
+      create_keeps = go (enters (carry Acting on_situation (begins_child s here.path m i ((child_of s k).with_parameters values))) (child here.path (suc i.births)) (child_of s k).block no_arguments t)
+          (into (child here.path (suc i.births) ∷ making) (child here.path (suc i.births)) deeper_above (carry Acting on_situation (begins_child s here.path m i ((child_of s k).with_parameters values))) Made (child_of s k).block no_arguments t began)
         where
           go : (o : StepResult Acting Value) → Ended (child here.path (suc i.births) ∷ making) (child here.path (suc i.births)) Made o
-              → Comes s making here.path (Unit {0}) t.state.situation (and_then o (λ _. enter_state Acting on_situation s meant (child here.path (suc i.births)) (child_of s k).to >>= λ entered. keep Acting on_situation s meant here.path (effect.Hold m (Some (child here.path (suc i.births))))))
+              → Comes s making here.path (Unit {0}) t.state.situation (and_then o (λ _. carry Acting on_situation (holds_child s here.path m (child_of s k).to (child here.path (suc i.births)))))
           go (Err e) h = tt
           go (Ok r) h = finished (child_of s k).to (λ d at. leads.initial k d at) h.0 h.1 r.1 h.2 h.3
 
     abbrev K : (A : Type 0) → Running Acting → StepResult Acting A → Type 0
     K = Keeps s making here.path
 
-    init_keeps : (m k : ℕ) (es : List (Operand Acting)) → Each (OperandKept Acting on_situation K (closed s making here.path)) es → Has K (init Acting on_situation s meant enters here m k (child_of s k) es)
-    init_keeps m k es h = (closed s making here.path).then ActualParameters (Unit {0}) (give_all (map ByValue (child_of s k).parameters) es no_arguments)
-        (λ g. read Acting on_situation s meant (instance_at here.path) >>= λ i. needs Acting on_situation s meant (λ c. may_hold s i.body m k && are_values_of (child_of s k).parameters g.values) >>= λ _. create Acting on_situation s meant enters here m (child_of s k) g.values i)
+    init_keeps : (m k : ℕ) (es : List (Operand Acting)) → Each (OperandKept Acting on_situation K (closed s making here.path)) es → Has K (init Acting on_situation s meant enters here.path m k es)
+    init_keeps m k es h = then_kept Acting on_situation K (closed s making here.path) ActualParameters (Unit {0}) (give_all (map ByValue (child_of s k).parameters) es no_arguments)
+        (λ g. carry Acting on_situation (may_begin s here.path m k g.values) >>= λ i. create Acting on_situation s meant enters here.path m (child_of s k) g.values i)
         (give_all_kept Acting on_situation K (closed s making here.path) (map ByValue (child_of s k).parameters) es no_arguments h)
-        (λ g t. from g t (fin.get t.state.situation.core.instances here.path) refl)
-      where
-        tested : (g : ActualParameters) (t : Running Acting) (i : Instance) → fin.get t.state.situation.core.instances here.path ≡ Some i → (b : Bool) → (may_hold s i.body m k && are_values_of (child_of s k).parameters g.values) ≡ b
-            → K (Unit {0}) t (and_then (cond b (pure {S = Acting} (tt {0})) (fail fault.Unset) t) (λ _. create Acting on_situation s meant enters here m (child_of s k) g.values i))
-        tested g t i e true may w = let b = and_both (may_hold s i.body m k) (are_values_of (child_of s k).parameters g.values) may in create_keeps m k g.values i t w e b.0 b.1
-        tested g t i e false may w = tt
+        (λ g t w. begun_keeps Acting on_situation s here.path m k g.values (λ i. create Acting on_situation s meant enters here.path m (child_of s k) g.values i) t (Comes s making here.path (Unit {0}) t.state.situation) (λ f. tt)
+        (λ i there may. let b = and_both (may_hold s i.body m k) (are_values_of (child_of s k).parameters g.values) may in create_keeps m k g.values i t w there b.0 b.1))
 
-        from : (g : ActualParameters) (t : Running Acting) (o : Option Instance) → fin.get t.state.situation.core.instances here.path ≡ o
-            → K (Unit {0}) t (and_then (checked_at (or_no_module o) t) (λ i. needs Acting on_situation s meant (λ c. may_hold s i.body m k && are_values_of (child_of s k).parameters g.values) >>= λ _. create Acting on_situation s meant enters here m (child_of s k) g.values i))
-        from g t None e w = tt
-        from g t (Some i) e w = tested g t i e (may_hold s i.body m k && are_values_of (child_of s k).parameters g.values) refl w
-
-    init_of_keeps : (x b : Meaning) (es : List (Operand Acting)) → Each (OperandKept Acting on_situation K (closed s making here.path)) es → Has K (init_of Acting on_situation s meant enters here x b es)
+    init_of_keeps : (x b : Meaning) (es : List (Operand Acting)) → Each (OperandKept Acting on_situation K (closed s making here.path)) es → Has K (init_of Acting on_situation s meant enters here.path x b es)
     init_of_keeps (Module m) (Body k) es h t w = init_keeps m k es h t w
     init_of_keeps (Module m) _ es h t w = tt
     init_of_keeps _ b es h t w = tt
 
+    plans_keep : (st : Statement) (given : List Value) → Has K (carry Acting on_situation (plan_of s meant here.path st given))
+    plans_keep (Init x b) given t w = tt
+    plans_keep (Release x) given t w = release_keeps s making here.path meant all_above (meant x) t w
+    plans_keep st given t w = planned_keeps s making here.path meant by st given (λ c. c) t w
+
     pub act_keeps : ActKept Acting on_situation K (closed s making here.path) (act Acting on_situation s meant enters) here
-    unfolding act
-    act_keeps (Init x b es) h = init_of_keeps (meant x) (meant b) es h
-    act_keeps (Release x) h = release_keeps s making here.path meant all_above (meant x) here refl
-    act_keeps (Connect p q) h = connect_keeps s making here.path meant here refl p q
-    act_keeps (Disconnect p) h = disconnect_of_keeps s making here.path meant here p.name p.part (meant p.name)
-    act_keeps (Attach p x q) h = attach_keeps s making here.path meant here refl p x q
-    act_keeps (Detach p) h = detach_keeps s making here.path meant here refl p
-    act_keeps (Output p x es) h = output_keeps s making here.path meant x (by x).0 (by x).1 here p es h
+    act_keeps = acts_by Acting on_situation K (closed s making here.path) s meant enters here (λ x b. init_of_keeps (meant x) (meant b)) plans_keep
 
   -- ---- calls and blocks
 
@@ -244,14 +237,8 @@ module _ (s : Subject) (leads : LeadsToStates s) where
         go (Err e) h = tt
 
     within_keeps : (enters : Enters Acting) → EntersKeeps enters → (making : List Path) (q : Path) → AllAbove making q → (depth : ℕ) (r : Routine) (g : ActualParameters) → Has (Keeps s making q) (within Acting on_situation meant (act Acting on_situation s meant) enters depth q r g)
-    unfolding leave
-    within_keeps enters into making q all_above depth r g =
-        let here : Environment = record { path = q; frame = depth; references = g.references } in
-        seq_kept Acting on_situation (Keeps s making q) (closed s making q) Value (enter r g.values >> stmts Acting on_situation meant (act Acting on_situation s meant enters) (call_by enters q) here r.body) (leave r)
-        (seq_kept Acting on_situation (Keeps s making q) (closed s making q) (Unit {0}) (enter r g.values) (stmts Acting on_situation meant (act Acting on_situation s meant enters) (call_by enters q) here r.body)
-        (λ t w. (w, outside_same q t.state.situation))
-        (stmts_kept Acting on_situation (Keeps s making q) (closed s making q) meant (act Acting on_situation s meant enters) here (act_keeps meant by enters into making here all_above) (call_by enters q) (call_keeps enters into making q all_above) r.body))
-        (λ t w. (w, outside_same q t.state.situation))
+    within_keeps enters into making q all_above depth r g = within_kept Acting on_situation (Keeps s making q) (closed s making q) meant (act Acting on_situation s meant) enters depth q r g
+        (act_keeps meant by enters into making (record { path = q; frame = depth; references = g.references }) all_above) (call_keeps enters into making q all_above)
 
     nested_keeps : (n : ℕ) → EntersKeeps (nested Acting on_situation meant (act Acting on_situation s meant) n)
     unfolding spend
@@ -278,5 +265,5 @@ module _ (s : Subject) (leads : LeadsToStates s) where
     -- a block of an instance
     pub block_keeps : (making : List Path) (q : Path) → AllAbove making q → (r : Routine) (values : List Value) → Has (Keeps s making q) (block_step Acting on_situation meant (act Acting on_situation s meant) q r values)
     unfolding block_step
-    block_keeps making q all_above r values = (closed s making q).then Value (Unit {0}) (within Acting on_situation meant (act Acting on_situation s meant) (from_block Acting on_situation meant (act Acting on_situation s meant)) 0 q r (given_values values)) (λ _. pure tt)
+    block_keeps making q all_above r values = then_kept Acting on_situation (Keeps s making q) (closed s making q) Value (Unit {0}) (within Acting on_situation meant (act Acting on_situation s meant) (from_block Acting on_situation meant (act Acting on_situation s meant)) 0 q r (given_values values)) (λ _. pure tt)
         (within_keeps (from_block Acting on_situation meant (act Acting on_situation s meant)) (nested_keeps max_depth) making q all_above 0 r (given_values values)) (λ _. (closed s making q).pure (Unit {0}) tt)

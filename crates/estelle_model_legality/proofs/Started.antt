@@ -17,7 +17,9 @@ use Rattle.estelle_model.specs.Steps.{Running, StepResult, and_then}
 use Rattle.estelle_model.specs.Subject.{Subject, body, begins, new_instance, meant}
 use Rattle.estelle_model.specs.Blocks.{fresh, block_step}
 use Rattle.estelle_model.specs.Situation.{Situation, Acting, on_situation, situation_kept}
-use Rattle.estelle_model.specs.Actions.{act, enter_state}
+use Rattle.estelle_model.specs.Plans.{carry}
+use Rattle.estelle_model.specs.Actions.{enters_state}
+use Rattle.estelle_model.specs.Acts.{act}
 use Rattle.estelle_model.specs.Attributes.{may_have_transitions}
 use Rattle.estelle_model.specs.Firing.{alone, root, bare, begun, done, start}
 use Rattle.estelle_model_legality.specs.Instances.{IsStateOf, LeadsToStates, IsOfBodyBut}
@@ -118,7 +120,7 @@ module _ (s : Subject) (leads : LeadsToStates s) (budget : ℕ) where
     timers = λ q x at. absurd (let none : ◌≡◌ {A = Option Timer} None (Some x) = sym (get-empty pair_cmp q) ∙ sym (ap (λ (z : Timers). fin.get z q) t) ∙ at in cc);
   }
 
-  settled_start : (to : Option ℕ) → (begins s 0).to ≡ to → (u : Running Acting) → Within s ([] ∷ []) u.state.situation → Outside [] (bare s) u.state.situation → IsStarted s (done (enter_state Acting on_situation s (meant s) [] to u))
+  settled_start : (to : Option ℕ) → (begins s 0).to ≡ to → (u : Running Acting) → Within s ([] ∷ []) u.state.situation → Outside [] (bare s) u.state.situation → IsStarted s (done (carry Acting on_situation (enters_state s [] to) u))
   settled_start None is u v o = whole u.state.situation v o.pending o.timers
       (λ i b there at. let r = root_mark u.state.situation o i there in
       subst (IsStateOf (length (states_in b))) (is ∙ sym r.1) (leads.initial 0 b (sym (ap (body s) r.0) ∙ at)))
@@ -138,7 +140,7 @@ module _ (s : Subject) (leads : LeadsToStates s) (budget : ℕ) where
       let now : i ≡ f was.0 = some_is i (f was.0) (fin.get (changed_in [] f h.core.instances) []) there (get_changed [] f h.core.instances [] ∙ changed_here [] f (fin.get h.core.instances) ∙ ap (option_map f) was.1) in
       subst (λ (z : Instance). IsStateOf (length (states_in b)) z.state) (sym now) (may was.0 b was.1 (sym (ap (λ (z : Instance). body s z.body) now) ∙ at)))
 
-  started_block : (o : StepResult Acting (Unit {0})) → Comes s ([] ∷ []) [] (Unit {0}) (bare s) o → IsStarted s (done (and_then o (λ _. enter_state Acting on_situation s (meant s) [] (begins s 0).to)))
+  started_block : (o : StepResult Acting (Unit {0})) → Comes s ([] ∷ []) [] (Unit {0}) (bare s) o → IsStarted s (done (and_then o (λ _. carry Acting on_situation (enters_state s [] (begins s 0).to))))
   started_block (Ok r) c = settled_start (begins s 0).to refl r.1 c.0 c.1
   started_block (Err e) c = tt
 

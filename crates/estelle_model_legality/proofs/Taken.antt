@@ -17,7 +17,7 @@ use Rattle.estelle_model.specs.InteractionPoints.{point, same_role, may_attach_p
 use Rattle.estelle_model.specs.Queues.{Found, NotNeeded, Head, Absent}
 use Rattle.estelle_model.specs.Firing.{transition_at}
 use Rattle.estelle_model.specs.Jobs.{is_internal, is_below_or_own, MayActAlone, private, received_by, IsHead}
-use Rattle.estelle_model.proofs.AlikeActions.{inside_root}
+use Rattle.estelle_model.proofs.AlikeFirings.{inside_root}
 use Rattle.estelle_model.proofs.Members.{among, only_one}
 use Rattle.estelle_model.proofs.PrivateParts.{inside_self, left_true, right_true}
 use Rattle.estelle_model_legality.specs.Instances.{MayStand}

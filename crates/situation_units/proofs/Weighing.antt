@@ -1,17 +1,15 @@
 -- How many outputs and children a firing makes: no more than it has units.
-use Rattle.std.proofs.Common.{◌≡◌, ℕ, ◌+◌, ◌≤◌, Bool, true, false, List, [], ◌∷◌, Ok, Err, Option, Some, None, refl, sym, ap, subst, cond, ◌∙◌, arith}
+use Rattle.std.proofs.Common.{◌≡◌, ℕ, ◌+◌, ◌≤◌, Bool, true, false, List, [], Ok, Err, Option, Some, None, refl, sym, ap, subst, cond, ◌∙◌, arith}
 use Rattle.std.specs.Prelude.{not, option_map}
 use Rattle.std.specs.FinMap as map
 use Rattle.std.specs.Ordering.{eq_by_cmp}
 use Rattle.pascal_values.specs.declared.value.Value.{Value}
 use Rattle.estelle_tree.specs.Paths.{Path, path_cmp, child, is_inside}
-use Rattle.estelle_model.specs.declared.effect.Out.{Out}
 use Rattle.estelle_model.specs.Core.{Instance, Instances}
 use Rattle.estelle_model.specs.Effects.{StatementEffect, Output, Connect, Disconnect, Attach, Detach, Create, Remove, Change, Store, Hold, Enter, born, changed, changed_in, instances_after}
-use Rattle.estelle_model.specs.Effects as effects
-use Rattle.estelle_model.specs.Steps.{StepResult, ◌>>◌}
+use Rattle.estelle_model.specs.Steps.{StepResult}
 use Rattle.estelle_model.specs.Transitions.{Transition, When}
-use Rattle.estelle_model.specs.Subject.{Subject, meant, meant_with, of_block, begins, transition}
+use Rattle.estelle_model.specs.Subject.{Subject, meant, meant_with, of_block, begins}
 use Rattle.estelle_model.specs.Situation.{Situation, Acting, situation_after, made_after}
 use Rattle.estelle_model.specs.Queues.{Found, NotNeeded, Head, Absent, received}
 use Rattle.estelle_model.specs.Clauses.{fire_step, start_step}
@@ -20,24 +18,24 @@ use Rattle.estelle_model.specs.Situation.{on_situation}
 use Rattle.estelle_model.specs.Firing.{Firing, Ran, Failed, Undefined, begun, done, untimed, taken, fire_with, fire_found, fire_of, fire, transition_at, start, bare}
 use Rattle.estelle_model.proofs.Maps.{total, apart}
 use Rattle.estelle_model.proofs.PrivateParts.{get_changed, same_path}
-use Rattle.situation_units.specs.Counting.{births_of, births_at, IsWithinUnits, FiringsAreWithin, StartsAreWithin}
-use Rattle.estelle_model.proofs.KeptActions.{IsFree}
-use Rattle.situation_units.proofs.Weights.{Weighs, More, block_less}
+use Rattle.situation_units.specs.Counting.{births_of, births_at, FiringsAreWithin, StartsAreWithin}
+use Rattle.situation_units.proofs.Weights.{IsChildless, Weighs, NoMore, block_no_more}
+use Rattle.estelle_model.proofs.Carried.{price}
 
 -- ---- outputs
 
 made_weighs : Weighs (λ g. g.made)
 unfolding made_after
-made_weighs = record { free = free; output = λ from ip name values g. omega arith; create = λ p k i new g. omega arith; keeps = λ p change g. omega arith }
+made_weighs = record { does = does; keeps = λ p change g. omega arith }
   where
-    free : (e : StatementEffect) → IsFree e → (g : Situation) → (situation_after e g).made ≤ g.made
-    free (Output from ip name values) h g = absurd h
-    free (Create p k i) h g = absurd h
-    free (Connect a b) h g = omega arith
-    free (Disconnect a) h g = omega arith
-    free (Attach upper lower) h g = omega arith
-    free (Detach upper) h g = omega arith
-    free (Remove p k) h g = omega arith
+    does : (e : StatementEffect) → IsChildless e → (g : Situation) → (situation_after e g).made ≤ g.made + price e
+    does (Output from ip name values) h g = omega arith
+    does (Create p k i) h g = omega arith
+    does (Connect a b) h g = omega arith
+    does (Disconnect a) h g = omega arith
+    does (Attach upper lower) h g = omega arith
+    does (Detach upper) h g = omega arith
+    does (Remove p k) h g = omega arith
 
 -- ---- births
 
@@ -89,16 +87,16 @@ module _ (q : Path) where
 
   births_weigh : Weighs (λ g. births_at q g)
   unfolding instances_after
-  births_weigh = record { free = free; output = λ from ip name values g. omega arith; create = λ p k i new g. created p k i new g.core.instances; keeps = λ p change g. kept p change g.core.instances }
+  births_weigh = record { does = does; keeps = λ p change g. kept p change g.core.instances }
     where
-      free : (e : StatementEffect) → IsFree e → (g : Situation) → births_at q (situation_after e g) ≤ births_at q g
-      free (Output from ip name values) h g = absurd h
-      free (Create p k i) h g = absurd h
-      free (Connect a b) h g = omega arith
-      free (Disconnect a) h g = omega arith
-      free (Attach upper lower) h g = omega arith
-      free (Detach upper) h g = omega arith
-      free (Remove p k) h g = removed p k g.core.instances
+      does : (e : StatementEffect) → IsChildless e → (g : Situation) → births_at q (situation_after e g) ≤ births_at q g + price e
+      does (Output from ip name values) h g = omega arith
+      does (Create p k i) h g = created p k i h g.core.instances
+      does (Connect a b) h g = omega arith
+      does (Disconnect a) h g = omega arith
+      does (Attach upper lower) h g = omega arith
+      does (Detach upper) h g = omega arith
+      does (Remove p k) h g = omega (arith, removed p k g.core.instances)
 
 -- ---- firings
 
@@ -109,18 +107,18 @@ Within W budget g (Failed kind left) = Unit {0}
 Within W budget g Undefined = Unit {0}
 
 module _ (W : Situation → ℕ) (weighs : Weighs W) (s : Subject) (budget : ℕ) where
-  done_within : (g : Situation) (o : StepResult Acting (Unit {0})) → More W 0 (Unit {0}) (fresh (begun g) budget) o → Within W budget g (done o)
+  done_within : (g : Situation) (o : StepResult Acting (Unit {0})) → NoMore W (Unit {0}) (fresh (begun g) budget) o → Within W budget g (done o)
   done_within g (Ok r) h = omega (arith, h)
   done_within g (Err e) h = tt
 
   start_within : Within W budget (bare s) (start s budget)
   start_within = done_within (bare s) (start_step Acting on_situation s (fresh (begun (bare s)) budget))
-      (block_less W weighs s (meant s) [] (begins s 0).block [] (meant s) (begins s 0).to (fresh (begun (bare s)) budget))
+      (block_no_more W weighs s (meant s) [] (begins s 0).block [] (begins s 0).to (fresh (begun (bare s)) budget))
 
   module _ (bare_of : (g : Situation) (m : Path) (o : Option When) → W (taken s g m o) ≡ W g) (without : (g : Situation) (m : Path) (n : ℕ) → W (record g { timers = map.remove g.timers (record { path = m; trans = n }) }) ≡ W g) (g : Situation) (m : Path) (n : ℕ) where
     with_within : (t : Transition) (values : List Value) → Within W budget g (fire_with s budget g m t values)
     with_within t values = by (fire_with s budget g m t values) (done_within (taken s g m t.when) (fire_step Acting on_situation s m t values (fresh (begun (taken s g m t.when)) budget))
-        (block_less W weighs s (meant_with s t.chosen) m (of_block (meant_with s t.chosen) t.received t.block) values (meant s) t.to (fresh (begun (taken s g m t.when)) budget)))
+        (block_no_more W weighs s (meant_with s t.chosen) m (of_block (meant_with s t.chosen) t.received t.block) values t.to (fresh (begun (taken s g m t.when)) budget)))
       where
         by : (f : Firing) → Within W budget (taken s g m t.when) f → Within W budget g f
         by (Ran after outs drops left) h = omega (arith, h, bare_of g m t.when)

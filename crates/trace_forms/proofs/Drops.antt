@@ -23,6 +23,7 @@ use Rattle.estelle_model.specs.Runs.{next, IsRun, started, situation}
 use Rattle.trace_text.specs.Forms.{IsNumber}
 use Rattle.estelle_model_fates.specs.Fates.{Fate, outs_of, dropped_by, lost_after, consumed_by, times, numbers, fates_by, fates_from, fates}
 use Rattle.estelle_model_fates.specs.Fates as fates
+use Rattle.estelle_model.proofs.AlikeFirings.{situation_is_faithful}
 use Rattle.estelle_model_fates.proofs.EveryBlock.{IsInvariant, Ends, fire_step_ends, start_step_ends}
 use Rattle.estelle_model_fates.proofs.Counts.{occurs, one_if, one_below, times_length}
 use Rattle.estelle_model_fates.proofs.Fates.{run_accounts}
@@ -59,7 +60,7 @@ sorted_after (Create p k i) a h = h
 sorted_after (Remove p k) a h = put_all (each (λ w. w.item.number) (filter (waits_inside (child p k)) a.situation.mail)) a.drops h
 
 drops_sorted : IsInvariant Acting on_situation DropsSorted
-drops_sorted = record { does = λ e a may h. sorted_after e a h; keeps = λ p change a h. h }
+drops_sorted = record { faithful = situation_is_faithful; does = λ e a may h. sorted_after e a h; keeps = λ p change a h. h }
 
 abbrev pub HasSorted : Firing → Type 0
 HasSorted (Ran after outs drops left) = SortedFrom 0 drops

@@ -183,7 +183,7 @@ module _ (s : Subject) (tellable : IsTellable s) where
           (block_sound m s (meant_with s t.chosen)
           (with_all_choices (MeaningTold Told) (λ v h r. r) s.names t.chosen (declared_in s) rise tellable.told)
           (λ x vs e r. values_readable (types_received (meant_with s t.chosen x)) vs (with_all_choices (λ k. AllByRecursion IsReadableType (types_received k)) (λ v h r. tt) s.names t.chosen (declared_in s) rise tellable.types x) e r)
-          bare_child p (of_block (meant_with s t.chosen) t.received t.block) good values y (meant s) t.to (fresh (begun (taken s g p t.when)) budget)
+          bare_child p (of_block (meant_with s t.chosen) t.received t.block) good values y t.to (fresh (begun (taken s g p t.when)) budget)
           (begun_within (taken s g p t.when) (taken_within n s g p t.when within)))
 
       found_within : (t : Transition) → named_stmts t.block.body ≡ true → Chosen t.chosen → (f : Found) → received s g p t.when ≡ f → FiredWithin m (fire_found s budget g p t f)
@@ -229,5 +229,5 @@ module _ (s : Subject) (tellable : IsTellable s) where
 
   pub start_within : (budget : ℕ) → FiredWithin budget (start s budget)
   start_within budget = done_within budget (start_step Acting on_situation s (fresh (begun (bare s)) budget))
-      (block_sound budget s (meant s) tellable.told (λ x vs e r. values_readable (types_received (meant s x)) vs (tellable.types x) e r) bare_child [] (begins s 0).block (tellable.begins 0) [] tt (meant s) (begins s 0).to (fresh (begun (bare s)) budget)
+      (block_sound budget s (meant s) tellable.told (λ x vs e r. values_readable (types_received (meant s x)) vs (tellable.types x) e r) bare_child [] (begins s 0).block (tellable.begins 0) [] tt (begins s 0).to (fresh (begun (bare s)) budget)
       (begun_within budget 0 budget (omega arith) (bare s) bare_within))

@@ -30,7 +30,7 @@ use Rattle.estelle_model.specs.declared.place.Environment.{Environment}
 use Rattle.estelle_model.specs.declared.place.ActualParameters.{ActualParameters}
 use Rattle.estelle_model.specs.Expressions.{Call, Operand, Access, Selecting, bool_step, ordinal_step, give_all, no_arguments, accessed, result_of, assigned, target, variable}
 use Rattle.estelle_model.specs.Loops.{while_turns, repeat_turns, while_loop, repeat_loop, next_of, turns_of, count_turns, count_loop}
-use Rattle.estelle_model.specs.Statements.{Action, Init, Release, Connect, Disconnect, Attach, Detach, Output, is_labelled, chosen, or_nothing, value_of_expr, arguments, assign_to, assign, invoke_of, invoke, choose, count_over, count, select, stmt, branch, stmts}
+use Rattle.estelle_model.specs.Statements.{Statement, Acts, Init, Release, Connect, Disconnect, Attach, Detach, Output, is_labelled, chosen, or_nothing, value_of_expr, arguments, assign_to, assign, invoke_of, invoke, choose, count_over, count, select, stmt, branch, stmts}
 use Rattle.estelle_model.proofs.Units.{Each, IfThere}
 use Rattle.trace_forms.proofs.Sound.{Any, IsClosed, Gives, OperandSound, AccessSound, SelectingSound, CallSound, GivenRise, then_sound, then_any, pure_any, fail_sound, if_sound, seq_sound, all_sound, spend_sound, of_value_any, give_all_sound, put_sound, store_sound, store_ordinal_sound}
 use Rattle.trace_forms.proofs.Values.{Rises, unset_rises}
@@ -72,22 +72,17 @@ module _ (S : Type 0) (on : Offers S) (I : Running S → Type 0) (closed : IsClo
 
   -- ---- what statements of Estelle are given
 
-  abbrev pub ActionSound : Action S → Type 0
-  ActionSound (Init x b es) = Each (OperandSound S I) es
-  ActionSound (Output p n es) = Each (OperandSound S I) es
-  ActionSound a = Unit {0}
-
   -- an output names its interaction point and its interaction by identifiers
-  abbrev pub ActionNamed : Action S → Type 0
-  ActionNamed (Output p n es) = are_names p n ≡ true
-  ActionNamed a = Unit {0}
+  abbrev pub ActNamed : Statement → Type 0
+  ActNamed (Output p n) = are_names p n ≡ true
+  ActNamed st = Unit {0}
 
-  abbrev pub ActSound : (Environment → Action S → Do S) → Environment → Type 0
-  ActSound act here = (a : Action S) → ActionNamed a → ActionSound a → Gives S I Any (act here a)
+  abbrev pub ActSound : Acts S → Environment → Type 0
+  ActSound act here = (st : Statement) (es : List (Operand S)) → ActNamed st → Each (OperandSound S I) es → Gives S I Any (act here st es)
 
 -- ---- statements
 
-module _ (S : Type 0) (on : Offers S) (I : Running S → Type 0) (closed : IsClosed S on I) (meant : Meanings) (act : Environment → Action S → Do S) (here : Environment) (acts : ActSound S on I closed act here) (Told : Routine → Type 0) (told : (x : Name) → MeaningTold Told (meant x)) (call : Call S) (calls : CallSound S I Told call) where
+module _ (S : Type 0) (on : Offers S) (I : Running S → Type 0) (closed : IsClosed S on I) (meant : Meanings) (act : Acts S) (here : Environment) (acts : ActSound S on I closed act here) (Told : Routine → Type 0) (told : (x : Name) → MeaningTold Told (meant x)) (call : Call S) (calls : CallSound S I Told call) where
   value_sound : (e : Expr) → Gives S I Rises (value_of_expr S on meant act call here e)
   value_sound e = (expr_sound S on I closed meant Told told call calls here e).value
 
@@ -182,13 +177,13 @@ module _ (S : Type 0) (on : Offers S) (I : Running S → Type 0) (closed : IsClo
   keeps kind.stmt (Stmt-F.Repeat body test span) = λ n. repeat_sound S on I closed body.left (bool_step (value_of_expr S on meant act call here test)) (body.holds n) (test_sound test)
   keeps kind.stmt (Stmt-F.Count x first dir last body span) = λ n. for_sound x first dir last body.left (body.holds n)
   keeps kind.stmt (Stmt-F.Case e cases semicolon span) = λ n. select_sound e (map (λ (c : Related (List Const × Do S) Bool (λ x n. n ≡ true → CaseSound x)). c.left) cases) (each_sound CaseSound cases n)
-  keeps kind.stmt (Stmt-F.Init x b es span) = λ n. acts (Init x b (arguments S on meant act call here es)) tt (arguments_sound es)
-  keeps kind.stmt (Stmt-F.Release x span) = λ n. acts (Release x) tt tt
-  keeps kind.stmt (Stmt-F.Connect p q span) = λ n. acts (Connect p q) tt tt
-  keeps kind.stmt (Stmt-F.Disconnect p span) = λ n. acts (Disconnect p) tt tt
-  keeps kind.stmt (Stmt-F.Attach p x q span) = λ n. acts (Attach p x q) tt tt
-  keeps kind.stmt (Stmt-F.Detach p span) = λ n. acts (Detach p) tt tt
-  keeps kind.stmt (Stmt-F.Output p x es span) = λ n. acts (Output p x (arguments S on meant act call here es)) n (arguments_sound es)
+  keeps kind.stmt (Stmt-F.Init x b es span) = λ n. acts (Init x b) (arguments S on meant act call here es) tt (arguments_sound es)
+  keeps kind.stmt (Stmt-F.Release x span) = λ n. acts (Release x) [] tt tt
+  keeps kind.stmt (Stmt-F.Connect p q span) = λ n. acts (Connect p q) [] tt tt
+  keeps kind.stmt (Stmt-F.Disconnect p span) = λ n. acts (Disconnect p) [] tt tt
+  keeps kind.stmt (Stmt-F.Attach p x q span) = λ n. acts (Attach p x q) [] tt tt
+  keeps kind.stmt (Stmt-F.Detach p span) = λ n. acts (Detach p) [] tt tt
+  keeps kind.stmt (Stmt-F.Output p x es span) = λ n. acts (Output p x) (arguments S on meant act call here es) n (arguments_sound es)
   keeps kind.branch l = λ n. l.body.holds n
   keeps kind.stmts l = λ n. all_sound S I (map (λ (x : Related (Do S) Bool (λ x n. n ≡ true → Gives S I {A = Unit {0}} Any x)). x.left) l.stmts) (each_sound (Gives S I {A = Unit {0}} Any) l.stmts n)
 

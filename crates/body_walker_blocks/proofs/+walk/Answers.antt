@@ -707,7 +707,7 @@ children::create-returns-in_err-path t c =
     let x : Tested c.args.scope.now c.args.here.now c.args.variable c.args.number c.args.values c.args.walk.now = (tested c.args.scope.now c.args.here.now c.args.variable c.args.number c.args.values c.args.walk.now (subst (λ (s : Subject). beginning s c.args.variable c.args.number c.args.values (maps.get c.args.walk.now.instances c.args.here.now.path) ≡ Ok tt) c.bodies.ensures c.in_ok-may_begin.ensures)) in
     let b : (a : BodyAlone) × (body c.args.scope.now.subject c.args.number ≡ Some a) × (c.in-Some.body.now ≡ module_body c.args.scope.now.subject c.args.number a) = (known_body c.args.scope.now.subject c.args.number c.in-Some.body.now (body c.args.scope.now.subject c.args.number) (subst (λ (s : Subject). Some c.in-Some.body.now ≡ option_map (module_body s c.args.number) (body s c.args.number)) c.bodies-2.ensures c.in-Some.ensures)) in
     let there : maps.get c.spend.new.self.instances c.args.here.now.path ≡ Some x.parent = ap (λ (m : Instances). maps.get m c.args.here.now.path) (spend_keeps c.args.walk.now c.spend.new.self c.in_ok-spend.ensures) ∙ x.there in
-    exits c.from_residual-in_err-path.result c.from_residual-in_err-path.ensures.1 itself (create_stops c.args.scope.now c.args.here.now c.args.variable c.args.number c.args.values c.args.walk.now c.begin_child.new.walk c.in_err-path.field-0.0 (create_goes c.args.scope.now c.args.here.now c.args.variable c.args.number c.args.values c.args.walk.now c.begin_child.new.walk x (Err c.in_err-path.field-0.0) (leaves (next_create c.args.scope.now c.args.here.now c.args.variable c.args.number c.args.values x.parent b.0 c.in-Some.body.now b.1 b.2 c.if-here-ge-MAX_DEPTH.false) (then c.in_ok-spend.ensures (stops (c.in_err-path.ensures c.args.scope.now.subject (meanings c.args.scope.now) b.0 x.parent b.2 there))))))
+    exits c.from_residual-in_err-path.result c.from_residual-in_err-path.ensures.1 itself (create_stops c.args.scope.now c.args.here.now c.args.variable c.args.number c.args.values c.args.walk.now c.begin_child.new.walk c.in_err-path.field-0.0 (create_goes c.args.scope.now c.args.here.now c.args.variable c.args.number c.args.values c.args.walk.now c.begin_child.new.walk x (Err c.in_err-path.field-0.0) (leaves (next_create c.args.scope.now c.args.here.now c.args.variable c.args.number c.args.values x.parent b.0 c.in-Some.body.now b.1 b.2 c.if-here-ge-MAX_DEPTH.false) (then c.in_ok-spend.ensures (stops (c.in_err-path.ensures c.args.scope.now.subject b.0 x.parent b.2 there))))))
 
 pub children::create-initialize-requires : goal.children::create-initialize-requires
 children::create-initialize-requires t c = (omega (arith, c.decreases, init_falls c.args.scope.now c.args.here.now (record { path = c.in_ok-path.path; frame = c.args.here.now.frame + 1; references = c.new.result }) c.in-Some.body.now (c.args.number, sym (subst (λ (s : Subject). Some c.in-Some.body.now ≡ option_map (module_body s c.args.number) (body s c.args.number)) c.bodies-2.ensures c.in-Some.ensures)) c.if-here-ge-MAX_DEPTH.false refl), (c.args.number, sym (subst (λ (s : Subject). Some c.in-Some.body.now ≡ option_map (module_body s c.args.number) (body s c.args.number)) c.bodies-2.ensures c.in-Some.ensures)))
@@ -717,14 +717,14 @@ children::create-returns-in_err-initialize t c =
     let x : Tested c.args.scope.now c.args.here.now c.args.variable c.args.number c.args.values c.args.walk.now = (tested c.args.scope.now c.args.here.now c.args.variable c.args.number c.args.values c.args.walk.now (subst (λ (s : Subject). beginning s c.args.variable c.args.number c.args.values (maps.get c.args.walk.now.instances c.args.here.now.path) ≡ Ok tt) c.bodies.ensures c.in_ok-may_begin.ensures)) in
     let b : (a : BodyAlone) × (body c.args.scope.now.subject c.args.number ≡ Some a) × (c.in-Some.body.now ≡ module_body c.args.scope.now.subject c.args.number a) = (known_body c.args.scope.now.subject c.args.number c.in-Some.body.now (body c.args.scope.now.subject c.args.number) (subst (λ (s : Subject). Some c.in-Some.body.now ≡ option_map (module_body s c.args.number) (body s c.args.number)) c.bodies-2.ensures c.in-Some.ensures)) in
     let there : maps.get c.spend.new.self.instances c.args.here.now.path ≡ Some x.parent = ap (λ (m : Instances). maps.get m c.args.here.now.path) (spend_keeps c.args.walk.now c.spend.new.self c.in_ok-spend.ensures) ∙ x.there in
-    exits c.from_residual-in_err-initialize.result c.from_residual-in_err-initialize.ensures.1 itself (create_stops c.args.scope.now c.args.here.now c.args.variable c.args.number c.args.values c.args.walk.now c.initialize.new.walk c.in_err-initialize.field-0.0 (create_goes c.args.scope.now c.args.here.now c.args.variable c.args.number c.args.values c.args.walk.now c.initialize.new.walk x (Err c.in_err-initialize.field-0.0) (leaves (next_create c.args.scope.now c.args.here.now c.args.variable c.args.number c.args.values x.parent b.0 c.in-Some.body.now b.1 b.2 c.if-here-ge-MAX_DEPTH.false) (then c.in_ok-spend.ensures (then (c.in_ok-path.ensures c.args.scope.now.subject (meanings c.args.scope.now) b.0 x.parent b.2 there) (stops (subst (λ (ps : List Place). Follows (walked.initialize c.args.scope.now (record { path = c.in_ok-path.path; frame = c.args.here.now.frame + 1; references = ps }) c.in-Some.body.now) c.begin_child.new.walk (Err c.in_err-initialize.field-0.0) c.initialize.new.walk) c.new.ensures c.in_err-initialize.ensures)))))))
+    exits c.from_residual-in_err-initialize.result c.from_residual-in_err-initialize.ensures.1 itself (create_stops c.args.scope.now c.args.here.now c.args.variable c.args.number c.args.values c.args.walk.now c.initialize.new.walk c.in_err-initialize.field-0.0 (create_goes c.args.scope.now c.args.here.now c.args.variable c.args.number c.args.values c.args.walk.now c.initialize.new.walk x (Err c.in_err-initialize.field-0.0) (leaves (next_create c.args.scope.now c.args.here.now c.args.variable c.args.number c.args.values x.parent b.0 c.in-Some.body.now b.1 b.2 c.if-here-ge-MAX_DEPTH.false) (then c.in_ok-spend.ensures (then (c.in_ok-path.ensures c.args.scope.now.subject b.0 x.parent b.2 there) (stops (subst (λ (ps : List Place). Follows (walked.initialize c.args.scope.now (record { path = c.in_ok-path.path; frame = c.args.here.now.frame + 1; references = ps }) c.in-Some.body.now) c.begin_child.new.walk (Err c.in_err-initialize.field-0.0) c.initialize.new.walk) c.new.ensures c.in_err-initialize.ensures)))))))
 
 pub children::create-returns : goal.children::create-returns
 children::create-returns t c =
     let x : Tested c.args.scope.now c.args.here.now c.args.variable c.args.number c.args.values c.args.walk.now = (tested c.args.scope.now c.args.here.now c.args.variable c.args.number c.args.values c.args.walk.now (subst (λ (s : Subject). beginning s c.args.variable c.args.number c.args.values (maps.get c.args.walk.now.instances c.args.here.now.path) ≡ Ok tt) c.bodies.ensures c.in_ok-may_begin.ensures)) in
     let b : (a : BodyAlone) × (body c.args.scope.now.subject c.args.number ≡ Some a) × (c.in-Some.body.now ≡ module_body c.args.scope.now.subject c.args.number a) = (known_body c.args.scope.now.subject c.args.number c.in-Some.body.now (body c.args.scope.now.subject c.args.number) (subst (λ (s : Subject). Some c.in-Some.body.now ≡ option_map (module_body s c.args.number) (body s c.args.number)) c.bodies-2.ensures c.in-Some.ensures)) in
     let there : maps.get c.spend.new.self.instances c.args.here.now.path ≡ Some x.parent = ap (λ (m : Instances). maps.get m c.args.here.now.path) (spend_keeps c.args.walk.now c.spend.new.self c.in_ok-spend.ensures) ∙ x.there in
-    create_goes c.args.scope.now c.args.here.now c.args.variable c.args.number c.args.values c.args.walk.now c.hold_child.new.walk x c.hold_child.result (leaves (next_create c.args.scope.now c.args.here.now c.args.variable c.args.number c.args.values x.parent b.0 c.in-Some.body.now b.1 b.2 c.if-here-ge-MAX_DEPTH.false) (then c.in_ok-spend.ensures (then (c.in_ok-path.ensures c.args.scope.now.subject (meanings c.args.scope.now) b.0 x.parent b.2 there) (then (subst (λ (ps : List Place). walked.initialize c.args.scope.now (record { path = c.in_ok-path.path; frame = c.args.here.now.frame + 1; references = ps }) c.in-Some.body.now (running c.begin_child.new.walk) ≡ Ok (tt, running c.initialize.new.walk)) c.new.ensures c.in_ok-initialize.ensures) (last (c.hold_child.ensures c.args.scope.now.subject (meanings c.args.scope.now)))))))
+    create_goes c.args.scope.now c.args.here.now c.args.variable c.args.number c.args.values c.args.walk.now c.hold_child.new.walk x c.hold_child.result (leaves (next_create c.args.scope.now c.args.here.now c.args.variable c.args.number c.args.values x.parent b.0 c.in-Some.body.now b.1 b.2 c.if-here-ge-MAX_DEPTH.false) (then c.in_ok-spend.ensures (then (c.in_ok-path.ensures c.args.scope.now.subject b.0 x.parent b.2 there) (then (subst (λ (ps : List Place). walked.initialize c.args.scope.now (record { path = c.in_ok-path.path; frame = c.args.here.now.frame + 1; references = ps }) c.in-Some.body.now (running c.begin_child.new.walk) ≡ Ok (tt, running c.initialize.new.walk)) c.new.ensures c.in_ok-initialize.ensures) (last (c.hold_child.ensures c.args.scope.now.subject))))))
 
 pub children::initialize-within-requires : goal.children::initialize-within-requires
 children::initialize-within-requires t c = (omega (arith, c.decreases, ap (λ (o : Option Initialization). of_stmts (block_by o).body) c.in-Some.is), tt)
@@ -742,13 +742,13 @@ pub output::output-value_arguments-requires : goal.output::output-value_argument
 output::output-value_arguments-requires t c = (omega (arith, c.decreases, arguments_weigh c.args.args.now, ap (total of_expr) c.exprs_of.ensures), tt)
 
 pub output::output-returns-in_err-given : goal.output::output-returns-in_err-given
-output::output-returns-in_err-given t c = exits c.from_residual.result c.from_residual.ensures.1 (output_steps c.args.scope.now c.args.here.now c.args.ip.now c.args.interaction.now c.args.args.now c.args.scope.now.subject c.types_received-types.result.now c.exprs_of.result.now refl (c.types_received-types.ensures ∙ ap types_received c.meaning-meaning.ensures) c.exprs_of.ensures) (stops c.in_err-given.ensures)
+output::output-returns-in_err-given t c = exits c.from_residual.result c.from_residual.ensures.1 (output_steps c.args.scope.now c.args.here.now c.args.ip.now c.args.interaction.now c.args.args.now c.args.scope.now.subject c.meaning-meaning.result.now c.types_received-types.result.now c.exprs_of.result.now refl c.meaning-meaning.ensures c.types_received-types.ensures c.exprs_of.ensures) (stops c.in_err-given.ensures)
 
 pub output::output-returns-in_err-spend : goal.output::output-returns-in_err-spend
-output::output-returns-in_err-spend t c = exits c.from_residual-in_err-spend.result c.from_residual-in_err-spend.ensures.1 (output_steps c.args.scope.now c.args.here.now c.args.ip.now c.args.interaction.now c.args.args.now c.args.scope.now.subject c.types_received-types.result.now c.exprs_of.result.now refl (c.types_received-types.ensures ∙ ap types_received c.meaning-meaning.ensures) c.exprs_of.ensures) (then c.in_ok-given.ensures (stops c.in_err-spend.ensures))
+output::output-returns-in_err-spend t c = exits c.from_residual-in_err-spend.result c.from_residual-in_err-spend.ensures.1 (output_steps c.args.scope.now c.args.here.now c.args.ip.now c.args.interaction.now c.args.args.now c.args.scope.now.subject c.meaning-meaning.result.now c.types_received-types.result.now c.exprs_of.result.now refl c.meaning-meaning.ensures c.types_received-types.ensures c.exprs_of.ensures) (then c.in_ok-given.ensures (stops c.in_err-spend.ensures))
 
 pub output::output-returns-in_err-a : goal.output::output-returns-in_err-a
-output::output-returns-in_err-a t c = exits c.from_residual-in_err-a.result c.from_residual-in_err-a.ensures.1 (output_steps c.args.scope.now c.args.here.now c.args.ip.now c.args.interaction.now c.args.args.now c.args.scope.now.subject c.types_received-types.result.now c.exprs_of.result.now refl (c.types_received-types.ensures ∙ ap types_received c.meaning-meaning.ensures) c.exprs_of.ensures) (then c.in_ok-given.ensures (then c.in_ok-spend.ensures (without c.in_err-a.ensures)))
+output::output-returns-in_err-a t c = exits c.from_residual-in_err-a.result c.from_residual-in_err-a.ensures.1 (output_steps c.args.scope.now c.args.here.now c.args.ip.now c.args.interaction.now c.args.args.now c.args.scope.now.subject c.meaning-meaning.result.now c.types_received-types.result.now c.exprs_of.result.now refl c.meaning-meaning.ensures c.types_received-types.ensures c.exprs_of.ensures) (then c.in_ok-given.ensures (then c.in_ok-spend.ensures (without c.in_err-a.ensures)))
 
 pub output::output-returns : goal.output::output-returns
-output::output-returns t c = leaves (output_steps c.args.scope.now c.args.here.now c.args.ip.now c.args.interaction.now c.args.args.now c.bodies.result.now c.types_received-types.result.now c.exprs_of.result.now c.bodies.ensures (c.types_received-types.ensures ∙ ap types_received c.meaning-meaning.ensures) c.exprs_of.ensures) (then c.in_ok-given.ensures (then c.in_ok-spend.ensures (with c.in_ok-a.ensures (last (c.output_at.ensures (meanings c.args.scope.now) (sym c.meaning-meaning.ensures))))))
+output::output-returns t c = leaves (output_steps c.args.scope.now c.args.here.now c.args.ip.now c.args.interaction.now c.args.args.now c.bodies.result.now c.meaning-meaning.result.now c.types_received-types.result.now c.exprs_of.result.now c.bodies.ensures c.meaning-meaning.ensures c.types_received-types.ensures c.exprs_of.ensures) (then c.in_ok-given.ensures (then c.in_ok-spend.ensures (with c.in_ok-a.ensures (last c.output_at.ensures))))

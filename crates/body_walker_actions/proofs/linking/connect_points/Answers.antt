@@ -2,10 +2,10 @@ use Rattle.body_walker_actions.proofs.ActionLemmas.{connect_refused, connect_tak
 use Rattle.body_walker_actions.proofs.linking.connect_points.Goals as goal
 
 pub returns-then-not-may_connect : goal.returns-then-not-may_connect
-returns-then-not-may_connect c = λ known. connect_refused c.args.bodies.now known c.args.here.now c.args.first c.args.second c.args.walk.now _ c.may_connect.ensures c.if-not-may_connect.true
+returns-then-not-may_connect c = connect_refused c.args.bodies.now c.args.here.now.path c.args.first c.args.second c.args.walk.now _ c.may_connect.ensures c.if-not-may_connect.true
 
 pub returns-then-are_bound : goal.returns-then-are_bound
-returns-then-are_bound c = λ known. connect_taken c.args.bodies.now known c.args.here.now c.args.first c.args.second c.args.walk.now _ _ c.may_connect.ensures c.if-not-may_connect.false c.are_bound.ensures c.if-are_bound.true
+returns-then-are_bound c = connect_taken c.args.bodies.now c.args.here.now.path c.args.first c.args.second c.args.walk.now _ _ c.may_connect.ensures c.if-not-may_connect.false c.are_bound.ensures c.if-are_bound.true
 
 pub returns : goal.returns
-returns c = λ known. connect_made c.args.bodies.now known c.args.here.now c.args.first c.args.second c.args.walk.now _ _ c.make.new.self c.may_connect.ensures c.if-not-may_connect.false c.are_bound.ensures c.if-are_bound.false c.in_ok-make.ensures
+returns c = connect_made c.args.bodies.now c.args.here.now.path c.args.first c.args.second c.args.walk.now _ _ c.make.new.self c.may_connect.ensures c.if-not-may_connect.false c.are_bound.ensures c.if-are_bound.false c.in_ok-make.ensures

@@ -7,10 +7,10 @@ use Rattle.body_walker_actions.proofs.ActionLemmas.{disconnect_refused, disconne
 use Rattle.body_walker_actions.proofs.linking.disconnect_point.Goals as goal
 
 pub returns-then-not-connectable_at : goal.returns-then-not-connectable_at
-returns-then-not-connectable_at c = λ known. disconnect_refused c.args.bodies.now known c.args.here.now c.args.a c.args.walk.now _ (c.connectable_at.ensures ∙ ap (λ (o : Option InteractionPoint). connectable_at c.args.here.now.path c.args.a o) c.point.ensures) c.if-not-connectable_at.true
+returns-then-not-connectable_at c = disconnect_refused c.args.bodies.now c.args.here.now.path c.args.a c.args.walk.now _ (c.connectable_at.ensures ∙ ap (λ (o : Option InteractionPoint). connectable_at c.args.here.now.path c.args.a o) c.point.ensures) c.if-not-connectable_at.true
 
 pub returns-then-not-is_connected : goal.returns-then-not-is_connected
-returns-then-not-is_connected c = λ known. disconnect_absent c.args.bodies.now known c.args.here.now c.args.a c.args.walk.now _ _ (c.connectable_at.ensures ∙ ap (λ (o : Option InteractionPoint). connectable_at c.args.here.now.path c.args.a o) c.point.ensures) c.if-not-connectable_at.false (c.is_connected.ensures ∙ ap (λ (ls : List Link). is_connected c.args.a ls) c.links.ensures) c.if-not-is_connected.true
+returns-then-not-is_connected c = disconnect_absent c.args.bodies.now c.args.here.now.path c.args.a c.args.walk.now _ _ (c.connectable_at.ensures ∙ ap (λ (o : Option InteractionPoint). connectable_at c.args.here.now.path c.args.a o) c.point.ensures) c.if-not-connectable_at.false (c.is_connected.ensures ∙ ap (λ (ls : List Link). is_connected c.args.a ls) c.links.ensures) c.if-not-is_connected.true
 
 pub returns : goal.returns
-returns c = λ known. disconnect_made c.args.bodies.now known c.args.here.now c.args.a c.args.walk.now _ _ c.make.new.self (c.connectable_at.ensures ∙ ap (λ (o : Option InteractionPoint). connectable_at c.args.here.now.path c.args.a o) c.point.ensures) c.if-not-connectable_at.false (c.is_connected.ensures ∙ ap (λ (ls : List Link). is_connected c.args.a ls) c.links.ensures) c.if-not-is_connected.false c.in_ok-make.ensures
+returns c = disconnect_made c.args.bodies.now c.args.here.now.path c.args.a c.args.walk.now _ _ c.make.new.self (c.connectable_at.ensures ∙ ap (λ (o : Option InteractionPoint). connectable_at c.args.here.now.path c.args.a o) c.point.ensures) c.if-not-connectable_at.false (c.is_connected.ensures ∙ ap (λ (ls : List Link). is_connected c.args.a ls) c.links.ensures) c.if-not-is_connected.false c.in_ok-make.ensures
