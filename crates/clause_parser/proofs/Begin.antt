@@ -1,21 +1,19 @@
 -- With which kinds labels and clauses begin, and that each takes a token.
-use Rattle.std.proofs.Common.{◌≡◌, ◌<◌, ℕ, true, false, Option, Some, None, refl, ap, ◌∙◌, arith}
+use Rattle.std.proofs.Common.{◌≡◌, ℕ, true, refl, ap, arith}
 use Rattle.estelle_tree.specs.declared.kind.Kind.TheVariants as k
 use Rattle.estelle_tree.specs.declared.tree.name.NameList.{NameList}
 use Rattle.estelle_tree.specs.declared.tree.clause.NextState.TheVariants as a_state
 use Rattle.estelle_tree.specs.declared.tree.clause.DelayHigh.TheVariants as a_high
 use Rattle.estelle_tree.specs.declared.tree.clause.Clause.{Clause}
 use Rattle.estelle_tree.specs.declared.tree.clause.Clause.TheVariants as a_clause
-use Rattle.estelle_tree.specs.Input.{Input, kind, left}
-use Rattle.estelle_tree.specs.Spelling.{Spelling, Optional, Behind, Enclosed, Separated}
-use Rattle.estelle_tree.specs.Types.{IsName, IsNames, IsConst, IsOrdinal}
+use Rattle.estelle_tree.specs.Input.{Input, kind}
+use Rattle.estelle_tree.specs.Spelling.{Spelling, Behind, Enclosed, Separated}
+use Rattle.estelle_tree.specs.Types.{IsNames, IsConst, IsOrdinal}
 use Rattle.estelle_tree.specs.Expressions.{IsExpr}
 use Rattle.estelle_tree.specs.Clauses.{IsLabel, IsAnyDom, IsNextState, IsDelayHigh, IsClause, of_clause}
 use Rattle.token_reader.proofs.Complete.{Shrinks, Advances, takes_shrinks, takes_advances, behind_shrinks, behind_advances, separated_shrinks}
-use Rattle.type_parser.specs.Types.{begins_name}
-use Rattle.type_parser.proofs.Begin.{Begins, shrinking, name_shrinks, names_begins, names_advances, names_shrinks, constant_shrinks, ordinal_shrinks, enclosed_shrinks, enclosed_advances, joined_advances}
+use Rattle.type_parser.proofs.Begin.{Begins, shrinking, optional_shrinks, name_shrinks, names_advances, names_shrinks, constant_shrinks, ordinal_shrinks, enclosed_shrinks, enclosed_advances, joined_advances}
 use Rattle.expression_parser.proofs.Places.{expr_shrinks}
-use Rattle.statement_parser.proofs.Begin.{optional_shrinks}
 use Rattle.clause_parser.specs.Clause.{begins_label, begins_params, begins_clause}
 
 -- ---- labels

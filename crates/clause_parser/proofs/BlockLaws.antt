@@ -1,12 +1,11 @@
 -- The laws of blocks, over those of the statement part.
-use Rattle.std.proofs.Common.{◌≡◌, ◌<◌, ◌≤◌, ℕ, Bool, true, false, List, [], ◌∷◌, Option, Some, None, Ok, sym, refl, ap, ◌∙◌, subst, arith}
+use Rattle.std.proofs.Common.{◌≡◌, ℕ, true, false, List, [], ◌∷◌, Option, Some, None, sym, refl, ap, ◌∙◌, subst, arith}
 use Rattle.estelle_tree.specs.declared.kind.Kind.{Kind}
 use Rattle.estelle_tree.specs.declared.kind.Kind.TheVariants as k
 use Rattle.estelle_tree.specs.declared.tree.statement.Stmts.{Stmts}
 use Rattle.estelle_tree.specs.declared.tree.declaration.BlockDecl.{BlockDecl}
 use Rattle.estelle_tree.specs.declared.tree.clause.Label.{Label}
-use Rattle.estelle_tree.specs.declared.tree.clause.Block.{Block}
-use Rattle.estelle_tree.specs.Input.{Input, kind, start, left, between}
+use Rattle.estelle_tree.specs.Input.{Input, kind, between}
 use Rattle.estelle_tree.specs.Spelling as spelling
 use Rattle.estelle_tree.specs.Spelling.{Spelling, Chain}
 use Rattle.estelle_tree.specs.Declarations.{IsBlockDecl, IsStatementPart}
@@ -17,9 +16,8 @@ use Rattle.token_reader.proofs.Sound.{Sound, through, answered, optional_sound, 
 use Rattle.token_reader.proofs.Complete.{After, Anything, Complete, Advances, chain_shrinks, optional_complete, repeated_complete}
 use Rattle.type_parser.specs.Types.{begins_name}
 use Rattle.type_parser.specs.Definitions.{begins_block_decl, block_decl}
-use Rattle.type_parser.proofs.Begin.{Begins, shrinking}
+use Rattle.type_parser.proofs.Begin.{Begins, shrinking, optional_shrinks}
 use Rattle.type_parser.proofs.Definitions.{EndsPart, block_decl_sound, block_decl_begins, block_decl_advances, block_decl_complete}
-use Rattle.statement_parser.proofs.Begin.{optional_shrinks}
 use Rattle.clause_parser.specs.Clause.{begins_label, label}
 use Rattle.clause_parser.specs.Block.{begins_block, block_decls, late_label, block_over}
 use Rattle.clause_parser.proofs.Sound.{label_sound}

@@ -10,7 +10,8 @@ use Rattle.token_reader.proofs.Sound.{Sound}
 use Rattle.token_reader.proofs.Complete.{Anything, Complete, Advances}
 use Rattle.type_parser.proofs.Begin.{Begins}
 use Rattle.statement_parser.specs.Routine.{statement_part}
-use Rattle.statement_parser.proofs.Routines.{statement_part_sound, statement_part_complete, statement_part_advances}
+use Rattle.statement_parser.proofs.RoutineForms.{statement_part_lawful}
+use Rattle.statement_parser.proofs.Complete.{statement_part_complete}
 use Rattle.clause_parser.specs.Clause.{begins_clause}
 use Rattle.clause_parser.specs.Block.{begins_block, block}
 use Rattle.clause_parser.specs.TransBody.{begins_trans_body, trans_body, EndsTransBody}
@@ -21,16 +22,16 @@ use Rattle.clause_parser.proofs.GroupLaws as groups
 -- Where this many more levels of nesting may open.
 module _ (room : ℕ) where
   pub block_sound : Sound (block room) (IsBlock room)
-  block_sound = blocks.block_over_sound room (statement_part room) (statement_part_sound room) (statement_part_complete room)
+  block_sound = blocks.block_over_sound room (statement_part room) (statement_part_lawful room).sound (statement_part_complete room)
 
   pub block_complete : Complete (block room) (IsBlock room) Anything
-  block_complete = blocks.block_over_complete room (statement_part room) (statement_part_sound room) (statement_part_complete room)
+  block_complete = blocks.block_over_complete room (statement_part room) (statement_part_lawful room).sound (statement_part_complete room)
 
   pub block_begins : Begins begins_block (IsBlock room)
   block_begins = blocks.block_begins room
 
   pub block_advances : Advances (IsBlock room)
-  block_advances = blocks.block_advances room (statement_part_advances room)
+  block_advances = blocks.block_advances room ((statement_part_lawful room).form.advances refl)
 
   pub trans_body_sound : Sound (trans_body room) (IsTransBody room)
   unfolding trans_body stands

@@ -1,19 +1,19 @@
 -- Labels and clauses that are spelled are read, where what stands after them cannot go on with them.
-use Rattle.std.proofs.Common.{◌≡◌, ℕ, true, false, Option, Some, None, Ok, sym, refl, ap, ◌∙◌}
+use Rattle.std.proofs.Common.{◌≡◌, ℕ, true, false, Option, Some, None, sym, refl, ap, ◌∙◌}
 use Rattle.estelle_tree.specs.declared.kind.Kind.{Kind}
 use Rattle.estelle_tree.specs.declared.kind.Kind.TheVariants as k
 use Rattle.estelle_tree.specs.declared.tree.clause.NextState.TheVariants as a_state
 use Rattle.estelle_tree.specs.declared.tree.clause.DelayHigh.{DelayHigh}
 use Rattle.estelle_tree.specs.declared.tree.clause.DelayHigh.TheVariants as a_high
 use Rattle.estelle_tree.specs.declared.tree.clause.Clause.TheVariants as a_clause
-use Rattle.estelle_tree.specs.Input.{Input, kind, start, between}
+use Rattle.estelle_tree.specs.Input.{Input, kind, between}
 use Rattle.estelle_tree.specs.Spelling.{Optional, Behind}
 use Rattle.estelle_tree.specs.Clauses.{IsLabel, IsAnyDom, IsNextState, IsDelayHigh, IsClause}
 use Rattle.token_reader.specs.Lists.{behind}
-use Rattle.token_reader.proofs.Complete.{After, Anything, Complete, expect_complete, name_complete, optional_complete, behind_complete, ended_complete, separated_complete}
+use Rattle.token_reader.proofs.Complete.{Anything, Complete, expect_complete, name_complete, optional_complete, behind_complete, ended_complete, separated_complete}
 use Rattle.type_parser.proofs.Begin.{shrinking}
 use Rattle.type_parser.proofs.Complete.{EndsOrdinal, names_complete, constant_complete, ordinal_complete}
-use Rattle.expression_parser.specs.Expression.{begins_expr, goes_on_expr, expr}
+use Rattle.expression_parser.specs.Expression.{begins_expr, goes_on_expr}
 use Rattle.expression_parser.proofs.Places.{expr_begins}
 use Rattle.expression_parser.proofs.Complete.{expr_complete}
 use Rattle.clause_parser.specs.Clause.{begins_params, goes_on_clause, label, any_dom, next_state, params, delay_high_by, delay_high, from_clause, to_clause, when_clause, provided_clause, priority_clause, any_clause, delay_clause, clause, EndsClause}

@@ -10,18 +10,17 @@ use Rattle.estelle_tree.specs.declared.tree.clause.Clause.{Clause}
 use Rattle.estelle_tree.specs.declared.tree.clause.Clause.TheVariants as a_clause
 use Rattle.estelle_tree.specs.declared.tree.clause.TransBody.{TransBody, out-TransBody, roll-TransBody}
 use Rattle.estelle_tree.specs.declared.tree.clause.TransBody.TheOpen.{TransBody-F, Group-F}
-use Rattle.estelle_tree.specs.declared.tree.clause.TransBody.TheVariants as a_body
 use Rattle.estelle_tree.specs.declared.tree.clause.TransBody.TheVariants.{outs-Block, outs-Groups, rolls-Block, rolls-Groups}
 use Rattle.estelle_tree.specs.declared.tree.clause.TransBody.TheViews.{roll-out-TransBody, roll-out-Group, out-roll-Group}
 use Rattle.estelle_tree.specs.declared.tree.clause.Group.{Group, out-Group, roll-Group}
-use Rattle.estelle_tree.specs.Input.{Input, kind, start, left, between}
+use Rattle.estelle_tree.specs.Input.{Input, kind, left, between}
 use Rattle.estelle_tree.specs.Spans.{TransBodyLayer}
 use Rattle.estelle_tree.specs.Spelling.{Spelling, Chain, Several}
 use Rattle.estelle_tree.specs.Clauses.{IsBlock, IsClause, of_clause, stands, way_of, holds_block_layer, Follows, MoreGroups, AreGroups, TransBodyLayerOf, TransBodyOf, GroupOf, GroupWithin}
 use Rattle.token_reader.specs.Reader.{Parser, pure}
 use Rattle.token_reader.specs.Lists.{several}
 use Rattle.token_reader.proofs.Sound.{Sound, through, answered, ok_pair, several_sound}
-use Rattle.token_reader.proofs.Complete.{Anything, Complete, Shrinks, Advances, several_complete}
+use Rattle.token_reader.proofs.Complete.{Anything, Complete, Advances, several_complete}
 use Rattle.type_parser.proofs.Begin.{Begins}
 use Rattle.clause_parser.specs.Block.{begins_block}
 use Rattle.clause_parser.specs.Clause.{begins_clause, goes_on_clause, clause}

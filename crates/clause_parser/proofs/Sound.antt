@@ -1,17 +1,15 @@
 -- Labels and clauses that are read are spelled so.
-use Rattle.std.proofs.Common.{◌≡◌, ℕ, Option, Ok, sym, refl, subst}
+use Rattle.std.proofs.Common.{◌≡◌, ℕ, Ok, refl}
 use Rattle.estelle_tree.specs.declared.kind.Kind.{Kind}
 use Rattle.estelle_tree.specs.declared.kind.Kind.TheVariants as k
 use Rattle.estelle_tree.specs.declared.tree.clause.NextState.{NextState}
 use Rattle.estelle_tree.specs.declared.tree.clause.NextState.TheVariants as a_state
 use Rattle.estelle_tree.specs.declared.tree.clause.DelayHigh.{DelayHigh}
 use Rattle.estelle_tree.specs.declared.tree.clause.DelayHigh.TheVariants as a_high
-use Rattle.estelle_tree.specs.declared.tree.clause.Clause.{Clause}
 use Rattle.estelle_tree.specs.declared.tree.clause.Clause.TheVariants as a_clause
-use Rattle.estelle_tree.specs.Input.{Input, kind, next, start, between}
+use Rattle.estelle_tree.specs.Input.{Input, kind, next, between}
 use Rattle.estelle_tree.specs.Spelling.{Optional, Behind, Enclosed}
 use Rattle.estelle_tree.specs.Types.{IsNames}
-use Rattle.estelle_tree.specs.Expressions.{IsExpr}
 use Rattle.estelle_tree.specs.Clauses.{IsLabel, IsAnyDom, IsNextState, IsDelayHigh, IsClause}
 use Rattle.token_reader.specs.Reader.{expect, name}
 use Rattle.token_reader.specs.Lists.{optional, behind, ended, separated}

@@ -6,7 +6,7 @@ use Rattle.estelle_tree.specs.declared.tree.statement.Stmts.{Stmts}
 use Rattle.estelle_tree.specs.declared.tree.declaration.BlockDecl.{BlockDecl}
 use Rattle.estelle_tree.specs.declared.tree.clause.Label.{Label}
 use Rattle.estelle_tree.specs.declared.tree.clause.Block.{Block}
-use Rattle.token_reader.specs.Reader.{Parser, ◌>>=◌, pure, refuse, here, since}
+use Rattle.token_reader.specs.Reader.{Parser, ◌>>=◌, pure, here, since}
 use Rattle.token_reader.specs.Lists.{optional, repeated}
 use Rattle.type_parser.specs.Definitions.{begins_block_decl, block_decl}
 use Rattle.statement_parser.specs.Routine.{statement_part}

@@ -1,5 +1,5 @@
 -- What stands behind `trans`, read from left to right: a block, or groups of clauses.
-use Rattle.std.specs.Prelude.{◌≡◌, ℕ, zero, suc, Bool, true, false, ◌||◌, if◌then◌else◌}
+use Rattle.std.specs.Prelude.{ℕ, zero, suc, Bool, true, false, ◌||◌, if◌then◌else◌}
 use denote.Enum.Bare.{sameb}
 use Rattle.estelle_tree.specs.contracts.kind.Kind.{the_type}
 use Rattle.estelle_tree.specs.declared.kind.Kind.{Kind}
@@ -8,7 +8,7 @@ use Rattle.estelle_tree.specs.declared.tree.clause.Clause.{Clause}
 use Rattle.estelle_tree.specs.declared.tree.clause.TransBody.{TransBody}
 use Rattle.estelle_tree.specs.declared.tree.clause.TransBody.TheVariants as a_body
 use Rattle.estelle_tree.specs.declared.tree.clause.Group.{Group, roll-Group}
-use Rattle.estelle_tree.specs.Input.{Input, kind}
+use Rattle.estelle_tree.specs.Input.{kind}
 use Rattle.estelle_tree.specs.Clauses.{of_clause}
 use Rattle.token_reader.specs.Reader.{Parser, ◌>>=◌, ◌>>◌, pure, refuse, peek, here, since}
 use Rattle.token_reader.specs.Lists.{several}

@@ -1,5 +1,5 @@
 -- A group at a place, as a function reads it.
-use Rattle.std.specs.Prelude.{ℕ, Result}
+use Rattle.std.specs.Prelude.{Result}
 use Rattle.std.specs.declared.alloc.Global.{Global}
 use denote.Ref.{MutBor}
 use Rattle.estelle_tree.specs.declared.tree.clause.Group.{Group}

@@ -1,7 +1,5 @@
 -- The kinds of clauses on a way, as the parser keeps them.
-use Rattle.std.specs.Prelude.{ℕ, Bool, true, false, Result}
-use Rattle.std.specs.declared.alloc.Global.{Global}
-use denote.Ref.{MutBor}
+use Rattle.std.specs.Prelude.{Bool, false}
 use Rattle.estelle_tree.specs.declared.kind.Kind.{Kind}
 use Rattle.estelle_tree.specs.declared.kind.Kind.TheVariants as k
 use Rattle.clause_parser.specs.declared.ways.Way.{Way}

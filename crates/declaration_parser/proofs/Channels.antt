@@ -15,13 +15,13 @@ use Rattle.token_reader.proofs.Complete.{Anything, Complete, Shrinks, Advances, 
 use Rattle.type_parser.specs.Types.{begins_name, names}
 use Rattle.type_parser.specs.Definitions.{part}
 use Rattle.type_parser.proofs.Sound.{names_sound}
-use Rattle.type_parser.proofs.Begin.{Begins, shrinking, name_shrinks, name_begins, names_advances, names_shrinks, joined_advances, enclosed_shrinks, separated_advances}
+use Rattle.type_parser.proofs.Begin.{Begins, shrinking, optional_shrinks, name_shrinks, name_begins, names_advances, names_shrinks, joined_advances, enclosed_shrinks, separated_advances}
 use Rattle.type_parser.proofs.Complete.{names_complete}
 use Rattle.type_parser.proofs.Definitions.{EndsPart, part_sound, part_complete, part_advances}
 use Rattle.declaration_parser.specs.Forms.{enclosed, joined}
 use Rattle.declaration_parser.specs.Channels.{begins_parenthesis, begins_group, param_group, params, may_be_params, inter, group, channel}
 use Rattle.declaration_parser.specs.Laws.{EndsParams, EndsInter, EndsChannel}
-use Rattle.declaration_parser.proofs.Forms.{Both, enclosed_sound, joined_sound, enclosed_complete, joined_complete, optional_shrinks}
+use Rattle.declaration_parser.proofs.Forms.{Both, enclosed_sound, joined_sound, enclosed_complete, joined_complete}
 
 -- names that end before a colon
 pub no_comma : (j : Input) → kind j ≡ k.Colon → kind j ≡ k.Comma → ⊥

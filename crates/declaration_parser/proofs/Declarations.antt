@@ -22,7 +22,7 @@ use Rattle.token_reader.proofs.Complete.{Anything, Complete, Advances, takes_shr
 use Rattle.type_parser.specs.Types.{begins_name, names, typed_names}
 use Rattle.type_parser.specs.Definitions.{part, block_decl}
 use Rattle.type_parser.proofs.Sound.{names_sound, typed_names_sound}
-use Rattle.type_parser.proofs.Begin.{Begins, shrinking, name_shrinks, name_begins, names_begins, names_advances, names_shrinks, joined_advances, enclosed_advances, enclosed_shrinks, typed_names_begins, typed_names_advances}
+use Rattle.type_parser.proofs.Begin.{Begins, shrinking, optional_shrinks, name_shrinks, name_begins, names_begins, names_advances, names_shrinks, joined_advances, enclosed_advances, enclosed_shrinks, typed_names_begins, typed_names_advances}
 use Rattle.type_parser.proofs.Complete.{EndsOrdinal, names_complete, typed_names_complete}
 use Rattle.type_parser.proofs.Definitions.{EndsPart, part_sound, part_complete, part_advances, block_decl_sound, block_decl_complete, block_decl_advances, no_dots}
 use Rattle.declaration_parser.specs.Forms.{enclosed, joined, may_be_part}
@@ -30,7 +30,7 @@ use Rattle.declaration_parser.specs.Attributes.{begins_attr, begins_disc, attr, 
 use Rattle.declaration_parser.specs.Channels.{begins_parenthesis, may_be_params, channel}
 use Rattle.declaration_parser.specs.Declarations.{begins_plain_decl, ip_decl, modvar_decl, stateset_def, header, of_block_decl, definition_part, channel_part, header_part, ip_part, modvar_part, state_part, stateset_part, plain_decl_by, plain_decl}
 use Rattle.declaration_parser.specs.Laws.{EndsIpDecl, EndsDecl, IsPlainLayer, IsPlainDecl}
-use Rattle.declaration_parser.proofs.Forms.{enclosed_sound, joined_sound, may_be_part_sound, enclosed_complete, joined_complete, may_be_part_complete, optional_shrinks, may_be_lines_shrinks}
+use Rattle.declaration_parser.proofs.Forms.{enclosed_sound, joined_sound, may_be_part_sound, enclosed_complete, joined_complete, may_be_part_complete, may_be_lines_shrinks}
 use Rattle.declaration_parser.proofs.Attributes.{attr_sound, attr_complete, attr_begins, attr_advances, queue_sound, queue_complete, queue_begins, queue_advances}
 use Rattle.declaration_parser.proofs.Channels.{no_comma, may_be_params_sound, may_be_params_complete, may_be_params_shrinks, channel_sound, channel_complete, channel_advances}
 

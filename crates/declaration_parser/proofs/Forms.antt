@@ -3,7 +3,6 @@ use Rattle.std.proofs.Common.{◌≡◌, Bool, true, false, List, [], ◌∷◌,
 use Rattle.estelle_tree.specs.declared.kind.Kind.{Kind}
 use Rattle.estelle_tree.specs.declared.kind.Kind.TheVariants as k
 use Rattle.estelle_tree.specs.Input.{Input, kind}
-use Rattle.estelle_tree.specs.Spelling as spelling
 use Rattle.estelle_tree.specs.Spelling.{Spelling, Behind, Enclosed, Joined, Lines, MayBeLines}
 use Rattle.token_reader.specs.Reader.{Parser, sees, expect}
 use Rattle.token_reader.specs.Lists.{optional_if, optional}
@@ -62,10 +61,6 @@ may_be_part_sound {A} item P sound first begins i j xs h = go (sees first i) h
     go false h = answered (MayBeLines first P) i j i [] xs refl h
 
 -- ---- that tokens are taken
-
-pub optional_shrinks : {A : Type 0} (P : Spelling A) → Shrinks P → Shrinks (spelling.Optional P)
-optional_shrinks P shrinks i j None h = rw h (omega arith)
-optional_shrinks P shrinks i j (Some x) h = shrinks i j x h
 
 pub may_be_lines_shrinks : {A : Type 0} (P : Spelling A) → Advances P → (first : Kind) → (k.Nothing ≡ first → ⊥) → Shrinks (MayBeLines first P)
 may_be_lines_shrinks P advances first is_token i j [] h = rw h (omega arith)

@@ -25,17 +25,18 @@ use Rattle.token_reader.specs.Reader.{Parser, pure, refuse, expect, name}
 use Rattle.token_reader.specs.Lists.{optional, repeated}
 use Rattle.token_reader.proofs.Sound.{Sound, through, answered, expect_sound, name_sound, optional_sound, repeated_sound}
 use Rattle.token_reader.proofs.Complete.{Anything, Complete, Shrinks, Advances, takes_shrinks, takes_advances, name_advances, chain_shrinks, expect_complete, name_complete, optional_complete, repeated_complete}
-use Rattle.type_parser.proofs.Begin.{Begins, shrinking, name_shrinks, joined_advances}
+use Rattle.type_parser.proofs.Begin.{Begins, shrinking, optional_shrinks, name_shrinks, joined_advances}
 use Rattle.declaration_parser.specs.Forms.{joined}
 use Rattle.declaration_parser.specs.Channels.{begins_group}
 use Rattle.declaration_parser.specs.Declarations.{begins_plain_decl, plain_decl}
 use Rattle.declaration_parser.specs.Laws.{EndsDecl, IsPlainLayer}
-use Rattle.declaration_parser.proofs.Forms.{joined_sound, joined_complete, optional_shrinks}
+use Rattle.declaration_parser.proofs.Forms.{joined_sound, joined_complete}
 use Rattle.declaration_parser.proofs.Declarations.{plain_decl_sound, plain_layer_complete, plain_layer_begins, plain_layer_advances}
 use Rattle.type_parser.specs.Types.{begins_name}
 use Rattle.declaration_parser.specs.Attributes.{begins_head}
 use Rattle.statement_parser.specs.Routine.{routine}
-use Rattle.statement_parser.proofs.Routines.{routine_sound, routine_complete, routine_advances}
+use Rattle.statement_parser.proofs.RoutineForms.{routine_lawful}
+use Rattle.statement_parser.proofs.Complete.{routine_complete}
 use Rattle.estelle_parser.specs.Bodies.{EndsParts, begins_decl, begins_init, begins_trans, opens, body_over, body_part, init, trans, routine_part, decl_by, decl_over, parts_over, parts_below, parts}
 use Rattle.estelle_parser.proofs.Inside.{ends_trans, EndsTrans, init_sound, init_complete, init_advances, init_begins, trans_sound, trans_complete, trans_advances, trans_begins}
 
@@ -191,7 +192,7 @@ module _ (room : ℕ) (p : Parser Parts) (P : Spelling Parts) (sound : Sound p P
 
   routine_part_sound : Sound (routine_part room) (DeclOf room P)
   unfolding routine_part
-  routine_part_sound i j d h = through (routine room i) _ _ h (λ r a is h. layered i j a d (outs-Routine r) (routine_sound room i a r is) h)
+  routine_part_sound i j d h = through (routine room i) _ _ h (λ r a is h. layered i j a d (outs-Routine r) ((routine_lawful room).sound i a r is) h)
 
   decl_by_sound : (kind' : Kind) → Sound (decl_by room p kind') (DeclOf room P)
   decl_by_sound k.Body i j d h = body_part_sound i j d h
@@ -271,7 +272,7 @@ module _ (room : ℕ) (p : Parser Parts) (P : Spelling Parts) (sound : Sound p P
   layer_advances i j (Decl-F.Var vars span) h = plain_layer_advances room i j (Decl-F.Var vars span) h
   layer_advances i j (Decl-F.State states span) h = plain_layer_advances room i j (Decl-F.State states span) h
   layer_advances i j (Decl-F.Stateset sets span) h = plain_layer_advances room i j (Decl-F.Stateset sets span) h
-  layer_advances i j (Decl-F.Routine r) h = routine_advances room i j r h
+  layer_advances i j (Decl-F.Routine r) h = (routine_lawful room).form.advances refl i j r h
 
   decl_over_advances : Advances (DeclOf room P)
   decl_over_advances i j d h = layer_advances i j (out-Decl d) h

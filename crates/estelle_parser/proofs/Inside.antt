@@ -10,8 +10,7 @@ use Rattle.token_reader.specs.Reader.{expect, name}
 use Rattle.token_reader.specs.Lists.{behind}
 use Rattle.token_reader.proofs.Sound.{Sound, through, answered, expect_sound, name_sound, behind_sound}
 use Rattle.token_reader.proofs.Complete.{After, Anything, Complete, Advances, takes_advances, behind_shrinks, expect_complete, name_complete, behind_complete}
-use Rattle.type_parser.proofs.Begin.{Begins, name_shrinks}
-use Rattle.declaration_parser.proofs.Forms.{optional_shrinks}
+use Rattle.type_parser.proofs.Begin.{Begins, name_shrinks, optional_shrinks}
 use Rattle.clause_parser.specs.Block.{begins_block, block}
 use Rattle.clause_parser.specs.Clause.{begins_clause}
 use Rattle.clause_parser.specs.TransBody.{trans_body}

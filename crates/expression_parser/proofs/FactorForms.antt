@@ -1,4 +1,4 @@
--- z
+-- The laws of factors: each form is read by its parser.
 use Rattle.std.specs.Prelude.{◌==◌, ◌&&◌, not, if◌then◌else◌}
 use Rattle.std.proofs.Common.{◌≡◌, ℕ, ℤ, zero, suc, Ok, arith, Bool, true, false, List, [], ◌∷◌, sym, refl, ap, ◌∙◌, subst, inl, inr, ◌⊎◌}
 use Rattle.estelle_tree.specs.declared.kind.Kind.{Kind}
@@ -29,19 +29,19 @@ use Rattle.syntax_forms.specs.Form as form
 use Rattle.syntax_forms.specs.Form.{Form, ◌⊕◌}
 use Rattle.syntax_forms.specs.Reading.{Reading, one, ◌then◌, chosen, choose, looked, levelled, closed}
 use Rattle.expression_parser.specs.Forms as forms
-use Rattle.expression_parser.specs.Expression.{expr_over, args_over, elem_over, nest, selector_over, variable_after, variable_over, call_after, plain_after, named_by, named, number_factor, char_factor, paren_over, not_over, set_over, elems_over, factor_by, factor_over, factor_below, expr, args, variable}
-use Rattle.syntax_forms.proofs.KindLaws.{within, apart, both_of, is_it}
+use Rattle.expression_parser.specs.Expression.{expr_over, args_over, elem_over, nest, variable_after, variable_over, call_after, plain_after, named_by, named, number_factor, char_factor, paren_over, not_over, set_over, elems_over, factor_by, factor_over, factor_below, expr, args, variable}
+use Rattle.syntax_forms.proofs.KindLaws.{within, apart, both_of, is_it, not_true, not_false}
 use Rattle.syntax_forms.specs.Onward.{Below, IsOnward}
 use Rattle.syntax_forms.proofs.Steps.{step, names_one, expects_one, exact_below}
 use Rattle.syntax_forms.proofs.TokenForms.{name_known}
 use Rattle.syntax_forms.proofs.AheadForms.{IsAhead, unless_last}
 use Rattle.syntax_forms.proofs.ChoiceForms.{chosen_one, chosen_other, level_refused, some_room}
-use Rattle.syntax_forms.proofs.StepForms.{IsStep, many_form}
+use Rattle.syntax_forms.proofs.StepForms.{many_form}
 use Rattle.syntax_forms.proofs.NodeForms.{IsNode, begun_lawful, known_lawful, never_lawful}
 use Rattle.syntax_forms.proofs.Lawful.{begins_so, IsLast, IsRead, IsLawful}
 use Rattle.syntax_forms.proofs.Rules as rules
 use Rattle.expression_parser.proofs.TermForms.{expr_lawful, args_lawful, elem_lawful}
-use Rattle.expression_parser.proofs.VariableForms.{not_true, not_false, selects, selector_lawful, selector_step, selector_takes, variable_lawful}
+use Rattle.expression_parser.proofs.VariableForms.{selector_lawful, variable_lawful}
 
 -- ---- factors, over the parser of the factors one level down
 
@@ -56,7 +56,7 @@ module _ (room : ℕ) (F : Spelling Factor) (B : Beginning) (factor : Parser Fac
   negated_read = rules.level room k.Not refl (rules.part law)
 
   set_read : IsRead (forms.a_set room F B) (levelled room k.OpenBracket (choose (is k.CloseBracket) (one (expect k.CloseBracket)) (one (separated k.Comma (elem_over factor)) then one (expect k.CloseBracket))))
-  set_read = rules.level room k.OpenBracket refl (rules.or (rules.word k.CloseBracket refl) (rules.and (rules.separated k.Comma (elem_lawful F B factor law) refl refl refl) (rules.word k.CloseBracket refl) refl) refl refl)
+  set_read = rules.level room k.OpenBracket refl (rules.or (rules.word k.CloseBracket refl) (rules.and (rules.separated k.Comma (elem_lawful F B factor law) refl refl) (rules.word k.CloseBracket refl) refl) refl refl)
 
   -- a variable or a call: the token behind the name tells
   abbrev read_call : Reading (Name × (Args × Unit {0}))
@@ -308,10 +308,10 @@ module _ (room : ℕ) (F : Spelling Factor) (B : Beginning) (factor : Parser Fac
 
 pub factor_below_lawful : (room : ℕ) → IsLawful (forms.factor (FactorBelow room) (BeginsFactorBelow room)) (factor_below room)
 unfolding factor_below
-factor_below_lawful zero = never_lawful (FactorBelow zero) forms.factor_first forms.factor_on (λ i j f h. h)
+factor_below_lawful zero = never_lawful false (FactorBelow zero) forms.factor_first forms.factor_on (λ i j f h. h)
 factor_below_lawful (suc room) =
     known_lawful (forms.factor_layer room (FactorBelow room) (BeginsFactorBelow room)) (factor_over room (factor_below room)) (factor_layer_lawful room (FactorBelow room) (BeginsFactorBelow room) (factor_below room) (factor_below_lawful room))
-    forms.factor_first forms.factor_on refl refl refl
+    forms.factor_first forms.factor_on refl refl
 
 -- where this many more may open
 pub expr_lawful_at : (room : ℕ) → IsLawful (forms.expr (IsFactor room) (BeginsFactorBelow (suc room))) (expr room)
@@ -325,10 +325,3 @@ args_lawful_at room = args_lawful (IsFactor room) (BeginsFactorBelow (suc room))
 pub variable_lawful_at : (room : ℕ) → IsLawful (forms.variable room (FactorBelow room) (BeginsFactorBelow room)) (variable room)
 unfolding variable
 variable_lawful_at room = variable_lawful room (FactorBelow room) (BeginsFactorBelow room) (factor_below room) (factor_below_lawful room)
-
--- it reads a selector or nothing
-pub selector_step_at : (room : ℕ) → IsStep (forms.selector room (FactorBelow room) (BeginsFactorBelow room)) (selector_over room (factor_below room))
-selector_step_at room = selector_step room (FactorBelow room) (BeginsFactorBelow room) (factor_below room) (factor_below_lawful room)
-
-pub selector_takes_at : (room : ℕ) (i : Input) → selects room (FactorBelow room) (BeginsFactorBelow room) (factor_below room) (factor_below_lawful room) i ≡ true → Below i (left i) (selector_over room (factor_below room) i)
-selector_takes_at room = selector_takes room (FactorBelow room) (BeginsFactorBelow room) (factor_below room) (factor_below_lawful room)

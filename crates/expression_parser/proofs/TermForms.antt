@@ -1,9 +1,7 @@
--- z
-use Rattle.std.proofs.Common.{◌≡◌, Option, Some, None, sym, refl, ap, ◌∙◌, inl, inr, ◌⊎◌}
+-- The laws of terms, simple expressions, expressions and lists of them: each form is read by its parser.
+use Rattle.std.proofs.Common.{◌≡◌, Some, None, sym, refl, ap, ◌∙◌, inl, inr, ◌⊎◌}
 use Rattle.estelle_tree.specs.declared.kind.Kind.{Kind}
 use Rattle.estelle_tree.specs.declared.kind.Kind.TheVariants as k
-use Rattle.estelle_tree.specs.declared.tree.type_expr.Sign.{Sign}
-use Rattle.estelle_tree.specs.declared.tree.type_expr.Sign.TheVariants as sign
 use Rattle.estelle_tree.specs.declared.tree.expression.Relation.{Relation}
 use Rattle.estelle_tree.specs.declared.tree.expression.Relation.TheVariants as relation
 use Rattle.estelle_tree.specs.declared.tree.expression.Adding.{Adding}
@@ -27,15 +25,13 @@ use Rattle.syntax_forms.specs.Repeats as repeats
 use Rattle.syntax_forms.specs.Form.{◌▸◌}
 use Rattle.expression_parser.specs.Forms as forms
 use Rattle.expression_parser.specs.Expression.{sign_of, adding_of, multiplying_of, relation_of, term_over, simple_over, expr_over, args_over, elem_over}
+use Rattle.syntax_forms.proofs.KindLaws.{back_of}
+use Rattle.syntax_forms.proofs.Signs.{sign_forth, sign_back}
 use Rattle.syntax_forms.proofs.NodeForms.{IsNode}
 use Rattle.syntax_forms.proofs.Lawful.{IsLawful}
 use Rattle.syntax_forms.proofs.Rules as rules
 
 -- ---- the terminals of operators, back and forth
-
-sign_forth : (s : Sign) → sign_of (of_sign s) ≡ Some s
-sign_forth sign.Plus = refl
-sign_forth sign.Minus = refl
 
 adding_forth : (o : Adding) → adding_of (of_adding o) ≡ Some o
 adding_forth adding.Plus = refl
@@ -51,22 +47,6 @@ multiplying_forth multiplying.And = refl
 relation_forth : (o : Relation) → relation_of (of_relation o) ≡ Some o
 relation_forth relation.Equal = refl
 relation_forth _ = refl
-
--- told from the other side: what a terminal is of
-back_of : {O : Type 0} (of : Kind → Option O) (kinds : O → Kind) → ((x : Kind) → (of x ≡ None) ⊎ ((o : O) × (of x ≡ Some o) × (x ≡ kinds o))) → (x : Kind) (o : O) → of x ≡ Some o → x ≡ kinds o
-back_of {O} of kinds told x o e = by (told x)
-  where
-    by : (of x ≡ None) ⊎ ((o : O) × (of x ≡ Some o) × (x ≡ kinds o)) → x ≡ kinds o
-    by (inl n) = absurd (let no : None ≡ Some o = sym n ∙ e in cc)
-    by (inr t) = t.2 ∙ ap kinds (let same : Some t.0 ≡ Some o = sym t.1 ∙ e in cc)
-
-sign_back : (x : Kind) (o : Sign) → sign_of x ≡ Some o → x ≡ of_sign o
-sign_back = back_of sign_of of_sign told
-  where
-    told : (x : Kind) → (sign_of x ≡ None) ⊎ ((o : Sign) × (sign_of x ≡ Some o) × (x ≡ of_sign o))
-    told k.Plus = inr (sign.Plus, refl, refl)
-    told k.Minus = inr (sign.Minus, refl, refl)
-    told _ = inl refl
 
 adding_back : (x : Kind) (o : Adding) → adding_of x ≡ Some o → x ≡ of_adding o
 adding_back = back_of adding_of of_adding told
@@ -143,7 +123,7 @@ module _ (F : Spelling Factor) (B : Beginning) (factor : Parser Factor) (law : I
 
   pub args_lawful : IsLawful (forms.args F B) (args_over factor)
   unfolding args_over
-  args_lawful = rules.spanned (args_over factor) args_is refl (rules.separated k.Comma expr_lawful refl refl refl).rest (λ i. refl)
+  args_lawful = rules.spanned (args_over factor) args_is refl (rules.separated k.Comma expr_lawful refl refl).rest (λ i. refl)
 
   elem_is : IsNode (ElemOf F) (forms.expr F B ▸ repeats.may (repeats.behind k.Dots (forms.expr F B))).spells (λ p span. roll-Elem (record { first = p.0; last = p.1; span = span }))
   elem_is = record {

@@ -1,4 +1,4 @@
--- z
+-- The laws of selectors and variables: each form is read by its parser.
 use Rattle.std.specs.Prelude.{◌==◌, ◌&&◌, ◌||◌, not}
 use Rattle.std.proofs.Common.{◌≡◌, ℕ, zero, suc, Ok, arith, Bool, true, false, List, Some, None, sym, refl, ap, ◌∙◌, subst, inl, inr, ◌⊎◌}
 use Rattle.estelle_tree.specs.declared.kind.Kind.{Kind}
@@ -27,23 +27,15 @@ use Rattle.syntax_forms.specs.Form.{Form, ◌▸◌, ◌⊕◌}
 use Rattle.syntax_forms.specs.Reading.{Reading, one, ◌then◌, choose, levelled}
 use Rattle.expression_parser.specs.Forms as forms
 use Rattle.expression_parser.specs.Expression.{expr_over, nest, index_over, field, selector_by, selector_over, variable_after, variable_over}
-use Rattle.syntax_forms.proofs.KindLaws.{when}
+use Rattle.syntax_forms.proofs.KindLaws.{when, not_true, not_false}
 use Rattle.syntax_forms.specs.Onward.{Below}
 use Rattle.syntax_forms.proofs.ChoiceForms.{chosen_one, chosen_other, some_room, has_room}
 use Rattle.syntax_forms.proofs.StepForms.{IsStep, told_step, many_read}
-use Rattle.syntax_forms.proofs.ListForms.{stops_below}
+use Rattle.syntax_forms.proofs.Firsts.{stops_below}
 use Rattle.syntax_forms.proofs.NodeForms.{IsNode}
 use Rattle.syntax_forms.proofs.Lawful.{IsLawful}
 use Rattle.syntax_forms.proofs.Rules as rules
 use Rattle.expression_parser.proofs.TermForms.{expr_lawful}
-
-pub not_true : (b : Bool) → not b ≡ true → b ≡ false
-not_true true e = absurd (cc)
-not_true false e = refl
-
-pub not_false : (b : Bool) → not b ≡ false → b ≡ true
-not_false true e = refl
-not_false false e = absurd (cc)
 
 nest_takes : (room : ℕ) → (room == 0) ≡ false → nest room ≡ take
 nest_takes zero e = absurd (cc)
@@ -82,8 +74,8 @@ module _ (room : ℕ) (F : Spelling Factor) (B : Beginning) (factor : Parser Fac
   pub selector_lawful : IsLawful (forms.selector room F B) selector_by_form
   unfolding selector_by_form
   selector_lawful =
-      rules.made selector_by_form selector_is refl (rules.or
-      (rules.level room k.OpenBracket refl (rules.and (rules.separated k.Comma (expr_lawful F B factor law) refl refl refl) (rules.word k.CloseBracket refl) refl))
+      rules.made selector_by_form selector_is (rules.or
+      (rules.level room k.OpenBracket refl (rules.and (rules.separated k.Comma (expr_lawful F B factor law) refl refl) (rules.word k.CloseBracket refl) refl))
       (rules.and (rules.word k.Dot refl) rules.name refl) refl refl).rest (λ i. refl)
 
   -- where a selector comes

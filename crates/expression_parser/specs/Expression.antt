@@ -3,8 +3,6 @@ use Rattle.std.specs.Prelude.{◌≡◌, ℕ, zero, suc, ◌==◌, Bool, true, f
 use Rattle.estelle_tree.specs.declared.kind.Kind.{Kind}
 use Rattle.estelle_tree.specs.declared.kind.Kind.TheVariants as k
 use Rattle.estelle_tree.specs.declared.tree.name.Name.{Name}
-use Rattle.estelle_tree.specs.declared.tree.type_expr.Sign.{Sign}
-use Rattle.estelle_tree.specs.declared.tree.type_expr.Sign.TheVariants as sign
 use Rattle.estelle_tree.specs.declared.tree.expression.Relation.{Relation}
 use Rattle.estelle_tree.specs.declared.tree.expression.Relation.TheVariants as relation
 use Rattle.estelle_tree.specs.declared.tree.expression.Adding.{Adding}
@@ -24,6 +22,7 @@ use Rattle.estelle_tree.specs.declared.tree.expression.Selector.TheVariants as s
 use Rattle.estelle_tree.specs.Input.{Input, kind}
 use Rattle.token_reader.specs.Reader.{Parser, ◌>>=◌, ◌>>◌, pure, refuse, peek, here, since, take, sees, expect, number, char, name}
 use Rattle.token_reader.specs.Lists.{behind, mark, marked, repeated, separated}
+pub use Rattle.syntax_forms.specs.Types.{sign_of}
 
 -- ---- what the next token tells
 
@@ -36,11 +35,6 @@ relation_of k.Greater = Some relation.Greater
 relation_of k.AtLeast = Some relation.AtLeast
 relation_of k.In = Some relation.Member
 relation_of _ = None
-
-abbrev pub sign_of : Kind → Option Sign
-sign_of k.Plus = Some sign.Plus
-sign_of k.Minus = Some sign.Minus
-sign_of _ = None
 
 abbrev pub adding_of : Kind → Option Adding
 adding_of k.Plus = Some adding.Plus

@@ -1,4 +1,5 @@
-pub mod Sound
-pub mod Begin
+pub mod PartForms
+pub mod Whole
+pub mod StatementForms
+pub mod RoutineForms
 pub mod Complete
-pub mod Routines

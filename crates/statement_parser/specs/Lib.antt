@@ -1,3 +1,4 @@
 pub mod Statement
 pub mod Routine
 pub mod Laws
+pub mod Forms

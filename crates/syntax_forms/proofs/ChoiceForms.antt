@@ -178,8 +178,8 @@ module _ {A B : Type 0} (F : Form A) (G : Form B) (one : IsForm F) (other : IsFo
     pub choice_read : IsRead F s → IsRead G t → IsRead (F ⊕ G) (choose F.first s t)
     choice_read first second = record { rest = choice_last first.rest second.rest; goes = goes }
       where
-        goes : (C : Type 0) (f : A ⊎ B → Parser C) (next : Beginning) → First next (Ends (F ⊕ G)) → ((x : A ⊎ B) (a : Input) → Placed next a (f x a)) → (i : Input) → Placed (F.onto next or G.onto next) i (choose F.first s t C f i)
-        goes C f next ends more i = by (F.first (kind i)) refl
+        goes : (C : Type 0) (f : A ⊎ B → Parser C) (next : Beginning) → ((j : Input) → next j j) → First next (Ends (F ⊕ G)) → ((x : A ⊎ B) (a : Input) → Placed next a (f x a)) → (i : Input) → Placed (F.onto next or G.onto next) i (choose F.first s t C f i)
+        goes C f next blank ends more i = by (F.first (kind i)) refl
           where
             fore : (i m : Input) → (i ≡ m) ⊎ Ends (F ⊕ G) i → (i ≡ m) ⊎ Ends F i
             fore i m (inl e) = inl e
@@ -200,8 +200,8 @@ module _ {A B : Type 0} (F : Form A) (G : Form B) (one : IsForm F) (other : IsFo
             no_more some m (inr (inr n)) = absurd (let no : true ≡ false = sym n.0 ∙ some in cc)
 
             by : (b : Bool) → F.first (kind i) ≡ b → Placed (F.onto next or G.onto next) i (chosen b (s C (λ x. f (inl x))) (t C (λ y. f (inr y))) i)
-            by true e = left_of (F.onto next) (G.onto next) i _ (first.goes C _ next (λ i m n. fore i m (ends i m n)) (λ x. more (inl x)) i) (λ m h. no_other i m e (no_more (neither F.empty _ some).1 m (other.first_onto next i m h)))
-            by false e = right_of (F.onto next) (G.onto next) i _ (second.goes C _ next (λ i m n. back i m (ends i m n)) (λ y. more (inr y)) i) (λ m h. no_one i m e (no_next (neither F.empty _ some).0 m (one.first_onto next i m h)))
+            by true e = left_of (F.onto next) (G.onto next) i _ (first.goes C _ next blank (λ i m n. fore i m (ends i m n)) (λ x. more (inl x)) i) (λ m h. no_other i m e (no_more (neither F.empty _ some).1 m (other.first_onto next i m h)))
+            by false e = right_of (F.onto next) (G.onto next) i _ (second.goes C _ next blank (λ i m n. back i m (ends i m n)) (λ y. more (inr y)) i) (λ m h. no_one i m e (no_next (neither F.empty _ some).0 m (one.first_onto next i m h)))
 
 -- ---- `k x`, where k opens a level of nesting
 
@@ -269,7 +269,41 @@ module _ {A : Type 0} (room : ℕ) (kind' : Kind) (F : Form A) (form : IsForm F)
             by false e h = through (expect kind' i) (λ u. s C f) (y, j) h (λ u a t h. let g = read.sound C f a j y h in (g.0, g.1, (has_room room e, (a, expect_sound kind' i a u t, g.2)), g.3))
 
     pub level_read : IsRead F s → IsRead (level room kind' F) (levelled room kind' s)
-    level_read read = record { rest = level_last read.rest; goes = λ C f next ends more. levels C f (F.onto next) (read.goes C f next ends more) }
+    level_read read = record { rest = level_last read.rest; goes = λ C f next blank ends more. levels C f (F.onto next) (read.goes C f next blank ends more) }
+
+-- where no level may open, nothing is read
+level_never : {A : Type 0} (kind' : Kind) (F : Form A) (s : Reading A) → IsLast (level zero kind' F) (levelled zero kind' s)
+level_never kind' F s = record {
+  form = record {
+    whole = λ i j x h. absurd (none h.0);
+    whole_onto = λ next i m j x h n. absurd (none h.0);
+    nothing = λ i. inl refl;
+    nothing_onto = λ next i n. inl refl;
+    starts = λ i m x h. absurd (none h.0);
+    first = λ i m b. inl (first F.begins i m b);
+    first_onto = λ next i m b. inl (first (F.onto next) i m b);
+    reach = λ i m x h. absurd (none h.0);
+    advances = λ e i m x h. absurd (none h.0);
+    local = λ c i m x h r. absurd (none h.0);
+  };
+  onward = λ C f on i. refuses i;
+  sound = λ C f i j y h. absurd (cc);
+  complete = λ C f i m x h end. absurd (none h.0);
+  reached = λ C f on i m n x y h end r. absurd (none h.0);
+  last = λ C f keeps i. no_room kind' F.begins i;
+}
+  where
+    none : 0 < zero → ⊥
+    none fits = omega arith
+
+    first : (rest : Beginning) (i m : Input) → Opens zero kind' rest i m → i ≡ m
+    first rest i m (inl e) = e
+    first rest i m (inr h) = absurd (none h.0)
+
+-- its law is needed only where a level may open
+pub level_where : {A : Type 0} {F : Form A} {s : Reading A} (room : ℕ) (kind' : Kind) → is kind' k.Nothing ≡ false → (0 < room → IsLast F s) → IsLast (level room kind' F) (levelled room kind' s)
+level_where {F = F} {s = s} zero kind' is_token read = level_never kind' F s
+level_where {F = F} {s = s} (suc room) kind' is_token read = let law : IsLast F s = read (omega arith) in level_last (suc room) kind' F law.form s is_token law
 
 -- another terminal comes, and is refused
 pub level_refused : {A C : Type 0} (room : ℕ) (kind' : Kind) (s : Reading A) (f : A → Parser C) (i : Input) → (kind i ≡ kind' → ⊥) → levelled room kind' s C f i ≡ refuse i

@@ -18,6 +18,12 @@ below_stop i n (Ok p) b = b.fits.1
 below_stop i n (Err (Refused l)) b = b.fits
 below_stop i n (Err Memory) b = absurd b.fits
 
+-- where it stops tells how few are left
+pub stops_below : {A : Type 0} (i : Input) (m n : ℕ) (o : ReadResult A) → Below i m o → stop o < n → Below i n o
+stops_below i m n (Ok p) b less = record { fits = (b.fits.0, less) }
+stops_below i m n (Err (Refused l)) b less = record { fits = less }
+stops_below i m n (Err Memory) b less = absurd b.fits
+
 -- what comes after a step only goes on
 pub on_more : {A C : Type 0} (i : Input) (n : ℕ) (o : ReadResult A) (f : A → Parser C) → Below i n o → ((x : A) (a : Input) → o ≡ Ok (x, a) → Below a (suc (left a)) (f x a)) → Below i n (and_then o f)
 on_more i n (Ok p) f b more =

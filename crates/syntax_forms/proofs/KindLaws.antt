@@ -1,5 +1,5 @@
 -- What is computed over all terminals holds of each.
-use Rattle.std.proofs.Common.{◌≡◌, Bool, true, false, List, [], ◌∷◌, sym, refl, ap, ◌∙◌}
+use Rattle.std.proofs.Common.{◌≡◌, Bool, true, false, List, [], ◌∷◌, Option, Some, None, sym, refl, ap, ◌∙◌, inl, inr, ◌⊎◌}
 use Rattle.std.specs.Prelude.{not, ◌&&◌, ◌||◌}
 use Rattle.std.specs.List.{list_all}
 use denote.Enum.Bare.{same_true, true_same}
@@ -38,6 +38,14 @@ pub not_both : (a b : Bool) → not (a && b) ≡ true → a ≡ true → b ≡ t
 not_both true true e p q = cc
 not_both true false e p q = cc
 not_both false b e p q = cc
+
+pub not_true : (b : Bool) → not b ≡ true → b ≡ false
+not_true true e = absurd (cc)
+not_true false e = refl
+
+pub not_false : (b : Bool) → not b ≡ false → b ≡ true
+not_false true e = refl
+not_false false e = absurd (cc)
 
 pub when : (a : Bool) → (a ≡ true → ⊥) → a ≡ false
 when true not_so = absurd (not_so refl)
@@ -99,3 +107,11 @@ ends_always on all x = when (on x) (λ e. go (on x) (each (λ x. not (on x)) all
 -- it goes on with these terminals alone
 pub ends_by : (on goes : Kind → Bool) → of_all (λ x. goes x || not (on x)) ≡ true → (x : Kind) → goes x ≡ false → on x ≡ false
 ends_by on goes all x end = when (on x) (λ e. let no : true ≡ false = sym (within on goes all x e) ∙ end in cc)
+
+-- told from the other side: what a terminal is of
+pub back_of : {O : Type 0} (of : Kind → Option O) (kinds : O → Kind) → ((x : Kind) → (of x ≡ None) ⊎ ((o : O) × (of x ≡ Some o) × (x ≡ kinds o))) → (x : Kind) (o : O) → of x ≡ Some o → x ≡ kinds o
+back_of {O} of kinds told x o e = by (told x)
+  where
+    by : (of x ≡ None) ⊎ ((o : O) × (of x ≡ Some o) × (x ≡ kinds o)) → x ≡ kinds o
+    by (inl n) = absurd (let no : None ≡ Some o = sym n ∙ e in cc)
+    by (inr t) = t.2 ∙ ap kinds (let same : Some t.0 ≡ Some o = sym t.1 ∙ e in cc)

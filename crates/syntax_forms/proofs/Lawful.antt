@@ -75,11 +75,11 @@ pub record IsLast {A : Type 0} (F : Form A) (s : Reading A) : Type 1 where
   pub reached : (C : Type 0) (f : A → Parser C) → ((x : A) → IsOnward (f x)) → (i m n : Input) (x : A) (y : C) → F.spells x i m → (m ≡ n) ⊎ Ends F m → Reached m y n (f x m) → Reached i y n (s C f i)
   pub last : (C : Type 0) (f : A → Parser C) → Keeps f → (i : Input) → Placed F.begins i (s C f i)
 
--- and where something comes next
+-- and where something comes next, which the empty piece begins
 pub record IsRead {A : Type 0} (F : Form A) (s : Reading A) : Type 1 where
   pub rest : IsLast F s
   pub open rest use *
-  pub goes : (C : Type 0) (f : A → Parser C) (next : Beginning) → First next (Ends F) → ((x : A) (a : Input) → Placed next a (f x a)) → (i : Input) → Placed (F.onto next) i (s C f i)
+  pub goes : (C : Type 0) (f : A → Parser C) (next : Beginning) → ((j : Input) → next j j) → First next (Ends F) → ((x : A) (a : Input) → Placed next a (f x a)) → (i : Input) → Placed (F.onto next) i (s C f i)
 
 -- laws of a parser of the whole form
 pub record IsLawful {A : Type 0} (F : Form A) (p : Parser A) : Type 1 where

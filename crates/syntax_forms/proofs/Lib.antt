@@ -3,7 +3,6 @@ pub mod Lists
 pub mod Firsts
 pub mod Placing
 pub mod Listing
-pub mod Following
 pub mod Tokens
 pub mod KindLaws
 pub mod Lawful
@@ -19,3 +18,5 @@ pub mod StepForms
 pub mod BehindForms
 pub mod Rules
 pub mod Local
+pub mod ToldForms
+pub mod Signs

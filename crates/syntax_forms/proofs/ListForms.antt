@@ -1,90 +1,84 @@
 -- Parts that are repeated.
-use Rattle.std.proofs.Common.{◌≡◌, ◌<◌, ◌≤◌, ℕ, suc, Bool, true, false, List, [], ◌∷◌, Some, None, Ok, Err, sym, refl, ap, ◌∙◌, subst, inl, inr, ◌⊎◌, arith}
-use Rattle.std.specs.Prelude.{◌&&◌}
+use Rattle.std.proofs.Common.{◌≡◌, ◌<◌, ◌≤◌, suc, Bool, true, false, List, [], ◌∷◌, Some, None, Ok, sym, refl, ap, ◌∙◌, subst, inl, inr, ◌⊎◌, arith}
+use Rattle.std.specs.Prelude.{◌&&◌, ◌||◌}
 use Rattle.estelle_tree.specs.declared.kind.Kind.{Kind}
 use Rattle.estelle_tree.specs.declared.kind.Kind.TheVariants as k
 use Rattle.estelle_tree.specs.Input.{Input, kind, next, left}
 use Rattle.estelle_tree.specs.Spelling as spelling
 use Rattle.estelle_tree.specs.Spelling.{Spelling, Takes, Chain, Separated, Flag}
-use Rattle.estelle_tree.specs.Beginning.{Beginning, Nothing, After, OneToken, Many, Separating}
+use Rattle.estelle_tree.specs.Beginning.{Beginning, Nothing, After, OneToken, MayBe, Separating}
 use Rattle.token_reader.specs.Reader.{Parser, ReadResult, and_then, pure, sees, after, take, eat, ◌>>◌}
-use Rattle.token_reader.specs.declared.error.ReadError.TheVariants.{Refused, Memory}
 use Rattle.token_reader.specs.Lists.{optional_if, behind_if, first_and, separated, separated_if}
 use Rattle.token_reader.proofs.Sound.{through, seen_is, eat_sound, separated_sound, separated_if_sound}
-use Rattle.token_reader.proofs.Complete.{Advances, next_left_more, chain_shrinks, behind_shrinks, separated_complete, sees_takes, unseen, eat_complete, separated_if_complete, behind_advances}
+use Rattle.token_reader.proofs.Complete.{next_left_more, separated_complete, sees_takes, unseen, eat_complete, separated_if_complete, behind_advances}
 use Rattle.syntax_forms.specs.Form as form
-use Rattle.syntax_forms.specs.Form.{Form}
+use Rattle.syntax_forms.specs.Form.{Form, ◌▸◌}
+use Rattle.syntax_forms.specs.Repeats.{behind, many}
 use Rattle.syntax_forms.specs.Kinds.{is}
 use Rattle.syntax_forms.specs.Reading.{one, ◌then◌}
 use Rattle.syntax_forms.specs.Onward.{Below, IsOnward}
 use Rattle.syntax_forms.specs.Placed.{stop, Placed}
 use Rattle.syntax_forms.specs.Places.{Reach}
-use Rattle.syntax_forms.proofs.Local.{upto, upto_takes}
-use Rattle.syntax_forms.proofs.Firsts.{First, first_nothing, first_then, first_one}
-use Rattle.syntax_forms.proofs.KindLaws.{is_not, not_is, neither}
-use Rattle.syntax_forms.proofs.Steps.{Reached, Reaches, reach_on, reached_from, step, stays, eats, either, exact, last}
+use Rattle.syntax_forms.proofs.Local.{upto}
+use Rattle.syntax_forms.proofs.Firsts.{stops_below, First, first_nothing, first_one}
+use Rattle.syntax_forms.proofs.KindLaws.{not_is, neither}
+use Rattle.syntax_forms.proofs.Steps.{Reached, Reaches, reached_from, step, stays, eats, either, exact, last}
 use Rattle.syntax_forms.proofs.Lists.{separated_onward, separated_reached, separated_if_onward, repeated_onward, repeated_reached, behind_if_onward, behind_one}
 use Rattle.syntax_forms.proofs.Placing.{done, eat_last, stop_more, in_a_row}
-use Rattle.syntax_forms.proofs.Listing.{separated_placed, separated_if_placed, separated_whole}
+use Rattle.syntax_forms.proofs.Listing.{separated_placed, separated_if_placed}
 use Rattle.syntax_forms.proofs.Lawful.{begins_so, shrinks, IsForm, IsLast, IsRead, IsLawful, Ends, Starts, Keeps}
-use Rattle.syntax_forms.proofs.NodeForms.{lawful_piece, lawful_onward}
+use Rattle.syntax_forms.proofs.NodeForms.{part_form, going_form, lawful_piece, lawful_onward}
+use Rattle.syntax_forms.proofs.RowForms.{then_form}
+use Rattle.syntax_forms.proofs.BehindForms.{behind_form}
+use Rattle.syntax_forms.proofs.StepForms.{many_form}
 use Rattle.syntax_forms.proofs.MarkForms.{flag_form, flag_read}
 
 -- ---- `x {k x}`
 
-module _ {A : Type 0} (kind' : Kind) (F : Form A) (law : IsForm F) (some : F.empty ≡ false) (token : k.Nothing ≡ kind' → ⊥) where
-  list_starts : (i m : Input) (xs : List A) → Separated kind' F.spells xs i m → Starts F i
-  list_starts i m [] h = absurd h
-  list_starts i m (x ∷ xs) h = begins_so F law some i h.0 x h.1
-
-  pub list_first : (next : Beginning) → First (Separating kind' F.begins F.spells next) (Starts F)
-  list_first next = first_then (Starts F) F.spells F.begins (Many (After kind' F.begins) (spelling.Behind kind' F.spells) next) law.first (begins_so F law some)
-
-  pub list_advances : Advances (Separated kind' F.spells)
-  list_advances i j [] h = absurd h
-  list_advances i j (x ∷ xs) h =
-      let a = law.advances some i h.0 x h.1 in
-      let b = chain_shrinks (spelling.Behind kind' F.spells) (behind_shrinks kind' F.spells (shrinks law)) h.0 j xs h.2 in
-      omega arith
-
-  more_reach : (i m : Input) (xs : List A) → Chain (spelling.Behind kind' F.spells) xs i m → Reach i m
-  more_reach i m [] e = (0, e)
-  more_reach i m (x ∷ xs) h = reach_on i h.0 m (reach_on i h.1.at h.0 (1, h.1.mark.next) (law.reach h.1.at h.0 x h.1.item)) (more_reach h.0 m xs h.2)
-
-  pub list_reach : (i m : Input) (xs : List A) → Separated kind' F.spells xs i m → Reach i m
-  list_reach i m [] h = absurd h
-  list_reach i m (x ∷ xs) h = reach_on i h.0 m (law.reach i h.0 x h.1) (more_reach h.0 m xs h.2)
-
-  more_local : (c i m : Input) (xs : List A) → Chain (spelling.Behind kind' F.spells) xs i m → Reach m c → Chain (spelling.Behind kind' F.spells) xs (upto c i) (upto c m)
-  more_local c i m [] e r = ap (upto c) e
-  more_local c i m (x ∷ xs) h r =
-      let rest = reach_on h.0 m c (more_reach h.0 m xs h.2) r in
-      let item = reach_on h.1.at h.0 c (law.reach h.1.at h.0 x h.1.item) rest in
-      (upto c h.0, record { at = upto c h.1.at; mark = upto_takes c kind' i h.1.at token h.1.mark item; item = law.local c h.1.at h.0 x h.1.item rest }, more_local c h.0 m xs h.2 r)
-
-  pub list_local : (c i m : Input) (xs : List A) → Separated kind' F.spells xs i m → Reach m c → Separated kind' F.spells xs (upto c i) (upto c m)
-  list_local c i m [] h r = absurd h
-  list_local c i m (x ∷ xs) h r = (upto c h.0, law.local c i h.0 x h.1 (reach_on h.0 m c (more_reach h.0 m xs h.2) r), more_local c h.0 m xs h.2 r)
+module _ {A : Type 0} (kind' : Kind) (F : Form A) (law : IsForm F) (is_token : is kind' k.Nothing ≡ false) where
+  -- the first one, and those behind a terminal
+  parts : IsForm (form.part F ▸ many (behind kind' F))
+  parts = then_form (form.part F) (many (behind kind' F)) (part_form F law) (many_form (behind kind' F) (behind_form kind' is_token F law) refl)
 
   pub separated_form : IsForm (form.separated kind' F)
   separated_form = record {
-    whole = λ i j xs h. separated_whole kind' F.spells F.begins Nothing xs i j j h refl;
-    whole_onto = λ next i m j xs h n. separated_whole kind' F.spells F.begins next xs i m j h n;
-    nothing = λ i. inl (law.nothing i);
-    nothing_onto = λ next i n. inl (law.nothing i);
-    starts = λ i m xs h. inr (list_starts i m xs h);
-    first = list_first Nothing;
-    first_onto = λ next i m h. onto (list_first next i m h);
-    reach = list_reach;
-    advances = λ e. list_advances;
-    local = list_local;
+    whole = whole;
+    whole_onto = whole_onto;
+    nothing = parts.nothing;
+    nothing_onto = parts.nothing_onto;
+    starts = starts;
+    first = parts.first;
+    first_onto = parts.first_onto;
+    reach = reach;
+    advances = advances;
+    local = local;
   }
     where
-      onto : {N : Type 0} {i m : Input} → (i ≡ m) ⊎ Starts F i → (i ≡ m) ⊎ (Starts F i ⊎ N)
-      onto (inl e) = inl e
-      onto (inr s) = inr (inl s)
+      whole : (i j : Input) (xs : List A) → Separated kind' F.spells xs i j → Separating kind' F.begins F.spells Nothing i j
+      whole i j [] h = absurd h
+      whole i j (x ∷ xs) h = parts.whole i j (x, xs) h
 
-module _ {A : Type 0} (kind' : Kind) (F : Form A) (p : Parser A) (law : IsLawful F p) (is_token : is kind' k.Nothing ≡ false) (some : F.empty ≡ false) (follows : F.on kind' ≡ false) where
+      whole_onto : (next : Beginning) (i m j : Input) (xs : List A) → Separated kind' F.spells xs i m → next m j → Separating kind' F.begins F.spells next i j
+      whole_onto next i m j [] h n = absurd h
+      whole_onto next i m j (x ∷ xs) h n = parts.whole_onto next i m j (x, xs) h n
+
+      starts : (i m : Input) (xs : List A) → Separated kind' F.spells xs i m → ((i ≡ m) × ((F.empty && true) ≡ true)) ⊎ Starts (form.separated kind' F) i
+      starts i m [] h = absurd h
+      starts i m (x ∷ xs) h = parts.starts i m (x, xs) h
+
+      reach : (i m : Input) (xs : List A) → Separated kind' F.spells xs i m → Reach i m
+      reach i m [] h = absurd h
+      reach i m (x ∷ xs) h = parts.reach i m (x, xs) h
+
+      advances : (F.empty && true) ≡ false → (i m : Input) (xs : List A) → Separated kind' F.spells xs i m → left m < left i
+      advances some i m [] h = absurd h
+      advances some i m (x ∷ xs) h = parts.advances some i m (x, xs) h
+
+      local : (c i m : Input) (xs : List A) → Separated kind' F.spells xs i m → Reach m c → Separated kind' F.spells xs (upto c i) (upto c m)
+      local c i m [] h r = absurd h
+      local c i m (x ∷ xs) h r = parts.local c i m (x, xs) h r
+
+module _ {A : Type 0} (kind' : Kind) (F : Form A) (p : Parser A) (law : IsLawful F p) (is_token : is kind' k.Nothing ≡ false) (follows : F.on kind' ≡ false) where
   ends : (j : Input) → kind j ≡ kind' → Ends F j
   ends j e = rw e follows
 
@@ -97,12 +91,12 @@ module _ {A : Type 0} (kind' : Kind) (F : Form A) (p : Parser A) (law : IsLawful
   pub separated_read : IsRead (form.separated kind' F) (one (separated kind' p))
   separated_read = record {
     rest = record {
-      form = separated_form kind' F law.form some token;
+      form = separated_form kind' F law.form is_token;
       onward = λ C f on i. step i _ (separated kind' p i) f (separated_onward p (lawful_onward F p law) kind' i) on;
       sound = λ C f i j y h. through (separated kind' p i) f (y, j) h (λ xs m e h. (xs, m, separated_sound p F.spells law.sound kind' i m xs e, h));
       complete = λ C f i m xs h end. ap (λ o. and_then o f) (whole i m xs h end);
       reached = λ C f on i m n xs y h end r. either (separated kind' p) f i m n xs y (separated_onward p (lawful_onward F p law) kind') on (separated_reached p F.spells (lawful_onward F p law) law.reaches kind' token (Ends F) law.complete (shrinks law.form) ends i m xs h) (known i m n xs h end) r;
-      last = λ C f keeps i. placed C f Nothing (first_nothing _) (λ x a. let same = keeps x a in rw same.1 (done same.0 a)) i;
+      last = λ C f keeps i. placed C f Nothing (λ j. refl) (first_nothing _) (λ x a. let same = keeps x a in rw same.1 (done same.0 a)) i;
     };
     goes = placed;
   }
@@ -114,19 +108,14 @@ module _ {A : Type 0} (kind' : Kind) (F : Form A) (p : Parser A) (law : IsLawful
       known i m n xs h (inl e) = inl e
       known i m n xs h (inr end) = inr (whole i m xs h end)
 
-      placed : (C : Type 0) (f : List A → Parser C) (next : Beginning) → First next (Ends (form.separated kind' F)) → ((xs : List A) (a : Input) → Placed next a (f xs a)) → (i : Input) → Placed (Separating kind' F.begins F.spells next) i (one (separated kind' p) C f i)
-      placed C f next stops more i = separated_placed p F.spells F.begins (Ends F) (lawful_piece F p law) next kind' i f token (shrinks law.form) ends (λ i m n. at (stops i m n)) more
+      placed : (C : Type 0) (f : List A → Parser C) (next : Beginning) → ((j : Input) → next j j) → First next (Ends (form.separated kind' F)) → ((xs : List A) (a : Input) → Placed next a (f xs a)) → (i : Input) → Placed (Separating kind' F.begins F.spells next) i (one (separated kind' p) C f i)
+      placed C f next blank stops more i = separated_placed p F.spells F.begins (Ends F) (lawful_piece F p law) next kind' i f token (shrinks law.form) ends (λ i m n. at (stops i m n)) more
         where
           at : {i m : Input} → (i ≡ m) ⊎ Ends (form.separated kind' F) i → (i ≡ m) ⊎ (Ends F i × (kind i ≡ kind' → ⊥))
           at (inl e) = inl e
           at {i} (inr end) = inr (both i end)
 
 -- ---- `x {k x} [k]`
-
-pub stops_below : {A : Type 0} (i : Input) (m n : ℕ) (o : ReadResult A) → Below i m o → stop o < n → Below i n o
-stops_below i m n (Ok p) b less = record { fits = (b.fits.0, less) }
-stops_below i m n (Err (Refused l)) b less = record { fits = less }
-stops_below i m n (Err Memory) b less = absurd b.fits
 
 eat_there : (kind' : Kind) (i m : Input) → Takes kind' i m → eat kind' i ≡ Ok (true, m)
 unfolding after
@@ -137,34 +126,10 @@ longer : {A : Type 0} (kind' : Kind) (P : Spelling A) (B rest : Beginning) (xs :
 longer kind' P B rest [] i m j h b = absurd h
 longer kind' P B rest (x ∷ xs) i m j h b = inr (x, h.0, h.1, (xs, m, h.2, inl b))
 
-module _ {A : Type 0} (kind' : Kind) (F : Form A) (law : IsForm F) (some : F.empty ≡ false) (token : k.Nothing ≡ kind' → ⊥) where
+module _ {A : Type 0} (kind' : Kind) (F : Form A) (law : IsForm F) (is_token : is kind' k.Nothing ≡ false) where
   pub sections_form : IsForm (form.sections kind' F)
-  sections_form = record {
-    whole = whole;
-    whole_onto = λ next i m j x h n. inr (x, m, h, n);
-    nothing = λ i. inl (law.nothing i);
-    nothing_onto = λ next i n. inl (inl (law.nothing i));
-    starts = λ i m x h. inr (list_starts kind' F law some token i h.0 x.0 h.1);
-    first = list_first kind' F law some token (OneToken kind');
-    first_onto = first_onto;
-    reach = λ i m x h. reach_on i h.0 m (list_reach kind' F law some token i h.0 x.0 h.1) (flag.reach h.0 m x.1 h.2);
-    advances = λ e i m x h. let a = list_advances kind' F law some token i h.0 x.0 h.1 in let b = shrinks flag h.0 m x.1 h.2 in omega arith;
-    local = λ c i m x h r. (upto c h.0, list_local kind' F law some token c i h.0 x.0 h.1 (reach_on h.0 m c (flag.reach h.0 m x.1 h.2) r), flag.local c h.0 m x.1 h.2 r);
-  }
-    where
-      flag : IsForm (form.flag kind')
-      flag = flag_form kind' (is_not kind' k.Nothing token)
-
-      whole : (i j : Input) (x : List A × Bool) → (form.sections kind' F).spells x i j → Separating kind' F.begins F.spells (OneToken kind') i j
-      whole i j x h = separated_whole kind' F.spells F.begins (OneToken kind') x.0 i h.0 j h.1 (flag.whole h.0 j x.1 h.2)
-
-      first_onto : (next : Beginning) (i m : Input) → (form.sections kind' F).onto next i m → (i ≡ m) ⊎ (Starts F i ⊎ ((false ≡ true) × next i m))
-      first_onto next i m (inl b) = by (list_first kind' F law some token (OneToken kind') i m b)
-        where
-          by : (i ≡ m) ⊎ Starts F i → (i ≡ m) ⊎ (Starts F i ⊎ ((false ≡ true) × next i m))
-          by (inl e) = inl e
-          by (inr s) = inr (inl s)
-      first_onto next i m (inr h) = inr (inl (list_starts kind' F law some token i h.2.0 h.0.0 h.2.1))
+  sections_form = going_form (λ x. is kind' x || (F.first x || F.on x)) (form.separated kind' F ▸ form.flag kind')
+      (then_form (form.separated kind' F) (form.flag kind') (separated_form kind' F law is_token) (flag_form kind' is_token))
 
 -- The next kind tells whether an item begins, and each item takes that token.
 module _ {A : Type 0} (kind' : Kind) (F : Form A) (p : Parser A) (law : IsLawful F p) (is_token : is kind' k.Nothing ≡ false) (some : F.empty ≡ false) (follows : F.on kind' ≡ false) (ends_none : F.first k.Nothing ≡ false)
@@ -232,18 +197,52 @@ module _ {A : Type 0} (kind' : Kind) (F : Form A) (p : Parser A) (law : IsLawful
       known [] e = inl e
       known (y ∷ ys) g = inr (law.complete i h.0 x h.1 (stops h.0 g.1.mark.kind))
 
-  covers : (i m : Input) → kind i ≡ kind' → begins (kind (next i)) ≡ true → OneToken kind' i m → After kind' F.begins i m
-  covers i m e there (inl same) = inl same
-  covers i m e there (inr t) = inr (m, t, law.form.nothing m)
+  -- what comes next, where the terminal is read as one that ends the list
+  items_placed : {C : Type 0} (rest : Beginning) (f : List A → Parser C) → ((i : Input) → rest i i) → ((i : Input) → kind i ≡ kind' → rest i (next i)) → First rest (Ends F)
+      → ((i m : Input) → kind i ≡ kind' → begins (kind (next i)) ≡ true → rest i m → After kind' F.begins i m) → ((xs : List A) (a : Input) → Placed rest a (f xs a)) → (i : Input) → Placed (Separating kind' F.begins F.spells rest) i (one (separated_if kind' begins p) C f i)
+  items_placed rest f blank alone first covers more i = separated_if_placed p F.spells F.begins (Ends F) (lawful_piece F p law) rest kind' begins i f token_there (shrinks law.form) stops starting first_so blank alone first covers more
 
   last_placed : (C : Type 0) (f : List A × Bool → Parser C) → Keeps f → (i : Input) → Placed (form.sections kind' F).begins i ((one (separated_if kind' begins p) then one (eat kind')) C f i)
-  last_placed C f keeps i =
-      separated_if_placed p F.spells F.begins (Ends F) (lawful_piece F p law) (OneToken kind') kind' begins i _ token_there (shrinks law.form) stops starting first_so
-      (λ i. inl refl) (λ i e. inr (record { kind = e; next = refl })) (first_one (Ends F) kind' stops) covers (λ xs a. eat_last kind' a _ (λ b. keeps (xs, b)))
+  last_placed C f keeps = items_placed (OneToken kind') _ (λ i. inl refl) (λ i e. inr (record { kind = e; next = refl })) (first_one (Ends F) kind' stops) covers (λ xs a. eat_last kind' a _ (λ b. keeps (xs, b)))
+    where
+      covers : (i m : Input) → kind i ≡ kind' → begins (kind (next i)) ≡ true → OneToken kind' i m → After kind' F.begins i m
+      covers i m e there (inl same) = inl same
+      covers i m e there (inr t) = inr (m, t, law.form.nothing m)
 
-  pub sections_last : IsLast (form.sections kind' F) (one (separated_if kind' begins p) then one (eat kind'))
+  next_placed : (C : Type 0) (f : List A × Bool → Parser C) (rest : Beginning) → ((j : Input) → rest j j) → First rest (Ends (form.sections kind' F)) → ((x : List A × Bool) (a : Input) → Placed rest a (f x a)) → (i : Input) → Placed (Separating kind' F.begins F.spells (MayBe kind' rest)) i ((one (separated_if kind' begins p) then one (eat kind')) C f i)
+  next_placed C f rest blank ends more =
+      items_placed (MayBe kind' rest) _ (λ i. inl (blank i)) (λ i e. inr (inr (next i, record { kind = e; next = refl }, blank (next i)))) first covers
+      (λ xs a. (flag_read kind' is_token).goes C (λ b. f (xs, b)) rest blank (λ i m n. flag_ends (ends i m n)) (λ b. more (xs, b)) a)
+    where
+      flag_ends : {i m : Input} → (i ≡ m) ⊎ Ends (form.sections kind' F) i → (i ≡ m) ⊎ (is kind' (kind i) ≡ false)
+      flag_ends (inl e) = inl e
+      flag_ends {i} (inr end) = inr (neither (is kind' (kind i)) _ end).0
+
+      item_ends : {i m : Input} → (i ≡ m) ⊎ Ends (form.sections kind' F) i → (i ≡ m) ⊎ Ends F i
+      item_ends (inl e) = inl e
+      item_ends {i} (inr end) = inr (neither (F.first (kind i)) _ (neither (is kind' (kind i)) _ end).1).1
+
+      first : First (MayBe kind' rest) (Ends F)
+      first i m (inl n) = item_ends (ends i m n)
+      first i m (inr (inl e)) = inl e
+      first i m (inr (inr t)) = inr (stops i t.1.kind)
+
+      covers : (i m : Input) → kind i ≡ kind' → begins (kind (next i)) ≡ true → MayBe kind' rest i m → After kind' F.begins i m
+      covers i m e there (inl n) = by (flag_ends (ends i m n))
+        where
+          by : (i ≡ m) ⊎ (is kind' (kind i) ≡ false) → After kind' F.begins i m
+          by (inl same) = inl same
+          by (inr other) = absurd (not_is kind' (kind i) other e)
+      covers i m e there (inr (inl same)) = inl same
+      covers i m e there (inr (inr t)) = inr (t.0, t.1, by (ends t.0 m t.2))
+        where
+          by : (t.0 ≡ m) ⊎ Ends (form.sections kind' F) t.0 → F.begins t.0 m
+          by (inl same) = subst (λ m. F.begins t.0 m) same (law.form.nothing t.0)
+          by (inr end) = absurd (let none = (neither (F.first (kind t.0)) _ (neither (is kind' (kind t.0)) _ end).1).0 in let no : true ≡ false = sym there ∙ (ap (λ a. begins (kind a)) t.1.next ∙ (tells (kind t.0) ∙ none)) in cc)
+
+  sections_last : IsLast (form.sections kind' F) (one (separated_if kind' begins p) then one (eat kind'))
   sections_last = record {
-    form = sections_form kind' F law.form some token_there;
+    form = sections_form kind' F law.form is_token;
     onward = onward;
     sound = λ C f i j y h. through (separated_if kind' begins p i) _ (y, j) h (λ xs a are h. through (eat kind' a) _ (y, j) h (λ b m is h. ((xs, b), m, (a, separated_if_sound p F.spells law.sound kind' begins i a xs are, eat_sound kind' a m b is), h)));
     complete = complete;
@@ -288,3 +287,6 @@ module _ {A : Type 0} (kind' : Kind) (F : Form A) (p : Parser A) (law : IsLawful
           by true there = inr (more there)
           by false none = read C f i m n (xs, true) y h (separated_if_complete p F.spells (Ends F) law.complete (shrinks law.form) kind' begins token_there stops starting i h.0 xs h.1 (stops h.0 h.2.kind, rw (sees_takes kind' h.0 m h.2, h.2.next, none) refl))
               (eat_there kind' h.0 m h.2) r
+
+  pub sections_read : IsRead (form.sections kind' F) (one (separated_if kind' begins p) then one (eat kind'))
+  sections_read = record { rest = sections_last; goes = next_placed }

@@ -6,18 +6,18 @@ use Rattle.estelle_tree.specs.declared.kind.Kind.TheVariants as k
 use Rattle.estelle_tree.specs.Input.{Input, kind, next, left}
 use Rattle.estelle_tree.specs.Spelling as spelling
 use Rattle.estelle_tree.specs.Spelling.{Spelling, Takes, Chain, Separated}
-use Rattle.estelle_tree.specs.Beginning.{Beginning, Nothing, ◌or◌, Then, After, OneToken, Many, Some as Several, Separating}
+use Rattle.estelle_tree.specs.Beginning.{Beginning, ◌or◌, Then, After, Many, Some as Several, Separating}
 use Rattle.token_reader.specs.declared.error.ReadError.TheVariants.{Refused}
 use Rattle.token_reader.specs.Reader.{Parser, ReadResult, and_then, sees, take, ◌>>◌}
-use Rattle.token_reader.specs.Lists.{optional, optional_if, behind, behind_if, ended, turn, repeated_from, repeated, first_and, separated, separated_if, several}
-use Rattle.token_reader.proofs.Sound.{Sound, seen_is, optional_sound, behind_sound, behind_if_sound, ended_sound}
+use Rattle.token_reader.specs.Lists.{optional, optional_if, behind, behind_if, turn, repeated_from, repeated, first_and, separated, separated_if, several}
+use Rattle.token_reader.proofs.Sound.{Sound, seen_is, optional_sound, behind_sound, behind_if_sound}
 use Rattle.token_reader.proofs.Complete as reader
 use Rattle.token_reader.proofs.Complete.{Complete, Advances, Shrinks, Anything, sees_takes, unseen, behind_advances, optional_complete, behind_complete, behind_if_complete, ended_complete}
 use Rattle.syntax_forms.specs.Onward.{Below, IsOnward}
 use Rattle.syntax_forms.specs.Placed.{stop, Begun, Placed}
 use Rattle.syntax_forms.proofs.Steps.{reads_on}
 use Rattle.syntax_forms.proofs.Lists.{from_onward, turns, behind_onward, behind_if_onward, optional_onward}
-use Rattle.syntax_forms.proofs.Placing.{below_stop, on_more, stop_more, refused_by, in_a_row, carry, stays_short, First, first_after, first_one, Piece, same, done, kept, followed, taken, expected, one_token, behind_placed, optional_placed}
+use Rattle.syntax_forms.proofs.Placing.{below_stop, on_more, stop_more, refused_by, in_a_row, carry, stays_short, First, first_after, Piece, same, kept, followed, taken, behind_placed, optional_placed}
 
 -- ---- `{x}` and what comes next. The step reads an item where another one comes behind it, or the rest; and
 -- where it reads nothing of what could begin an item, that begins the rest.
@@ -295,16 +295,6 @@ module _ {A : Type 0} (item : Parser A) (P : Spelling A) (B : Beginning) (end : 
       → First rest (λ j. end j × (begins (kind j) ≡ false)) → ((xs : List A) (a : Input) → Placed rest a (f xs a)) → Placed (Several B P rest) i (and_then (several begins item i) f)
   several_placed rest begins i f advances starts begin again first more =
       first_and_placed (optional begins item) P B rest end (λ j. end j × (begins (kind j) ≡ false)) (optional_step rest begins advances starts begin again) (λ i m r. inr (first i m r)) f more item P B piece i
-
-  -- `x k`
-  pub ended_piece : (kind' : Kind) → ((j : Input) → kind j ≡ kind' → end j) → Piece (ended kind' item) (spelling.Ended kind' P) (Then B P (OneToken kind')) Anything
-  unfolding ended
-  ended_piece kind' follows = record {
-    placed = λ i. followed item P B (OneToken kind') end i _ piece (first_one end kind' follows) (λ x a is. one_token kind' a _ (expected kind' Nothing a _ (λ b t. done x b)));
-    sound = ended_sound item P piece.sound kind';
-    complete = ended_complete item P end piece.complete kind' follows;
-    whole = λ i j x h. inr (x, h.mid, h.item, inr h.mark);
-  }
 
 -- a whole list, and what comes next
 pub separated_whole : {A : Type 0} (kind' : Kind) (P : Spelling A) (B rest : Beginning) (xs : List A) (i m j : Input) → Separated kind' P xs i m → rest m j → Separating kind' B P rest i j

@@ -1,18 +1,17 @@
 -- Parts that may be missing, and parts that are repeated.
-use Rattle.std.proofs.Common.{◌≡◌, ◌<◌, ◌≤◌, ℕ, zero, suc, Bool, true, false, List, [], ◌∷◌, ◌++◌, Option, Some, None, Ok, Err, sym, refl, ap, ◌∙◌, subst, inl, inr, ◌⊎◌, append_assoc, append-nil, arith}
+use Rattle.std.proofs.Common.{◌≡◌, ◌≤◌, ℕ, zero, suc, Bool, true, false, List, [], ◌∷◌, ◌++◌, Option, Some, None, Ok, sym, refl, ap, ◌∙◌, subst, inl, inr, ◌⊎◌, append_assoc, append-nil, arith}
 use Rattle.std.specs.Prelude.{◌&&◌}
 use Rattle.estelle_tree.specs.declared.kind.Kind.{Kind}
 use Rattle.estelle_tree.specs.declared.kind.Kind.TheVariants as k
 use Rattle.estelle_tree.specs.Input.{Input, kind, next, left}
 use Rattle.estelle_tree.specs.Spelling as spelling
 use Rattle.estelle_tree.specs.Spelling.{Spelling, Chain, Separated}
-use Rattle.token_reader.specs.declared.error.ReadError.TheVariants.{Refused, Memory}
-use Rattle.token_reader.specs.Reader.{Parser, ReadResult, pure, sees, take, ◌>>=◌, ◌>>◌}
-use Rattle.token_reader.specs.Lists.{optional_if, optional, behind, behind_if, taking, mark, marked_by, marked, ended, turn, repeated_from, repeated, first_and, separated, separated_if, several}
+use Rattle.token_reader.specs.Reader.{Parser, pure, sees, take, ◌>>=◌, ◌>>◌}
+use Rattle.token_reader.specs.Lists.{optional_if, optional, behind, behind_if, taking, mark, marked_by, marked, turn, repeated_from, repeated, first_and, separated, separated_if, several}
 use Rattle.token_reader.proofs.Sound.{seen_is}
 use Rattle.token_reader.proofs.Complete.{After, Advances, Shrinks, Complete, sees_takes, behind_advances}
 use Rattle.syntax_forms.specs.Onward.{Below, IsOnward}
-use Rattle.syntax_forms.proofs.Steps.{step, stays, takes, takes_one, expects, Reached, Reaches, reached_from, exact, last, either}
+use Rattle.syntax_forms.proofs.Steps.{step, stays, takes, takes_one, Reached, Reaches, reached_from, exact, last, either}
 
 -- ---- parts that may be missing
 
@@ -48,10 +47,6 @@ module _ {A : Type 0} (item : Parser A) (on : IsOnward item) where
       go : (b : Bool) → sees kind' i ≡ b → Reached i None i (optional_if b (take >> item) i)
       go true e = inr (step i _ ((take >> item) i) _ (behind_one item on kind' i is_token (seen_is kind' i e)) (λ x a. stays _ a))
       go false e = inl refl
-
-  pub ended_onward : (kind' : Kind) → IsOnward (ended kind' item)
-  unfolding ended
-  ended_onward kind' i = step i _ (item i) _ (on i) (λ x a. step a _ _ _ (expects kind' a) (λ u b. stays _ b))
 
 module _ {O : Type 0} (of : Kind → Option O) where
   pub mark_onward : IsOnward (mark of)
@@ -96,20 +91,6 @@ module _ {A : Type 0} (stepper : Parser (Option A)) (on : IsOnward stepper) wher
   unfolding repeated
   repeated_onward found i = from_onward (left i) found i
 
-  -- where the step takes a token, the loop does
-  pub repeated_first : (found : List A) (i : Input) → Below i (left i) (stepper i) → Below i (left i) (repeated stepper found i)
-  unfolding repeated repeated_from
-  repeated_first found i b = go (left i) b
-    where
-      none : (o : ReadResult (Option A)) → Below i zero o → ⊥
-      none (Ok p) b = let less = b.fits.1 in omega arith
-      none (Err (Refused l)) b = let less : l < 0 = b.fits in omega arith
-      none (Err Memory) b = b.fits
-
-      go : (n : ℕ) → Below i n (stepper i) → Below i n (repeated_from stepper n found i)
-      go zero b = absurd (none (stepper i) b)
-      go (suc n) b = step i (suc n) (stepper i) (turn found (repeated_from stepper n)) b (turns found (repeated_from stepper n) (from_onward n))
-
   pub first_and_onward : (item : Parser A) → IsOnward item → IsOnward (first_and item stepper)
   unfolding first_and
   first_and_onward item first i = step i _ (item i) _ (first i) (λ x. repeated_onward (x ∷ []))
@@ -151,11 +132,6 @@ module _ {A : Type 0} (stepper : Parser (Option A)) (P : Spelling A) (advances :
   pub repeated_reached : (found xs : List A) (i m : Input) → Chain P xs i m → Reached i (found ++ xs) m (repeated stepper found i)
   unfolding repeated
   repeated_reached found xs i m r = from_reached (left i) found xs i m r (omega arith)
-
-  -- the place where the items begin is the one where they end, or an item comes there
-  pub ends_or : (xs : List A) (i m : Input) → Chain P xs i m → (i ≡ m) ⊎ end i
-  ends_or [] i m r = inl r
-  ends_or (x ∷ xs) i m r = inr (again i r.0 x r.1)
 
 module _ {A : Type 0} (item : Parser A) (P : Spelling A) (on : IsOnward item) (reaches : Reaches item P) where
   -- `[k x]`

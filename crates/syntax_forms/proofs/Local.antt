@@ -1,10 +1,14 @@
 -- A list of tokens up to a place: what stands before that place stands there too.
-use Rattle.std.proofs.Common.{◌≡◌, ◌<◌, ◌≤◌, ◌-◌, ℕ, zero, suc, List, [], ◌∷◌, length, take, sym, refl, ap, ◌∙◌, subst, arith}
+use Rattle.std.specs.Prelude.{◌==◌, if◌then◌else◌}
+use Rattle.std.proofs.lemmas.Bool.{eq-eqb, ne_eqb, eqb-true, eqb-false}
+use Rattle.std.proofs.lemmas.List.{length-take-le}
+use Rattle.std.proofs.Common.{◌≡◌, ◌<◌, ◌≤◌, ◌-◌, ℕ, zero, suc, Bool, true, false, List, [], ◌∷◌, length, take, sym, refl, ap, ◌∙◌, subst, arith}
 use Rattle.estelle_tree.specs.declared.kind.Kind.{Kind}
 use Rattle.estelle_tree.specs.declared.kind.Kind.TheVariants as k
 use Rattle.estelle_tree.specs.declared.token.Placed.{Placed}
-use Rattle.estelle_tree.specs.Input.{Input, input, skip, kind, next, left, start, token_at, between, first_kind, first_token, first_start, after_first}
+use Rattle.estelle_tree.specs.Input.{Input, input, skip, kind, next, left, start, token_at, between, over, first_kind, first_token, first_start, after_first}
 use Rattle.estelle_tree.specs.Spelling.{Takes}
+use Rattle.estelle_tree.specs.Spans.{nowhere}
 use Rattle.token_reader.proofs.Complete.{next_left, next_left_more}
 use Rattle.syntax_forms.specs.Places.{Reach}
 
@@ -64,3 +68,31 @@ module _ (c : Input) where
 pub upto_end : (i : Input) → kind (upto i i) ≡ k.Nothing
 unfolding kind left
 upto_end i = let e : length i.tokens - length i.tokens ≡ 0 = omega arith in rw e refl
+
+pub upto_left : (c i : Input) → left c ≤ left i → left (upto c i) ≡ left i - left c
+unfolding left
+upto_left c i le = length-take-le (length i.tokens - length c.tokens) i.tokens (omega arith)
+
+pub upto_over : (c i m : Input) → Reach i m → Reach m c → over (upto c i) (upto c m) ≡ over i m
+unfolding over
+upto_over c i m r q = by (left i == left m) refl
+  where
+    inside : left m ≤ left i
+    inside = reach_left i m r
+
+    more : left c ≤ left m
+    more = reach_left m c q
+
+    one : left (upto c i) ≡ left i - left c
+    one = upto_left c i (omega (arith, inside, more))
+
+    two : left (upto c m) ≡ left m - left c
+    two = upto_left c m more
+
+    by : (b : Bool) → (left i == left m) ≡ b → (if left (upto c i) == left (upto c m) then nowhere else between (upto c i) (upto c m)) ≡ (if left i == left m then nowhere else between i m)
+    by true e = let same : left i ≡ left m = eqb-true (left i) (left m) e in let there : (left (upto c i) == left (upto c m)) ≡ true = eq-eqb (left (upto c i)) (left (upto c m)) (one ∙ (ap (λ n. n - left c) same ∙ sym two)) in rw (e, there) refl
+    by false e =
+        let differ : left i ≡ left m → ⊥ = eqb-false (left i) (left m) e in
+        let there : (left (upto c i) == left (upto c m)) ≡ false = ne_eqb (left (upto c i)) (left (upto c m)) (λ s. differ (omega (arith, s, one, two, inside, more))) in
+        let less : left c < left i = omega (arith, inside, more) in
+        rw (e, there) (upto_span c i m less)

@@ -1,16 +1,16 @@
 -- Terminals that may be missing.
-use Rattle.std.proofs.Common.{◌≡◌, Bool, true, false, Option, Some, None, sym, refl, ap, ◌∙◌, subst, inl, inr, ◌⊎◌}
+use Rattle.std.proofs.Common.{◌≡◌, suc, Bool, true, false, Option, Some, None, Ok, sym, refl, ap, ◌∙◌, subst, inl, inr, ◌⊎◌}
 use Rattle.std.specs.Prelude.{if◌then◌else◌}
 use Rattle.std.specs.Option.{is_some}
 use Rattle.estelle_tree.specs.declared.kind.Kind.{Kind}
 use Rattle.estelle_tree.specs.declared.kind.Kind.TheVariants as k
 use Rattle.estelle_tree.specs.Input.{Input, kind, next, left}
-use Rattle.estelle_tree.specs.Spelling.{Flag, Mark}
-use Rattle.estelle_tree.specs.Beginning.{Beginning, Nothing, OneToken, MayBe, MayBeOne}
-use Rattle.token_reader.specs.Reader.{Parser, and_then, eat, pure, sees, after}
+use Rattle.estelle_tree.specs.Spelling.{Takes, Flag, Mark}
+use Rattle.estelle_tree.specs.Beginning.{Beginning, Nothing, AfterOne, OneToken, MayBe, MayBeOne}
+use Rattle.token_reader.specs.Reader.{Parser, ReadResult, and_then, eat, pure, refuse, sees, after}
 use Rattle.token_reader.specs.Lists.{mark, taking}
 use Rattle.token_reader.proofs.Sound.{seen_is, through, eat_sound, mark_sound}
-use Rattle.token_reader.proofs.Complete.{sees_takes, unseen, eat_complete, mark_complete}
+use Rattle.token_reader.proofs.Complete.{takes_advances, sees_takes, unseen, eat_complete, mark_complete}
 use Rattle.syntax_forms.specs.Form as form
 use Rattle.syntax_forms.specs.Kinds.{is}
 use Rattle.syntax_forms.specs.Reading.{one}
@@ -20,10 +20,10 @@ use Rattle.syntax_forms.specs.Places.{Reach}
 use Rattle.syntax_forms.proofs.Local.{upto, upto_takes}
 use Rattle.syntax_forms.proofs.Firsts.{First, first_nothing}
 use Rattle.syntax_forms.proofs.KindLaws.{it_is, not_is}
-use Rattle.syntax_forms.proofs.Steps.{Reached, step, eats, takes_one, reached_from}
+use Rattle.syntax_forms.proofs.Steps.{Reached, step, exact, eats, takes, takes_one, refuses, reached_from}
 use Rattle.syntax_forms.proofs.Lists.{mark_onward}
-use Rattle.syntax_forms.proofs.Placing.{done, eat_last, may_be, mark_placed}
-use Rattle.syntax_forms.proofs.Lawful.{IsForm, IsRead}
+use Rattle.syntax_forms.proofs.Placing.{done, refused, eat_last, may_be, taken_one, unmarked, mark_placed}
+use Rattle.syntax_forms.proofs.Lawful.{IsForm, IsRead, Got}
 
 -- ---- `[k]`
 
@@ -85,7 +85,7 @@ module _ (kind' : Kind) where
       reached = reached;
       last = λ C f keeps i. eat_last kind' i f keeps;
     };
-    goes = λ C f next ends more i. may_be kind' next i f (λ i m n. other i m (ends i m n)) (more false i) (λ e. more true _);
+    goes = λ C f next blank ends more i. may_be kind' next i f (λ i m n. other i m (ends i m n)) (more false i) (λ e. more true _);
   }
     where
       other : (i m : Input) → (i ≡ m) ⊎ (is kind' (kind i) ≡ false) → (i ≡ m) ⊎ (kind i ≡ kind' → ⊥)
@@ -169,13 +169,13 @@ module _ {O : Type 0} (of : Kind → Option O) (kinds : O → Kind) (forth : (o 
       sound = λ C f i j y h. through (mark of i) f (y, j) h (λ o m e h. (o, m, mark_sound of kinds back i m o e, h));
       complete = read_complete;
       reached = reached;
-      last = λ C f keeps i. placed C f Nothing (first_nothing _) (λ x a. let same = keeps x a in rw same.1 (done same.0 a)) i;
+      last = λ C f keeps i. placed C f Nothing (λ j. refl) (first_nothing _) (λ x a. let same = keeps x a in rw same.1 (done same.0 a)) i;
     };
     goes = placed;
   }
     where
-      placed : (C : Type 0) (f : Option O → Parser C) (next : Beginning) → First next (λ i. is_some (of (kind i)) ≡ false) → ((o : Option O) (a : Input) → Placed next a (f o a)) → (i : Input) → Placed (MayBeOne kinds next) i (one (mark of) C f i)
-      placed C f next ends more i = mark_placed of kinds forth back next i f (λ i m n. other i m (ends i m n)) (more None i) (λ o e. more (Some o) _)
+      placed : (C : Type 0) (f : Option O → Parser C) (next : Beginning) → ((j : Input) → next j j) → First next (λ i. is_some (of (kind i)) ≡ false) → ((o : Option O) (a : Input) → Placed next a (f o a)) → (i : Input) → Placed (MayBeOne kinds next) i (one (mark of) C f i)
+      placed C f next blank ends more i = mark_placed of kinds forth back next i f (λ i m n. other i m (ends i m n)) (more None i) (λ o e. more (Some o) _)
         where
           other : (i m : Input) → (i ≡ m) ⊎ (is_some (of (kind i)) ≡ false) → (i ≡ m) ⊎ (of (kind i) ≡ None)
           other i m (inl e) = inl e
@@ -189,6 +189,68 @@ module _ {O : Type 0} (of : Kind → Option O) (kinds : O → Kind) (forth : (o 
           by : (o : Option O) → of (kind i) ≡ o → Reached i y n (and_then (taking o i) f)
           by None s = rw same r
           by (Some o) s = inr (subst (λ (n : Input). Below i (left n) (f (Some o) (next i))) (same ∙ e) (step i (left i) (pure (Some o) (next i)) f (takes_one (Some o) (kinds o) i (token is_token o) (back (kind i) o s)) on))
+
+-- ---- one of several terminals
+
+module _ {O : Type 0} (of : Kind → Option O) (kinds : O → Kind) (forth : (o : O) → of (kinds o) ≡ Some o) (back : (kind' : Kind) (o : O) → of kind' ≡ Some o → kind' ≡ kinds o) (is_token : is_some (of k.Nothing) ≡ false) where
+  one_token : (o : O) → k.Nothing ≡ kinds o → ⊥
+  one_token = token of kinds forth back is_token
+
+  pub one_of_form : IsForm (form.one_of of kinds)
+  one_of_form = record {
+    whole = λ i j o t. inr (o, j, t, refl);
+    whole_onto = λ next i m j o t n. inr (o, m, t, n);
+    nothing = λ i. inl refl;
+    nothing_onto = λ next i n. inl refl;
+    starts = λ i m o t. inr (some of kinds forth back o i t.kind);
+    first = λ i m b. alone i m (first_onto Nothing i m b);
+    first_onto = first_onto;
+    reach = λ i m o t. (1, t.next);
+    advances = λ e i m o t. takes_advances (kinds o) (one_token o) i m t;
+    local = λ c i m o t r. upto_takes c (kinds o) i m (one_token o) t r;
+  }
+    where
+      first_onto : (next : Beginning) (i m : Input) → AfterOne kinds next i m → (i ≡ m) ⊎ ((is_some (of (kind i)) ≡ true) ⊎ ((false ≡ true) × next i m))
+      first_onto next i m (inl e) = inl e
+      first_onto next i m (inr t) = inr (inl (some of kinds forth back t.0 i t.2.kind))
+
+      alone : (i m : Input) → (i ≡ m) ⊎ ((is_some (of (kind i)) ≡ true) ⊎ ((false ≡ true) × (i ≡ m))) → (i ≡ m) ⊎ (is_some (of (kind i)) ≡ true)
+      alone i m (inl e) = inl e
+      alone i m (inr (inl s)) = inr s
+      alone i m (inr (inr n)) = inl n.1
+
+  -- what a parser of them does
+  module _ (p : Parser O) (there : (o : O) (i : Input) → kind i ≡ kinds o → p i ≡ Ok (o, next i)) (other : (i : Input) → of (kind i) ≡ None → p i ≡ refuse i) where
+    told : (Q : ReadResult O → Type 0) (i : Input) → ((o : O) → kind i ≡ kinds o → Q (Ok (o, next i))) → (of (kind i) ≡ None → Q (refuse i)) → Q (p i)
+    told Q i took passed = by (of (kind i)) refl
+      where
+        by : (o : Option O) → of (kind i) ≡ o → Q (p i)
+        by (Some o) e = let is_one = back (kind i) o e in subst Q (sym (there o i is_one)) (took o is_one)
+        by None e = subst Q (sym (other i e)) (passed e)
+
+    on : IsOnward p
+    on i = told (Below i (suc (left i))) i (λ o e. takes o i) (λ e. refuses i)
+
+    goes : (C : Type 0) (f : O → Parser C) (rest : Beginning) → ((o : O) (a : Input) → Placed rest a (f o a)) → (i : Input) → Placed (AfterOne kinds rest) i (and_then (p i) f)
+    goes C f rest more i = told (λ r. Placed (AfterOne kinds rest) i (and_then r f)) i
+        (λ o e. taken_one of kinds forth back rest i (f o (next i)) o e (more o (next i)))
+        (λ e. refused (AfterOne kinds rest) i (inl refl) (unmarked of kinds forth back rest i e))
+
+    pub one_of_read : IsRead (form.one_of of kinds) (one p)
+    one_of_read = record {
+      rest = record {
+        form = one_of_form;
+        onward = λ C f more i. step i _ (p i) f (on i) more;
+        sound = sound;
+        complete = λ C f i m o t end. ap (λ r. and_then r f) (there o i t.kind ∙ ap (λ a. Ok (o, a)) t.next);
+        reached = λ C f more i m n o y t end r. exact p f i m n o y on (there o i t.kind ∙ ap (λ a. Ok (o, a)) t.next) r;
+        last = λ C f keeps. goes C f Nothing (λ o a. let same = keeps o a in rw same.1 (done same.0 a));
+      };
+      goes = λ C f next blank ends more. goes C f next more;
+    }
+      where
+        sound : (C : Type 0) (f : O → Parser C) (i j : Input) (y : C) → and_then (p i) f ≡ Ok (y, j) → Got (λ o. Takes (kinds o)) f i j y
+        sound C f i j y h = told (λ r. and_then r f ≡ Ok (y, j) → Got (λ o. Takes (kinds o)) f i j y) i (λ o e h. (o, next i, record { kind = e; next = refl }, h)) (λ e h. absurd (cc)) h
 
 -- what comes tells what is eaten
 pub eaten_there : (kind' : Kind) (i : Input) → kind i ≡ kind' → (sees kind' i ≡ true) × (after kind' i ≡ next i)

@@ -1,5 +1,5 @@
 -- Nodes, which are made of their parts and their span, and nodes as parts.
-use Rattle.std.proofs.Common.{◌≡◌, Bool, true, false, Ok, Err, sym, refl, ap, ◌∙◌, subst, inl, inr, ◌⊎◌, arith}
+use Rattle.std.proofs.Common.{◌≡◌, Bool, true, Ok, Err, sym, refl, ap, ◌∙◌, subst, inl, inr, ◌⊎◌}
 use Rattle.std.specs.Prelude.{not, ◌||◌}
 use Rattle.estelle_tree.specs.declared.kind.Kind.{Kind}
 use Rattle.estelle_tree.specs.declared.span.Span.{Span}
@@ -9,16 +9,17 @@ use Rattle.estelle_tree.specs.Beginning.{Beginning, Nothing, Then}
 use Rattle.token_reader.specs.Reader.{Parser, ReadResult, and_then, refuse, refusal}
 use Rattle.token_reader.proofs.Sound.{Sound, through, answered}
 use Rattle.token_reader.proofs.Complete.{Complete}
-use Rattle.syntax_forms.specs.Form.{Form, part, node, begun, hole}
+use Rattle.syntax_forms.specs.Form.{Form, part, node, begun, going, known}
 use Rattle.syntax_forms.specs.Kinds.{of_all}
 use Rattle.syntax_forms.specs.Reading.{Reading, one}
 use Rattle.syntax_forms.specs.Onward.{IsOnward}
 use Rattle.syntax_forms.specs.Placed.{Placed}
-use Rattle.syntax_forms.proofs.KindLaws.{when, within}
-use Rattle.syntax_forms.proofs.Local.{upto, reach_left, upto_span}
+use Rattle.syntax_forms.specs.Places.{Reach}
+use Rattle.syntax_forms.proofs.KindLaws.{within, ends_by}
+use Rattle.syntax_forms.proofs.Local.{upto}
 use Rattle.syntax_forms.proofs.Steps.{Reached, Reaches, step, stays, either}
 use Rattle.syntax_forms.proofs.Placing.{Piece, kept, followed, refused, same as same_pieces}
-use Rattle.syntax_forms.proofs.Lawful.{begins_so, IsForm, IsLast, IsRead, IsLawful, Ends, Starts}
+use Rattle.syntax_forms.proofs.Lawful.{IsForm, IsLast, IsRead, IsLawful, Ends, Starts}
 
 -- ---- a part that a parser of its own reads
 
@@ -66,7 +67,7 @@ module _ {A : Type 0} (F : Form A) (p : Parser A) (law : IsLawful F p) where
       reached = λ C f on i m n x y h end r. either p f i m n x y lawful_onward on (law.reaches i m x h) (known i m n x h end) r;
       last = λ C f keeps i. kept F.begins i (p i) f (law.placed i) keeps;
     };
-    goes = λ C f next ends more i. followed p F.spells F.begins next (Ends F) i f lawful_piece ends (λ x a h. more x a);
+    goes = λ C f next blank ends more i. followed p F.spells F.begins next (Ends F) i f lawful_piece ends (λ x a h. more x a);
   }
     where
       known : (i m n : Input) (x : A) → F.spells x i m → (m ≡ n) ⊎ Ends F m → (m ≡ n) ⊎ (p i ≡ Ok (x, m))
@@ -75,14 +76,18 @@ module _ {A : Type 0} (F : Form A) (p : Parser A) (law : IsLawful F p) where
 
 -- ---- nodes
 
--- the parts spell so, and the node is made of them and of the span
-pub record IsNode {P N : Type 0} (outer : Spelling N) (inner : Spelling P) (make : P → Span → N) : Type 0 where
-  pub opened : (i m : Input) (n : N) → outer n i m → (p : P) × inner p i m × (make p (between i m) ≡ n)
-  pub made : (i m : Input) (p : P) → inner p i m → outer (make p (between i m)) i m
+-- the parts spell so, and the node is made of them and of a span
+pub record IsSpanned {P N : Type 0} (span : Input → Input → Span) (outer : Spelling N) (inner : Spelling P) (make : P → Span → N) : Type 0 where
+  pub opened : (i m : Input) (n : N) → outer n i m → (p : P) × inner p i m × (make p (span i m) ≡ n)
+  pub made : (i m : Input) (p : P) → inner p i m → outer (make p (span i m)) i m
 
-module _ {P N : Type 0} (outer : Spelling N) (F : Form P) (make : P → Span → N) (is : IsNode outer F.spells make) where
-  pub node_form : F.empty ≡ false → IsForm F → IsForm (node outer F)
-  node_form some form = part_form (record { spells = outer; begins = F.begins; onto = F.onto; first = F.first; empty = F.empty; on = F.on }) (record {
+abbrev pub IsNode : {P N : Type 0} → Spelling N → Spelling P → (P → Span → N) → Type 0
+IsNode outer inner make = IsSpanned between outer inner make
+
+-- what stands behind a piece is nothing to its span
+module _ {P N : Type 0} (span : Input → Input → Span) (outer : Spelling N) (F : Form P) (make : P → Span → N) (is : IsSpanned span outer F.spells make) (far : (c i m : Input) (p : P) → F.spells p i m → Reach m c → make p (span (upto c i) (upto c m)) ≡ make p (span i m)) where
+  pub node_form : IsForm F → IsForm (node outer F)
+  node_form form = part_form (record { spells = outer; begins = F.begins; onto = F.onto; first = F.first; empty = F.empty; on = F.on }) (record {
     whole = λ i j n h. let o = is.opened i j n h in form.whole i j o.0 o.1;
     whole_onto = λ next i m j n h rest. let o = is.opened i m n h in form.whole_onto next i m j o.0 o.1 rest;
     nothing = form.nothing;
@@ -92,23 +97,18 @@ module _ {P N : Type 0} (outer : Spelling N) (F : Form P) (make : P → Span →
     first_onto = form.first_onto;
     reach = λ i m n h. let o = is.opened i m n h in form.reach i m o.0 o.1;
     advances = λ e i m n h. let o = is.opened i m n h in form.advances e i m o.0 o.1;
-    local = λ c i m n h r.
-        let o = is.opened i m n h in
-        let less = form.advances some i m o.0 o.1 in
-        let rest = reach_left m c r in
-        let span : between (upto c i) (upto c m) ≡ between i m = upto_span c i m (omega arith) in
-        subst (λ n. outer n (upto c i) (upto c m)) (ap (make o.0) span ∙ o.2) (is.made (upto c i) (upto c m) o.0 (form.local c i m o.0 o.1 r));
+    local = λ c i m n h r. let o = is.opened i m n h in subst (λ n. outer n (upto c i) (upto c m)) (far c i m o.0 o.1 r ∙ o.2) (is.made (upto c i) (upto c m) o.0 (form.local c i m o.0 o.1 r));
   })
 
-  module _ (some : F.empty ≡ false) (s : Reading P) (read : IsLast F s) (p : Parser N) (f : Input → P → Parser N) (same : (i : Input) → p i ≡ s N (f i) i) (makes : (i m : Input) (x : P) → f i x m ≡ Ok (make x (between i m), m)) where
+  module _ (s : Reading P) (read : IsLast F s) (p : Parser N) (f : Input → P → Parser N) (same : (i : Input) → p i ≡ s N (f i) i) (makes : (i m : Input) (x : P) → f i x m ≡ Ok (make x (span i m), m)) where
     pub node_lawful : IsLawful (node outer F) p
-    node_lawful = record { form = node_form some read.form; placed = placed; sound = sound; complete = complete; reaches = reaches }
+    node_lawful = record { form = node_form read.form; placed = placed; sound = sound; complete = complete; reaches = reaches }
       where
         placed : (i : Input) → Placed F.begins i (p i)
-        placed i = subst (λ (o : ReadResult N). Placed F.begins i o) (sym (same i)) (read.last N (f i) (λ x a. (make x (between i a), makes i a x)) i)
+        placed i = subst (λ (o : ReadResult N). Placed F.begins i o) (sym (same i)) (read.last N (f i) (λ x a. (make x (span i a), makes i a x)) i)
 
         sound : Sound p outer
-        sound i j n h = let g = read.sound N (f i) i j n (sym (same i) ∙ h) in answered outer i j g.1 (make g.0 (between i g.1)) n (is.made i g.1 g.0 g.2) (sym (makes i g.1 g.0) ∙ g.3)
+        sound i j n h = let g = read.sound N (f i) i j n (sym (same i) ∙ h) in answered outer i j g.1 (make g.0 (span i g.1)) n (is.made i g.1 g.0 g.2) (sym (makes i g.1 g.0) ∙ g.3)
 
         complete : Complete p outer (Ends F)
         complete i j n h end = let o = is.opened i j n h in same i ∙ read.complete N (f i) i j o.0 o.1 end ∙ makes i j o.0 ∙ ap (λ n. Ok (n, j)) o.2
@@ -119,7 +119,7 @@ module _ {P N : Type 0} (outer : Spelling N) (F : Form P) (make : P → Span →
             subst (λ (r : ReadResult N). Reached i n m r) (sym (same i)) (read.reached N (f i) on i m m o.0 n o.1 (inl refl) (inl (makes i m o.0 ∙ ap (λ n. Ok (n, m)) o.2)))
           where
             on : (x : P) → IsOnward (f i x)
-            on x a = rw (makes i a x) (stays (make x (between i a)) a)
+            on x a = rw (makes i a x) (stays (make x (span i a)) a)
 
 -- ---- what begins a form, in other words
 
@@ -170,46 +170,52 @@ one_lawful {A} {F} {p} read = record { form = read.form; placed = placed; sound 
 
 -- ---- a form of which less is known
 
-module _ {A : Type 0} (F : Form A) (p : Parser A) (law : IsLawful F p) (first on : Kind → Bool) (some : F.empty ≡ false) (begins : of_all (λ x. first x || not (F.first x)) ≡ true) (goes : of_all (λ x. on x || not (F.on x)) ≡ true) where
-  pub known_lawful : IsLawful (hole F.spells F.begins first on) p
-  known_lawful = record { form = form; placed = law.placed; sound = law.sound; complete = λ i j x h end. law.complete i j x h (ends j end); reaches = law.reaches }
+-- where it goes on says nothing of what it spells
+pub going_form : {A : Type 0} (on : Kind → Bool) (F : Form A) → IsForm F → IsForm (going on F)
+going_form on F law = record {
+  whole = law.whole;
+  whole_onto = law.whole_onto;
+  nothing = law.nothing;
+  nothing_onto = law.nothing_onto;
+  starts = law.starts;
+  first = law.first;
+  first_onto = law.first_onto;
+  reach = law.reach;
+  advances = law.advances;
+  local = law.local;
+}
+
+module _ {A : Type 0} (F : Form A) (p : Parser A) (law : IsLawful F p) (first on : Kind → Bool) (begins : of_all (λ x. first x || not (F.first x)) ≡ true) (goes : of_all (λ x. on x || not (F.on x)) ≡ true) where
+  pub known_lawful : IsLawful (known F.empty F.spells F.begins first on) p
+  known_lawful = record { form = form; placed = law.placed; sound = law.sound; complete = λ i j x h end. law.complete i j x h (ends_by F.on on goes (kind j) end); reaches = law.reaches }
     where
-      starts : (i : Input) → Starts F i → first (kind i) ≡ true
-      starts i s = within F.first first begins (kind i) s
+      so : {M N : Type 0} (i : Input) → M ⊎ (Starts F i ⊎ N) → M ⊎ ((first (kind i) ≡ true) ⊎ N)
+      so i (inl e) = inl e
+      so i (inr (inl s)) = inr (inl (within F.first first begins (kind i) s))
+      so i (inr (inr n)) = inr (inr n)
 
-      ends : (j : Input) → on (kind j) ≡ false → Ends F j
-      ends j end = when (F.on (kind j)) (λ e. let no : true ≡ false = sym (within F.on on goes (kind j) e) ∙ end in cc)
+      alone : {M : Type 0} (i : Input) → M ⊎ Starts F i → M ⊎ (first (kind i) ≡ true)
+      alone i (inl e) = inl e
+      alone i (inr s) = inr (within F.first first begins (kind i) s)
 
-      begun_first : (i m : Input) → (i ≡ m) ⊎ Starts F i → (i ≡ m) ⊎ (first (kind i) ≡ true)
-      begun_first i m (inl e) = inl e
-      begun_first i m (inr s) = inr (starts i s)
-
-      form : IsForm (hole F.spells F.begins first on)
-      form = part_form (record { spells = F.spells; begins = F.begins; onto = Then F.begins F.spells; first = first; empty = false; on = on }) (record {
+      form : IsForm (known F.empty F.spells F.begins first on)
+      form = part_form (record { spells = F.spells; begins = F.begins; onto = F.onto; first = first; empty = F.empty; on = on }) (record {
         whole = law.form.whole;
-        whole_onto = λ next i m j x h n. inr (x, m, h, n);
+        whole_onto = law.form.whole_onto;
         nothing = law.form.nothing;
-        nothing_onto = λ next i n. inl (law.form.nothing i);
-        starts = λ i m x h. inr (starts i (begins_so F law.form some i m x h));
-        first = λ i m b. begun_first i m (law.form.first i m b);
-        first_onto = onto;
+        nothing_onto = law.form.nothing_onto;
+        starts = λ i m x h. alone i (law.form.starts i m x h);
+        first = λ i m b. alone i (law.form.first i m b);
+        first_onto = λ next i m b. so i (law.form.first_onto next i m b);
         reach = law.form.reach;
-        advances = λ e. law.form.advances some;
+        advances = law.form.advances;
         local = law.form.local;
       })
-        where
-          onto : (next : Beginning) (i m : Input) → Then F.begins F.spells next i m → (i ≡ m) ⊎ ((first (kind i) ≡ true) ⊎ ((false ≡ true) × next i m))
-          onto next i m (inr h) = inr (inl (starts i (begins_so F law.form some i h.1 h.0 h.2)))
-          onto next i m (inl b) = by (law.form.first i m b)
-            where
-              by : (i ≡ m) ⊎ Starts F i → (i ≡ m) ⊎ ((first (kind i) ≡ true) ⊎ ((false ≡ true) × next i m))
-              by (inl e) = inl e
-              by (inr s) = inr (inl (starts i s))
 
 -- a form that nothing spells
-pub never_lawful : {A : Type 0} (P : Spelling A) (first on : Kind → Bool) → ((i j : Input) (x : A) → P x i j → ⊥) → IsLawful (hole P Nothing first on) refuse
+pub never_lawful : {A : Type 0} (empty : Bool) (P : Spelling A) (first on : Kind → Bool) → ((i j : Input) (x : A) → P x i j → ⊥) → IsLawful (known empty P Nothing first on) refuse
 unfolding refusal
-never_lawful {A} P first on never = record {
+never_lawful {A} empty P first on never = record {
   form = record {
     whole = λ i j x h. absurd (never i j x h);
     whole_onto = λ next i m j x h n. inr (x, m, h, n);
@@ -228,6 +234,6 @@ never_lawful {A} P first on never = record {
   reaches = λ i m x h. absurd (never i m x h);
 }
   where
-    onto : (next : Beginning) (i m : Input) → Then Nothing P next i m → (i ≡ m) ⊎ ((first (kind i) ≡ true) ⊎ ((false ≡ true) × next i m))
+    onto : (next : Beginning) (i m : Input) → Then Nothing P next i m → (i ≡ m) ⊎ ((first (kind i) ≡ true) ⊎ ((empty ≡ true) × next i m))
     onto next i m (inl e) = inl e
     onto next i m (inr h) = absurd (never i h.1 h.0 h.2)

@@ -64,14 +64,6 @@ covered_right {A} B C i o into h = same B (B or C) i o (λ m b. inl b) back h
     back m (inl b) = b
     back m (inr c) = into m c
 
--- a form among others: what it begins with tells that it stands there
-pub pick : {A : Type 0} (B : Beginning) (starts : Input → Type 0) (i : Input) (o : ReadResult A) → Below i (suc (left i)) o → First B starts → (starts i → Placed B i o) → (m : Input) → B i m → stop o ≤ left m
-pick B starts i o on first at m b = by (first i m b)
-  where
-    by : (i ≡ m) ⊎ starts i → stop o ≤ left m
-    by (inl e) = stays_short i m o on e
-    by (inr s) = (at s).longest m b
-
 -- it stands at the end of the only piece, which is empty
 pub ends : {A : Type 0} (B : Beginning) (x : A) (i : Input) → ((m : Input) → B i m → i ≡ m) → Placed B i (pure x i)
 ends {A} B x i only = record {
@@ -82,11 +74,6 @@ ends {A} B x i only = record {
 
 pub done : {A : Type 0} (x : A) (i : Input) → Placed Nothing i (pure x i)
 done x i = ends Nothing x i (λ m e. e)
-
--- where a parser refuses at once
-pub refusal_left : {A : Type 0} (i : Input) (l : ℕ) → refuse {A = A} i ≡ Err (Refused l) → left i ≡ l
-unfolding refusal
-refusal_left i l e = cc
 
 -- it refuses what comes, and so begins no piece but the empty one
 pub refused : {A : Type 0} (B : Beginning) (i : Input) → B i i → ((m : Input) → B i m → i ≡ m) → Placed {A = A} B i (refuse i)
@@ -195,29 +182,6 @@ one_token {A} kind' i o h = same (After kind' Nothing) (OneToken kind') i o to b
     back : (m : Input) → OneToken kind' i m → After kind' Nothing i m
     back m (inl e) = inl e
     back m (inr t) = inr (m, t, refl)
-
--- the last token, and nothing behind it
-pub last_token : {A : Type 0} (kind' : Kind) (i : Input) (f : Unit {0} → Parser A) → ((b : Input) → (y : A) × (f tt b ≡ Ok (y, b))) → Placed (OneToken kind') i (and_then (expect kind' i) f)
-last_token kind' i f stays' =
-    one_token kind' i _ (expected kind' Nothing i f (λ b t. let same = stays' b in subst (λ o. Placed Nothing b o) (sym same.1) (done same.0 b)))
-
--- one token, and behind it the one or the other
-pub after_either : {A : Type 0} (kind' : Kind) (B C : Beginning) (i : Input) (o : ReadResult A) → Placed (After kind' (B or C)) i o → Placed (After kind' B or After kind' C) i o
-after_either {A} kind' B C i o h = same (After kind' (B or C)) (After kind' B or After kind' C) i o to back h
-  where
-    to : (m : Input) → After kind' (B or C) i m → (After kind' B or After kind' C) i m
-    to m (inl e) = inl (inl e)
-    to m (inr t) = by t.2
-      where
-        by : (B or C) t.0 m → (After kind' B or After kind' C) i m
-        by (inl b) = inl (inr (t.0, t.1, b))
-        by (inr c) = inr (inr (t.0, t.1, c))
-
-    back : (m : Input) → (After kind' B or After kind' C) i m → After kind' (B or C) i m
-    back m (inl (inl e)) = inl e
-    back m (inl (inr t)) = inr (t.0, t.1, inl t.2)
-    back m (inr (inl e)) = inl e
-    back m (inr (inr t)) = inr (t.0, t.1, inr t.2)
 
 -- ---- a token that opens a level
 

@@ -102,7 +102,7 @@ module _ {A B : Type 0} (F : Form A) (G : Form B) (one : IsForm F) (other : IsFo
       sound = λ C f i j z h. let a = first.sound C _ i j z h in let b = second.sound C _ a.1 j z a.3 in ((a.0, b.0), b.1, (a.1, a.2, b.2), b.3);
       complete = λ C f i m x h end. first.complete C _ i h.0 x.0 h.1 (middle h.0 m x.1 h.2 end) ∙ second.complete C _ h.0 m x.1 h.2 (last_ends m end);
       reached = reached;
-      last = λ C f keeps i. first.goes C _ G.begins (begun_ends) (λ x a. second.last C _ (λ y. keeps (x, y)) a) i;
+      last = λ C f keeps i. first.goes C _ G.begins other.nothing (begun_ends) (λ x a. second.last C _ (λ y. keeps (x, y)) a) i;
     }
       where
         begun_ends : First G.begins (Ends F)
@@ -129,5 +129,5 @@ module _ {A B : Type 0} (F : Form A) (G : Form B) (one : IsForm F) (other : IsFo
     pub then_read : IsRead G t → IsRead (F ▸ G) (s then t)
     then_read second = record {
       rest = then_last second.rest;
-      goes = λ C f next ends more i. first.goes C _ (G.onto next) (next_ends next ends) (λ x a. second.goes C _ next (λ i m n. at (ends i m n)) (λ y. more (x, y)) a) i;
+      goes = λ C f next blank ends more i. first.goes C _ (G.onto next) (λ j. other.nothing_onto next j (blank j)) (next_ends next ends) (λ x a. second.goes C _ next blank (λ i m n. at (ends i m n)) (λ y. more (x, y)) a) i;
     }

@@ -1,11 +1,11 @@
 -- The laws of each way of putting parts together, in the order in which a production has them.
-use Rattle.std.proofs.Common.{◌≡◌, ℕ, Bool, true, false, [], Option, Some, refl, sym, ap, ◌∙◌}
+use Rattle.std.proofs.Common.{◌≡◌, ℕ, Bool, true, false, [], Option, Some, refl, sym, ap, ◌∙◌, arith}
 use Rattle.std.specs.Option.{is_some}
 use Rattle.std.specs.Prelude.{◌||◌, not}
 use Rattle.estelle_tree.specs.declared.kind.Kind.{Kind}
 use Rattle.estelle_tree.specs.declared.kind.Kind.TheVariants as k
 use Rattle.estelle_tree.specs.declared.span.Span.{Span}
-use Rattle.estelle_tree.specs.Input.{Input, kind, next, start, between}
+use Rattle.estelle_tree.specs.Input.{Input, kind, next, start, between, over}
 use Rattle.estelle_tree.specs.Spelling.{Spelling, Ended}
 use Rattle.token_reader.specs.Reader.{Parser, pure}
 use Rattle.token_reader.specs.Lists as lists
@@ -15,17 +15,18 @@ use Rattle.syntax_forms.specs.Kinds.{is, of_all, Apart}
 use Rattle.syntax_forms.specs.Form as form
 use Rattle.syntax_forms.specs.Repeats as repeats
 use Rattle.syntax_forms.specs.Form.{Form, ◌▸◌, ◌⊕◌}
-use Rattle.syntax_forms.specs.Reading.{Reading, one, ◌then◌, choose, levelled, closed}
+use Rattle.syntax_forms.specs.Reading.{Reading, one, ◌then◌, choose, levelled, closed, enclosed}
+use Rattle.syntax_forms.specs.Places.{Reach}
 use Rattle.syntax_forms.proofs.Lawful.{begins_so, IsForm, IsLast, IsRead, IsLawful, Follows, Starts}
 use Rattle.syntax_forms.proofs.RowForms.{then_last, then_read}
 use Rattle.syntax_forms.proofs.ChoiceForms.{choice_last, choice_read, level_read}
 use Rattle.syntax_forms.proofs.ListForms.{separated_read}
-use Rattle.syntax_forms.proofs.StepForms.{may_last, many_read}
+use Rattle.syntax_forms.proofs.StepForms.{may_last, many_read, optional_step, optional_read}
 use Rattle.syntax_forms.proofs.BehindForms.{marked_step, behind_step}
 use Rattle.syntax_forms.proofs.SeveralForms.{several_read}
 use Rattle.syntax_forms.proofs.KindLaws.{within}
-use Rattle.syntax_forms.proofs.Local.{upto, upto_end}
-use Rattle.syntax_forms.proofs.NodeForms.{IsNode, node_lawful, part_read}
+use Rattle.syntax_forms.proofs.Local.{upto, upto_end, reach_left, upto_span, upto_over}
+use Rattle.syntax_forms.proofs.NodeForms.{IsSpanned, IsNode, node_lawful, part_read}
 pub use Rattle.syntax_forms.proofs.TokenForms.{word_read as word, name_read as name, number_read as number, char_read as char}
 pub use Rattle.syntax_forms.proofs.MarkForms.{flag_read as flag, mark_read as mark}
 
@@ -49,28 +50,45 @@ pub part : {A : Type 0} {F : Form A} {p : Parser A} → IsLawful F p → IsRead 
 part {F = F} {p = p} law = part_read F p law
 
 -- `x {k x}`
-pub separated : {A : Type 0} {F : Form A} {p : Parser A} (k' : Kind) → IsLawful F p → is k' k.Nothing ≡ false → F.empty ≡ false → F.on k' ≡ false → IsRead (form.separated k' F) (one (lists.separated k' p))
+pub separated : {A : Type 0} {F : Form A} {p : Parser A} (k' : Kind) → IsLawful F p → is k' k.Nothing ≡ false → F.on k' ≡ false → IsRead (form.separated k' F) (one (lists.separated k' p))
 separated {F = F} {p = p} k' law = separated_read k' F p law
 
 -- a node of its parts and its span
 pub spanned : {P N : Type 0} {outer : Spelling N} {F : Form P} {make : P → Span → N} {s : Reading P} (p : Parser N)
     → IsNode outer F.spells make → F.empty ≡ false → IsLast F s → ((i : Input) → p i ≡ s N (closed make (start i)) i) → IsLawful (form.node outer F) p
 unfolding between
-spanned {outer = outer} {F = F} {make = make} {s = s} p told some read same = node_lawful outer F make told some s read p (λ i. closed make (start i)) same (λ i m x. refl)
+spanned {outer = outer} {F = F} {make = make} {s = s} p told some read same = node_lawful between outer F make told far s read p (λ i. closed make (start i)) same (λ i m x. refl)
+  where
+    far : (c i m : Input) (x : _) → F.spells x i m → Reach m c → make x (between (upto c i) (upto c m)) ≡ make x (between i m)
+    far c i m x h r =
+        let less = read.form.advances some i m x h in
+        let rest = reach_left m c r in
+        ap (make x) (upto_span c i m (omega arith))
+
+-- a node that is made of them and of nothing else
+pub built : {P N : Type 0} {F : Form P} {s : Reading P} (make : P → Span → N) (p : Parser N) → F.empty ≡ false → IsLast F s → ((i : Input) → p i ≡ s N (closed make (start i)) i) → IsLawful (form.built make F) p
+built make p some read same = spanned {make = make} p (record { opened = λ i m n h. h; made = λ i m x h. (x, h, refl) }) some read same
 
 -- a node of its parts alone
 pub made : {P N : Type 0} {outer : Spelling N} {F : Form P} {make : P → N} {s : Reading P} (p : Parser N)
-    → IsNode outer F.spells (λ x span. make x) → F.empty ≡ false → IsLast F s → ((i : Input) → p i ≡ s N (λ x. pure (make x)) i) → IsLawful (form.node outer F) p
-made {outer = outer} {F = F} {make = make} {s = s} p told some read same = node_lawful outer F (λ x span. make x) told some s read p (λ i x. pure (make x)) same (λ i m x. refl)
+    → IsNode outer F.spells (λ x span. make x) → IsLast F s → ((i : Input) → p i ≡ s N (λ x. pure (make x)) i) → IsLawful (form.node outer F) p
+made {outer = outer} {F = F} {make = make} {s = s} p told read same = node_lawful between outer F (λ x span. make x) told (λ c i m x h r. refl) s read p (λ i x. pure (make x)) same (λ i m x. refl)
+
+-- a node of its parts and of a span that is empty where they are
+pub covered : {P N : Type 0} {outer : Spelling N} {F : Form P} {make : P → Span → N} {s : Reading P} (p : Parser N)
+    → IsSpanned over outer F.spells make → IsLast F s → ((i : Input) → p i ≡ s N (enclosed make i) i) → IsLawful (form.node outer F) p
+unfolding over between
+covered {outer = outer} {F = F} {make = make} {s = s} p told read same =
+    node_lawful over outer F make told (λ c i m x h r. ap (make x) (upto_over c i m (read.form.reach i m x h) r)) s read p (enclosed make) same (λ i m x. refl)
 
 -- `k x`, where k opens a level of nesting
 pub level : {A : Type 0} {F : Form A} {s : Reading A} (room : ℕ) (k' : Kind) → is k' k.Nothing ≡ false → IsRead F s → IsRead (form.level room k' F) (levelled room k' s)
 level {F = F} {s = s} room k' is_token read = level_read room k' F read.form s is_token read
 
 -- `x ";"`
-pub line : {A : Type 0} {F : Form A} {p : Parser A} → IsLawful F p → F.empty ≡ false → Follows F (form.word k.Semicolon) → IsLawful (form.line F) (ended k.Semicolon p)
+pub line : {A : Type 0} {F : Form A} {p : Parser A} → IsLawful F p → Follows F (form.word k.Semicolon) → IsLawful (form.line F) (ended k.Semicolon p)
 unfolding ended
-line {A} {F} {p} law some follows = made (ended k.Semicolon p) told (rw some refl) (and (part law) (word k.Semicolon refl) follows).rest (λ i. refl)
+line {A} {F} {p} law follows = made (ended k.Semicolon p) told (and (part law) (word k.Semicolon refl) follows).rest (λ i. refl)
   where
     told : IsNode (Ended k.Semicolon F.spells) (form.part F ▸ form.word k.Semicolon).spells (λ x span. x.0)
     told = record { opened = λ i m x h. ((x, tt), (h.mid, h.item, h.mark), refl); made = λ i m x h. record { mid = h.0; item = h.1; mark = h.2 } }
@@ -103,3 +121,11 @@ module _ {O A : Type 0} {F : Form A} {p : Parser A} (of : Kind → Option O) (ki
 -- `[k x]`
 pub may_behind : {A : Type 0} {F : Form A} {p : Parser A} (k' : Kind) → is k' k.Nothing ≡ false → IsLawful F p → IsLast (repeats.may (repeats.behind k' F)) (one (lists.behind k' p))
 may_behind {F = F} {p = p} k' is_token law = may_last (repeats.behind k' F) (lists.behind k' p) (behind_step k' is_token F p law) refl
+
+-- `[x]`, where the next terminal tells whether x is there
+pub may : {A : Type 0} {F : Form A} {p : Parser A} (begins : Kind → Bool) → IsLawful F p → F.empty ≡ false → ((x : Kind) → begins x ≡ F.first x) → ((i : Input) → Starts F i → F.begins i (next i)) → F.first k.Nothing ≡ false → IsRead (repeats.may (form.part F)) (one (lists.optional begins p))
+may {F = F} {p = p} begins law some tells takes none = optional_read F p law some begins tells takes none
+
+-- `{x}`
+pub many : {A : Type 0} {F : Form A} {p : Parser A} (begins : Kind → Bool) → IsLawful F p → F.empty ≡ false → ((x : Kind) → begins x ≡ F.first x) → ((i : Input) → Starts F i → F.begins i (next i)) → F.first k.Nothing ≡ false → Follows F F → IsRead (repeats.many (form.part F)) (one (lists.repeated (lists.optional begins p) []))
+many {F = F} {p = p} begins law some tells takes none follows = many_read (form.part F) (lists.optional begins p) (optional_step F p law some begins tells takes none) some follows

@@ -16,14 +16,13 @@ use Rattle.syntax_forms.specs.Onward.{Below}
 use Rattle.syntax_forms.specs.Placed.{Placed}
 use Rattle.syntax_forms.specs.Places.{Reach}
 use Rattle.syntax_forms.proofs.Local.{upto}
-use Rattle.syntax_forms.proofs.Firsts.{First, first_nothing, first_then}
+use Rattle.syntax_forms.proofs.Firsts.{stops_below, First, first_nothing, first_then}
 use Rattle.syntax_forms.proofs.KindLaws.{neither, when, apart}
 use Rattle.syntax_forms.proofs.Steps.{Reached, Reaches, reach_on, step, stays, either, last}
 use Rattle.syntax_forms.proofs.Lists.{several_onward, repeated_onward, repeated_reached, optional_onward}
 use Rattle.syntax_forms.proofs.Placing.{done}
 use Rattle.syntax_forms.proofs.Listing.{several_placed}
 use Rattle.syntax_forms.proofs.Lawful.{begins_so, shrinks, IsForm, IsRead, IsLawful, Ends, Starts, Follows}
-use Rattle.syntax_forms.proofs.ListForms.{stops_below}
 use Rattle.syntax_forms.proofs.NodeForms.{lawful_piece, lawful_onward}
 
 module _ {A : Type 0} (F : Form A) (law : IsForm F) (some : F.empty ≡ false) where
@@ -142,7 +141,7 @@ module _ {A : Type 0} (F : Form A) (p : Parser A) (law : IsLawful F p) (some : F
       sound = λ C f i j y h. through (several begins p i) f (y, j) h (λ xs m e h. (xs, m, several_sound p F.spells law.sound begins i m xs e, h));
       complete = λ C f i m xs h end. ap (λ o. and_then o f) (whole i m xs h end);
       reached = λ C f on i m n xs y h end r. either (several begins p) f i m n xs y (several_onward p (lawful_onward F p law) begins) on (several_reached i m xs h) (known i m n xs h end) r;
-      last = λ C f keeps i. placed C f Nothing (first_nothing _) (λ x a. let same = keeps x a in rw same.1 (done same.0 a)) i;
+      last = λ C f keeps i. placed C f Nothing (λ j. refl) (first_nothing _) (λ x a. let same = keeps x a in rw same.1 (done same.0 a)) i;
     };
     goes = placed;
   }
@@ -154,8 +153,8 @@ module _ {A : Type 0} (F : Form A) (p : Parser A) (law : IsLawful F p) (some : F
       known i m n xs h (inl e) = inl e
       known i m n xs h (inr end) = inr (whole i m xs h end)
 
-      placed : (C : Type 0) (f : List A → Parser C) (rest : Beginning) → First rest (Ends (form.several F)) → ((xs : List A) (a : Input) → Placed rest a (f xs a)) → (i : Input) → Placed (BeginsSeveral F.begins F.spells rest) i (one (several begins p) C f i)
-      placed C f rest ends more i = several_placed p F.spells F.begins (Ends F) (lawful_piece F p law) rest begins i f advances starting first_so again (λ i m n. at (ends i m n)) more
+      placed : (C : Type 0) (f : List A → Parser C) (rest : Beginning) → ((j : Input) → rest j j) → First rest (Ends (form.several F)) → ((xs : List A) (a : Input) → Placed rest a (f xs a)) → (i : Input) → Placed (BeginsSeveral F.begins F.spells rest) i (one (several begins p) C f i)
+      placed C f rest blank ends more i = several_placed p F.spells F.begins (Ends F) (lawful_piece F p law) rest begins i f advances starting first_so again (λ i m n. at (ends i m n)) more
         where
           at : {i m : Input} → (i ≡ m) ⊎ Ends (form.several F) i → (i ≡ m) ⊎ (Ends F i × (begins (kind i) ≡ false))
           at (inl e) = inl e

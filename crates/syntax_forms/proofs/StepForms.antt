@@ -1,29 +1,29 @@
 -- `[x]` and `{x}`, read by a step: what reads one more part, or nothing.
 use Rattle.std.proofs.Common.{◌≡◌, suc, Bool, true, false, List, [], ◌∷◌, Option, Some, None, Ok, sym, refl, ap, ◌∙◌, subst, inl, inr, ◌⊎◌, arith}
+use Rattle.estelle_tree.specs.declared.kind.Kind.{Kind}
 use Rattle.estelle_tree.specs.declared.kind.Kind.TheVariants as k
 use Rattle.estelle_tree.specs.Input.{Input, kind, next, left}
 use Rattle.estelle_tree.specs.Spelling.{Optional, Chain}
-use Rattle.estelle_tree.specs.Beginning.{Beginning, Nothing, ◌or◌, Many}
+use Rattle.estelle_tree.specs.Beginning.{Beginning, Nothing, ◌or◌, Then, Many}
 use Rattle.token_reader.specs.Reader.{Parser, and_then, pure}
-use Rattle.token_reader.specs.Lists.{repeated}
+use Rattle.token_reader.specs.Lists.{optional_if, optional, repeated}
 use Rattle.token_reader.proofs.Sound.{Sound, through, answered, repeated_sound}
 use Rattle.token_reader.proofs.Complete.{repeated_complete, next_left_more}
-use Rattle.syntax_forms.specs.Form.{Form}
+use Rattle.syntax_forms.specs.Form.{Form, part}
 use Rattle.syntax_forms.specs.Repeats.{may, many}
 use Rattle.syntax_forms.specs.Reading.{one}
 use Rattle.syntax_forms.specs.Onward.{Below, IsOnward}
 use Rattle.syntax_forms.specs.Placed.{Placed}
 use Rattle.syntax_forms.specs.Places.{Reach}
 use Rattle.syntax_forms.proofs.Local.{upto}
-use Rattle.syntax_forms.proofs.Firsts.{First}
+use Rattle.syntax_forms.proofs.Firsts.{stops_below, in_a_row, First}
 use Rattle.syntax_forms.proofs.KindLaws.{neither, when, apart}
 use Rattle.syntax_forms.proofs.Steps as steps
 use Rattle.syntax_forms.proofs.Steps.{Reached, reach_on, step, stays, either}
 use Rattle.syntax_forms.proofs.Lists.{repeated_onward, repeated_reached}
-use Rattle.syntax_forms.proofs.Placing.{done, kept, ends as ends_here}
+use Rattle.syntax_forms.proofs.Placing.{done, kept, left_of, right_of, ends as ends_here}
 use Rattle.syntax_forms.proofs.Listing.{Step, repeated_placed}
-use Rattle.syntax_forms.proofs.ListForms.{stops_below}
-use Rattle.syntax_forms.proofs.NodeForms.{lawful_onward}
+use Rattle.syntax_forms.proofs.NodeForms.{part_form, part_read, lawful_onward}
 use Rattle.syntax_forms.proofs.Lawful.{begins_so, IsForm, IsLast, IsRead, IsLawful, Ends, Starts, Follows}
 
 -- laws of a step
@@ -188,7 +188,7 @@ module _ {A : Type 0} (F : Form A) (p : Parser (Option A)) (law : IsStep F p) (s
             (repeated_reached p F.spells (law.form.advances some) law.onward (Ends F) law.there again law.reached law.nothing [] xs i m h) (known i m n xs h end) r;
         last = λ C f keeps i. placed C f Nothing (λ i m e. inr (inl e)) (λ x a. let same = keeps x a in rw same.1 (done same.0 a)) i;
       };
-      goes = λ C f rest ends more i. placed C f rest (λ i m n. inr (ends i m n)) more i;
+      goes = λ C f rest blank ends more i. placed C f rest (λ i m n. inr (ends i m n)) more i;
     }
       where
         known : (i m n : Input) (xs : List A) → Chain F.spells xs i m → (m ≡ n) ⊎ Ends (many F) m → (m ≡ n) ⊎ (repeated p [] i ≡ Ok (xs, m))
@@ -255,3 +255,50 @@ module _ {A : Type 0} (F : Form A) (p : Parser A) (law : IsLawful F p) (q : Pars
           by : (b : Bool) → test i ≡ b → Placed F.begins i (q i)
           by true e = subst (λ o. Placed F.begins i o) (sym (yes i e)) (kept F.begins i (p i) _ (law.placed i) (λ x a. (_, refl)))
           by false e = subst (λ o. Placed F.begins i o) (sym (no i e)) (ends_here F.begins None i (λ m b. quiet i m e b))
+
+-- ---- `[x]`, where the next kind tells whether x is there
+
+module _ {A : Type 0} (F : Form A) (p : Parser A) (law : IsLawful F p) (some : F.empty ≡ false) (begins : Kind → Bool) (tells : (x : Kind) → begins x ≡ F.first x) (takes : (i : Input) → Starts F i → F.begins i (next i)) (ends_none : F.first k.Nothing ≡ false) where
+  part_law : IsLawful (part F) p
+  part_law = record { form = part_form F law.form; placed = law.placed; sound = law.sound; complete = law.complete; reaches = law.reaches }
+
+  pub optional_step : IsStep (part F) (optional begins p)
+  unfolding optional
+  optional_step = told_step (part F) p part_law (optional begins p) (λ i. begins (kind i)) (λ i e. ap (λ b. optional_if b p i) e) (λ i e. ap (λ b. optional_if b p i) e)
+      (λ i m x h. tells (kind i) ∙ begins_so F law.form some i m x h) quiet (λ i e. tells (kind i) ∙ e) (λ i e. takes i (sym (tells (kind i)) ∙ e)) token
+    where
+      quiet : (i m : Input) → begins (kind i) ≡ false → F.begins i m → i ≡ m
+      quiet i m e b = by (law.form.first i m b)
+        where
+          by : (i ≡ m) ⊎ Starts F i → i ≡ m
+          by (inl same) = same
+          by (inr s) = absurd (let no : true ≡ false = sym s ∙ (sym (tells (kind i)) ∙ e) in cc)
+
+      token : (i : Input) → begins (kind i) ≡ true → kind i ≡ k.Nothing → ⊥
+      token i e n = let no : true ≡ false = sym e ∙ (ap begins n ∙ (tells k.Nothing ∙ ends_none)) in cc
+
+  -- and what comes next
+  pub optional_read : IsRead (may (part F)) (one (optional begins p))
+  unfolding optional
+  optional_read = record { rest = may_last (part F) (optional begins p) optional_step some; goes = goes }
+    where
+      goes : (C : Type 0) (f : Option A → Parser C) (rest : Beginning) → ((j : Input) → rest j j) → First rest (Ends (may (part F))) → ((x : Option A) (a : Input) → Placed rest a (f x a)) → (i : Input) → Placed (rest or Then F.begins F.spells rest) i (and_then (optional_if (begins (kind i)) p i) f)
+      goes C f rest blank ends more i = by (begins (kind i)) refl
+        where
+          after : {i m : Input} → (i ≡ m) ⊎ Ends (may (part F)) i → (i ≡ m) ⊎ Ends F i
+          after (inl e) = inl e
+          after {i} (inr end) = inr (neither (F.first (kind i)) _ end).1
+
+          none : begins (kind i) ≡ true → (m : Input) → (i ≡ m) ⊎ Ends (may (part F)) i → i ≡ m
+          none e m (inl same) = same
+          none e m (inr end) = absurd (let no : true ≡ false = sym e ∙ (tells (kind i) ∙ (neither (F.first (kind i)) _ end).0) in cc)
+
+          no_more : begins (kind i) ≡ false → (m : Input) → (i ≡ m) ⊎ (Starts F i ⊎ ((F.empty ≡ true) × rest i m)) → i ≡ m
+          no_more e m (inl same) = same
+          no_more e m (inr (inl s)) = absurd (let no : true ≡ false = sym s ∙ (sym (tells (kind i)) ∙ e) in cc)
+          no_more e m (inr (inr n)) = absurd (let no : true ≡ false = sym n.0 ∙ some in cc)
+
+          by : (b : Bool) → begins (kind i) ≡ b → Placed (rest or Then F.begins F.spells rest) i (and_then (optional_if b p i) f)
+          by true e = right_of rest (Then F.begins F.spells rest) i _ (subst (λ o. Placed (Then F.begins F.spells rest) i o) (in_a_row (p i) (λ x. pure (Some x)) f) ((part_read F p law).goes C (λ x. f (Some x)) rest blank (λ i m n. after (ends i m n)) (λ x. more (Some x)) i))
+              (λ m n. none e m (ends i m n))
+          by false e = left_of rest (Then F.begins F.spells rest) i (f None i) (more None i) (λ m h. no_more e m ((part_form F law.form).first_onto rest i m h))

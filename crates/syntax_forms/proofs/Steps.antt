@@ -14,7 +14,7 @@ use Rattle.estelle_tree.specs.Input.{Input, first_kind, first_token, kind, next,
 use Rattle.estelle_tree.specs.Spelling.{Spelling}
 use Rattle.token_reader.specs.declared.error.ReadError.TheVariants.{Refused, Memory}
 use Rattle.token_reader.specs.Reader.{Parser, ReadResult, and_then, pure, refusal, refuse, sees, after, eat, expect, name, name_in, number, number_in, char, char_in}
-use Rattle.token_reader.proofs.Complete.{next_left, next_left_more, sees_takes, expect_complete}
+use Rattle.token_reader.proofs.Complete.{next_left, next_left_more, expect_complete}
 use Rattle.syntax_forms.specs.Places.{Reach}
 use Rattle.syntax_forms.specs.Onward.{Below, IsOnward}
 
@@ -112,10 +112,6 @@ named_token i e = go i.tokens e
     go : (ps : List Placed) → first_kind ps ≡ k.Name → (w : List ℕ) × (first_token ps ≡ Some (token.Word w))
     go [] e = absurd (cc)
     go (p ∷ ps) e = let word = token_named p.token e in (word.0, ap Some word.1)
-
-pub names_first : (i : Input) → kind i ≡ k.Name → Below i (left i) (name i)
-unfolding name
-names_first i e = rw (sees_takes k.Name i (next i) (record { kind = e; next = refl }), (named_token i e).1) (takes_one _ k.Name i (λ e. cc) e)
 
 pub numbers_one : IsOnward number
 unfolding number

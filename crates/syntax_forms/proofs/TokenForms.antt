@@ -76,7 +76,7 @@ module _ {A : Type 0} (kind' : Kind) (P : Spelling A) where
         reached = λ C f on i m n x y h end r. exact p f i m n x y known.on (known.complete i m x h tt) r;
         last = λ C f keeps i. one_token kind' i _ (goes C f Nothing i (λ x a. let same = keeps x a in rw same.1 (done same.0 a)));
       };
-      goes = λ C f rest first more i. goes C f rest i more;
+      goes = λ C f rest blank first more i. goes C f rest i more;
     }
 
 -- ---- the parsers

@@ -1,5 +1,5 @@
 -- Where the parsers of one token stop.
-use Rattle.std.proofs.Common.{◌≡◌, ℕ, ℤ, Bool, true, false, List, [], ◌∷◌, Option, Some, None, sym, refl, ap, ◌∙◌, inl, inr}
+use Rattle.std.proofs.Common.{◌≡◌, ℕ, ℤ, Bool, true, false, List, [], ◌∷◌, Some, sym, refl, ap, ◌∙◌}
 use Rattle.std.specs.Prelude.{if◌then◌else◌, map}
 use Rattle.std.specs.Str.{bytes_eq}
 use Rattle.estelle_tree.specs.declared.kind.Kind.{Kind}
@@ -10,17 +10,8 @@ use Rattle.estelle_tree.specs.declared.token.Token.TheVariants as token
 use Rattle.estelle_tree.specs.declared.token.Placed.{Placed as PlacedToken}
 use Rattle.estelle_tree.specs.declared.token.Symbol.{Symbol}
 use Rattle.estelle_tree.specs.declared.token.Symbol.TheVariants as symbol
-use Rattle.estelle_tree.specs.declared.tree.name.Name.{Name}
 use Rattle.estelle_tree.specs.Kind.{kind_of, kind_of_symbol, kind_of_word, lookup}
-use Rattle.estelle_tree.specs.Input.{Input, first_kind, first_token, kind, next, token_at, between}
-use Rattle.estelle_tree.specs.Types.{IsName, IsNumber, IsChar}
-use Rattle.estelle_tree.specs.Beginning.{Beginning, Nothing, After, OneToken}
-use Rattle.token_reader.specs.Reader.{Parser, and_then, refuse, sees, name, name_in, number, number_in, char, char_in}
-use Rattle.token_reader.proofs.Sound.{seen_is, name_sound, number_sound, char_sound}
-use Rattle.token_reader.proofs.Complete.{Anything, name_complete, number_complete, char_complete}
-use Rattle.syntax_forms.specs.Placed.{Placed}
-use Rattle.syntax_forms.proofs.Steps.{named_token}
-use Rattle.syntax_forms.proofs.Placing.{Piece, done, refused, taken, untaken, one_token, unseen_is}
+use Rattle.estelle_tree.specs.Input.{Input, first_kind, first_token, kind, token_at}
 
 pub token_kind : (i : Input) (t : Token) → token_at i ≡ Some t → kind i ≡ kind_of t
 unfolding token_at kind
@@ -93,72 +84,3 @@ char_token i e = go i.tokens e
     go (p ∷ ps) e = let t = token_lettered p.token e in (t.0, ap Some t.1)
 
 -- ---- the parsers
-
-pub name_placed : (i : Input) → Placed (OneToken k.Name) i (name i)
-unfolding name
-name_placed i = go (sees k.Name i) refl
-  where
-    go : (b : Bool) → sees k.Name i ≡ b → Placed (OneToken k.Name) i (if b then name_in (token_at i) i else refuse i)
-    go true e = rw (named_token i (seen_is k.Name i e)).1 (one_token k.Name i _ (taken k.Name Nothing i _ (seen_is k.Name i e) (done _ (next i))))
-    go false e = refused (OneToken k.Name) i (inl refl) only
-      where
-        only : (m : Input) → OneToken k.Name i m → i ≡ m
-        only m (inl same) = same
-        only m (inr t) = absurd (unseen_is k.Name i e t.kind)
-
--- a name and what comes next
-pub name_then : {A : Type 0} (rest : Beginning) (i : Input) (f : Name → Parser A) → ((n : Name) (a : Input) → IsName n i a → Placed rest a (f n a)) → Placed (After k.Name rest) i (and_then (name i) f)
-unfolding name between
-name_then {A} rest i f more = go (sees k.Name i) refl
-  where
-    go : (b : Bool) → sees k.Name i ≡ b → Placed (After k.Name rest) i (and_then (if b then name_in (token_at i) i else refuse i) f)
-    go true e =
-        let word = named_token i (seen_is k.Name i e) in
-        let n : Name = record { word = word.0; span = between i (next i) } in
-        rw word.1 (taken k.Name rest i (f n (next i)) (seen_is k.Name i e) (more n (next i) (record { token = word.1; free = seen_is k.Name i e; span = refl; next = refl })))
-    go false e = refused (After k.Name rest) i (inl refl) (untaken k.Name rest i (unseen_is k.Name i e))
-
-pub name_piece : Piece name IsName (OneToken k.Name) Anything
-name_piece = record { placed = name_placed; sound = name_sound; complete = name_complete; whole = λ i j n h. inr (record { kind = h.free; next = h.next }) }
-
-number_none : (i m : Input) → ((n : ℤ) → token_at i ≡ Some (token.Number n) → ⊥) → OneToken k.Number i m → i ≡ m
-number_none i m none (inl same) = same
-number_none i m none (inr t) = let n = number_token i t.kind in absurd (none n.0 n.1)
-
-pub number_placed : (i : Input) → Placed (OneToken k.Number) i (number i)
-unfolding number
-number_placed i = go (token_at i) refl
-  where
-    other : (t : Option Token) → token_at i ≡ t → ((n : ℤ) → t ≡ Some (token.Number n) → ⊥) → Placed {A = ℤ} (OneToken k.Number) i (refuse i)
-    other t e none = refused (OneToken k.Number) i (inl refl) (λ m. number_none i m (λ n is. none n (sym e ∙ is)))
-
-    go : (t : Option Token) → token_at i ≡ t → Placed (OneToken k.Number) i (number_in t i)
-    go (Some (token.Number n)) e = one_token k.Number i _ (taken k.Number Nothing i _ (token_kind i _ e) (done n (next i)))
-    go None e = other None e (λ n is. cc)
-    go (Some (token.Word w)) e = other (Some (token.Word w)) e (λ n is. cc)
-    go (Some (token.Char c)) e = other (Some (token.Char c)) e (λ n is. cc)
-    go (Some (token.Symbol s)) e = other (Some (token.Symbol s)) e (λ n is. cc)
-
-pub number_piece : Piece number IsNumber (OneToken k.Number) Anything
-number_piece = record { placed = number_placed; sound = number_sound; complete = number_complete; whole = λ i j x h. inr (record { kind = token_kind i _ h.token; next = h.next }) }
-
-char_none : (i m : Input) → ((c : ℕ) → token_at i ≡ Some (token.Char c) → ⊥) → OneToken k.Char i m → i ≡ m
-char_none i m none (inl same) = same
-char_none i m none (inr t) = let c = char_token i t.kind in absurd (none c.0 c.1)
-
-pub char_placed : (i : Input) → Placed (OneToken k.Char) i (char i)
-unfolding char
-char_placed i = go (token_at i) refl
-  where
-    other : (t : Option Token) → token_at i ≡ t → ((c : ℕ) → t ≡ Some (token.Char c) → ⊥) → Placed {A = ℕ} (OneToken k.Char) i (refuse i)
-    other t e none = refused (OneToken k.Char) i (inl refl) (λ m. char_none i m (λ c is. none c (sym e ∙ is)))
-
-    go : (t : Option Token) → token_at i ≡ t → Placed (OneToken k.Char) i (char_in t i)
-    go (Some (token.Char c)) e = one_token k.Char i _ (taken k.Char Nothing i _ (token_kind i _ e) (done c (next i)))
-    go None e = other None e (λ n is. cc)
-    go (Some (token.Word w)) e = other (Some (token.Word w)) e (λ n is. cc)
-    go (Some (token.Number n)) e = other (Some (token.Number n)) e (λ n is. cc)
-    go (Some (token.Symbol s)) e = other (Some (token.Symbol s)) e (λ n is. cc)
-
-pub char_piece : Piece char IsChar (OneToken k.Char) Anything
-char_piece = record { placed = char_placed; sound = char_sound; complete = char_complete; whole = λ i j x h. inr (record { kind = token_kind i _ h.token; next = h.next }) }

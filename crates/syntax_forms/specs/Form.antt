@@ -1,15 +1,16 @@
 -- A form of the grammar: what it spells, what begins it, with which terminals it begins and goes on. The forms
 -- are put together here as a production puts them together.
-use Rattle.std.specs.Prelude.{ℕ, ◌<◌, ℤ, Bool, true, false, ◌&&◌, ◌||◌, List, Option, ◌⊎◌}
+use Rattle.std.specs.Prelude.{◌≡◌, ℕ, ◌<◌, ℤ, Bool, true, false, ◌&&◌, ◌||◌, List, Option, ◌⊎◌}
 use Rattle.std.proofs.Common.{inl, inr}
 use Rattle.std.specs.Option.{is_some}
 use Rattle.estelle_tree.specs.declared.kind.Kind.{Kind}
 use Rattle.estelle_tree.specs.declared.kind.Kind.TheVariants as k
 use Rattle.estelle_tree.specs.declared.tree.name.Name.{Name}
-use Rattle.estelle_tree.specs.Input.{Input}
+use Rattle.estelle_tree.specs.declared.span.Span.{Span}
+use Rattle.estelle_tree.specs.Input.{Input, kind, between}
 use Rattle.estelle_tree.specs.Spelling.{Spelling, Takes, Flag, Mark, Ended, Several, Separated}
 use Rattle.estelle_tree.specs.Types.{IsName, IsNumber, IsChar}
-use Rattle.estelle_tree.specs.Beginning.{Beginning, Nothing, ◌or◌, Then, After, OneToken, Opens, MayBe, MayBeOne, Some as BeginsSeveral, Separating}
+use Rattle.estelle_tree.specs.Beginning.{Beginning, Nothing, ◌or◌, Then, After, AfterOne, OneToken, Opens, MayBe, MayBeOne, Some as BeginsSeveral, Separating}
 use Rattle.syntax_forms.specs.Kinds.{is, never}
 
 pub record Form (A : Type 0) : Type 1 where
@@ -45,6 +46,17 @@ number = token k.Number IsNumber
 -- CHAR
 abbrev pub char : Form ℕ
 char = token k.Char IsChar
+
+-- one of several terminals, where a choice tells which
+abbrev pub one_of : {O : Type 0} → (Kind → Option O) → (O → Kind) → Form O
+one_of of kinds = record {
+  spells = λ o. Takes (kinds o);
+  begins = AfterOne kinds Nothing;
+  onto = AfterOne kinds;
+  first = λ k. is_some (of k);
+  empty = false;
+  on = never;
+}
 
 -- the one and then the other
 infixr 6 ◌▸◌
@@ -107,21 +119,18 @@ separated k F = record {
   spells = Separated k F.spells;
   begins = Separating k F.begins F.spells Nothing;
   onto = Separating k F.begins F.spells;
-  first = F.first;
-  empty = false;
+  first = λ x. F.first x || (F.empty && is k x);
+  empty = F.empty && true;
   on = λ x. is k x || F.on x;
 }
 
--- `x {k x} [k]`
+-- the same, where it can go on with these terminals
+abbrev pub going : {A : Type 0} → (Kind → Bool) → Form A → Form A
+going on F = record { spells = F.spells; begins = F.begins; onto = F.onto; first = F.first; empty = F.empty; on = on }
+
+-- `x {k x} [k]`: behind k another x can come
 abbrev pub sections : {A : Type 0} → Kind → Form A → Form (List A × Bool)
-sections {A} k F = record {
-  spells = λ x i j. (m : Input) × Separated k F.spells x.0 i m × Flag k x.1 m j;
-  begins = Separating k F.begins F.spells (OneToken k);
-  onto = Then {A = List A × Bool} (Separating k F.begins F.spells (OneToken k)) (λ x i j. (m : Input) × Separated k F.spells x.0 i m × Flag k x.1 m j);
-  first = F.first;
-  empty = false;
-  on = λ x. is k x || (F.first x || F.on x);
-}
+sections k F = going (λ x. is k x || (F.first x || F.on x)) (separated k F ▸ flag k)
 
 -- `{x}+`
 abbrev pub several : {A : Type 0} → Form A → Form (List A)
@@ -153,9 +162,20 @@ part F = record { spells = F.spells; begins = F.begins; onto = Then F.begins F.s
 abbrev pub node : {P N : Type 0} → Spelling N → Form P → Form N
 node IsNode F = record { spells = IsNode; begins = F.begins; onto = Then F.begins IsNode; first = F.first; empty = F.empty; on = F.on }
 
+-- a node that is made of its parts and its span
+abbrev pub built : {P N : Type 0} → (P → Span → N) → Form P → Form N
+built {P} make F = node (λ n i j. (p : P) × F.spells p i j × (make p (between i j) ≡ n)) F
+
 -- a form of which these are known
+abbrev pub known : {A : Type 0} → Bool → Spelling A → Beginning → (Kind → Bool) → (Kind → Bool) → Form A
+known empty P B first on = record { spells = P; begins = B; onto = Then B P; first = first; empty = empty; on = on }
+
 abbrev pub hole : {A : Type 0} → Spelling A → Beginning → (Kind → Bool) → (Kind → Bool) → Form A
-hole P B first on = record { spells = P; begins = B; onto = Then B P; first = first; empty = false; on = on }
+hole = known false
+
+-- the form that the next terminal tells
+abbrev pub told : {A : Type 0} → (Kind → Form A) → (Kind → Bool) → Form A
+told F on = known false (λ x i j. (F (kind i)).spells x i j) (λ i j. (F (kind i)).begins i j) (λ k. (F k).first k) on
 
 -- the same, where what begins it is said in other words
 abbrev pub begun : {A : Type 0} → Beginning → Form A → Form A

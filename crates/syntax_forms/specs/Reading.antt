@@ -3,8 +3,8 @@ use Rattle.std.specs.Prelude.{ℕ, ◌==◌, Bool, true, false, if◌then◌else
 use Rattle.std.proofs.Common.{inl, inr}
 use Rattle.estelle_tree.specs.declared.span.Span.{Span}
 use Rattle.estelle_tree.specs.declared.kind.Kind.{Kind}
-use Rattle.estelle_tree.specs.Input.{kind, next}
-use Rattle.token_reader.specs.Reader.{Parser, ◌>>=◌, pure, refuse, since, expect}
+use Rattle.estelle_tree.specs.Input.{Input, kind, next, start, left}
+use Rattle.token_reader.specs.Reader.{Parser, ◌>>=◌, pure, refuse, since, since_over, expect}
 
 abbrev pub Reading : Type 0 → Type 1
 Reading A = (C : Type 0) → (A → Parser C) → Parser C
@@ -39,3 +39,7 @@ looked ahead begins s t C f i = chosen (begins (kind i) && not (ahead (kind (nex
 -- the span closes what was begun there
 abbrev pub closed : {P N : Type 0} → (P → Span → N) → ℕ → P → Parser N
 closed make from x = since from >>= λ span. pure (make x span)
+
+-- the same, where the span is empty if no token was taken
+abbrev pub enclosed : {P N : Type 0} → (P → Span → N) → Input → P → Parser N
+enclosed make i x = since_over (start i) (left i) >>= λ span. pure (make x span)

@@ -1,15 +1,15 @@
 -- With which kinds names, constants and types begin, and that each takes a token; and the same of the forms that
 -- parsers above make of others.
-use Rattle.std.proofs.Common.{◌≡◌, ◌<◌, ℕ, Bool, true, false, [], ◌∷◌, refl, ap, arith}
+use Rattle.std.proofs.Common.{◌≡◌, ◌<◌, ℕ, Bool, true, [], ◌∷◌, Some, None, refl, ap, arith}
 use Rattle.estelle_tree.specs.declared.kind.Kind.{Kind}
 use Rattle.estelle_tree.specs.declared.kind.Kind.TheVariants as k
 use Rattle.estelle_tree.specs.Input.{Input, kind, left}
-use Rattle.estelle_tree.specs.Spelling.{Spelling, Flag, Behind, Enclosed, Joined, Separated}
+use Rattle.estelle_tree.specs.Spelling.{Spelling, Optional, Behind, Enclosed, Joined, Separated}
 use Rattle.estelle_tree.specs.Types.{IsName, IsNames, IsConst, IsOrdinal, AreTyped, IsType}
 use Rattle.token_reader.proofs.Complete.{Shrinks, Advances, takes_shrinks, takes_advances, name_advances, chain_shrinks, behind_shrinks}
 use Rattle.syntax_forms.proofs.Lawful.{shrinks}
 use Rattle.syntax_forms.proofs.Rules.{begins_with}
-use Rattle.type_parser.specs.Types.{begins_name, begins_constant}
+use Rattle.type_parser.specs.Types.{begins_name}
 use Rattle.type_parser.proofs.TypeForms.{names_lawful, constant_lawful, ordinal_lawful}
 use Rattle.type_parser.proofs.DefinitionForms.{var_lawful}
 
@@ -31,12 +31,6 @@ names_advances = names_lawful.form.advances refl
 pub names_shrinks : Shrinks IsNames
 names_shrinks = shrinks names_lawful.form
 
-pub constant_begins : Begins begins_constant IsConst
-constant_begins = begins_with begins_constant constant_lawful.form refl refl
-
-pub constant_advances : Advances IsConst
-constant_advances = constant_lawful.form.advances refl
-
 pub constant_shrinks : Shrinks IsConst
 constant_shrinks = shrinks constant_lawful.form
 
@@ -57,20 +51,12 @@ shrinking P advances i j x h = let less = advances i j x h in omega arith
 pub name_shrinks : Shrinks IsName
 name_shrinks = shrinking IsName name_advances
 
-pub flag_shrinks : (kind' : Kind) → Shrinks (Flag kind')
-flag_shrinks kind' i j false h = rw h (omega arith)
-flag_shrinks kind' i j true h = takes_shrinks kind' i j h
-
 pub separated_advances : {A : Type 0} (kind' : Kind) (P : Spelling A) → Advances P → Advances (Separated kind' P)
 separated_advances kind' P advances i j [] h = absurd h
 separated_advances kind' P advances i j (x ∷ xs) h =
     let one = advances i h.0 x h.1 in
     let more = chain_shrinks (Behind kind' P) (behind_shrinks kind' P (shrinking P advances)) h.0 j xs h.2 in
     omega arith
-
-pub separated_begins : {A : Type 0} (kind' : Kind) (begins : Kind → Bool) (P : Spelling A) → Begins begins P → Begins begins (Separated kind' P)
-separated_begins kind' begins P starts i j [] h = absurd h
-separated_begins kind' begins P starts i j (x ∷ xs) h = starts i h.0 x h.1
 
 pub enclosed_shrinks : {A : Type 0} (opener closer : Kind) (P : Spelling A) → Shrinks P → Shrinks (Enclosed opener closer P)
 enclosed_shrinks opener closer P shrinks i j x h =
@@ -92,3 +78,7 @@ joined_advances kind' P Q advances shrinks i j x y h =
     let two = takes_shrinks kind' h.mid h.at h.mark in
     let three = shrinks h.at j y h.second in
     omega arith
+
+pub optional_shrinks : {A : Type 0} (P : Spelling A) → Shrinks P → Shrinks (Optional P)
+optional_shrinks P shrinks i j None h = rw h (omega arith)
+optional_shrinks P shrinks i j (Some x) h = shrinks i j x h

@@ -1,11 +1,8 @@
 -- What is spelled is read, where what stands after it cannot go on with it.
-use Rattle.std.proofs.Common.{◌≡◌, ℕ, Bool, Ok, refl, ap}
-use Rattle.estelle_tree.specs.declared.kind.Kind.{Kind}
+use Rattle.std.proofs.Common.{ℕ, refl}
 use Rattle.estelle_tree.specs.declared.kind.Kind.TheVariants as k
-use Rattle.estelle_tree.specs.Input.{Input, kind}
+use Rattle.estelle_tree.specs.Input.{kind}
 use Rattle.estelle_tree.specs.Types.{IsNames, IsConst, IsOrdinal, AreTyped, IsType}
-use Rattle.token_reader.specs.Reader.{sees, after, eat}
-use Rattle.token_reader.proofs.Sound.{ok_pair}
 use Rattle.token_reader.proofs.Complete.{Anything, Complete}
 use Rattle.syntax_forms.specs.Types as forms
 use Rattle.syntax_forms.specs.Definitions as definitions
@@ -29,6 +26,3 @@ type_expr_complete room i j t h end = (type_lawful room).complete i j t h (ends_
 
 pub typed_names_complete : (room : ℕ) → Complete (typed_names room) (AreTyped (IsType room)) EndsOrdinal
 typed_names_complete room i j x h end = (var_lawful room).complete i j x h (ends_but (definitions.var room).on k.Dots refl (kind j) end)
-
-pub eaten : (kind' : Kind) (i j : Input) (b : Bool) → eat kind' i ≡ Ok (b, j) → (sees kind' i ≡ b) × (after kind' i ≡ j)
-eaten kind' i j b h = let same = ok_pair (sees kind' i) b (after kind' i) j h in (ap (λ p. p.0) same, ap (λ p. p.1) same)

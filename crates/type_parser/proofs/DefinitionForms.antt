@@ -34,7 +34,7 @@ use Rattle.type_parser.proofs.TypeForms.{names_lawful, constant_lawful, typed_la
 -- `NAME "=" Const`
 pub const_def_lawful : IsLawful forms.const_def const_def
 unfolding const_def
-const_def_lawful = rules.made const_def told refl (rules.and rules.name (rules.and (rules.word k.Equal refl) (rules.part constant_lawful) refl) refl).rest (λ i. refl)
+const_def_lawful = rules.made const_def told (rules.and rules.name (rules.and (rules.word k.Equal refl) (rules.part constant_lawful) refl) refl).rest (λ i. refl)
   where
     told : IsNode IsConstDef (form.name ▸ form.word k.Equal ▸ types.constant).spells (λ p span. record { name = p.0; value = p.1.1 })
     told = record { opened = λ i m d h. ((d.name, (tt, d.value)), (h.mid, h.first, (h.at, h.mark, h.second)), refl); made = λ i m p h. record { mid = h.0; at = h.2.0; first = h.1; mark = h.2.1; second = h.2.2 } }
@@ -42,7 +42,7 @@ const_def_lawful = rules.made const_def told refl (rules.and rules.name (rules.a
 -- `NAME "=" Type`
 pub type_def_lawful : (room : ℕ) → IsLawful (forms.type_def room) (type_def room)
 unfolding type_def
-type_def_lawful room = rules.made (type_def room) told refl (rules.and rules.name (rules.and (rules.word k.Equal refl) (rules.part (type_lawful room)) refl) refl).rest (λ i. refl)
+type_def_lawful room = rules.made (type_def room) told (rules.and rules.name (rules.and (rules.word k.Equal refl) (rules.part (type_lawful room)) refl) refl).rest (λ i. refl)
   where
     told : IsNode (IsTypeDef room) (form.name ▸ form.word k.Equal ▸ types.below (IsType room) (BeginsType room)).spells (λ p span. record { name = p.0; type_expr = p.1.1 })
     told = record { opened = λ i m d h. ((d.name, (tt, d.type_expr)), (h.mid, h.first, (h.at, h.mark, h.second)), refl); made = λ i m p h. record { mid = h.0; at = h.2.0; first = h.1; mark = h.2.1; second = h.2.2 } }
@@ -65,7 +65,7 @@ formal_lawful = rules.spanned formal told refl (rules.and (rules.flag k.Var refl
 -- Formals = "(" Formal {";" Formal} ")"
 pub formals_lawful : IsLawful forms.formals formals
 unfolding formals
-formals_lawful = rules.spanned formals told refl (rules.and (rules.word k.OpenParenthesis refl) (rules.and (rules.separated k.Semicolon formal_lawful refl refl refl) (rules.word k.CloseParenthesis refl) refl) refl).rest (λ i. refl)
+formals_lawful = rules.spanned formals told refl (rules.and (rules.word k.OpenParenthesis refl) (rules.and (rules.separated k.Semicolon formal_lawful refl refl) (rules.word k.CloseParenthesis refl) refl) refl).rest (λ i. refl)
   where
     told : IsNode AreFormals (form.word k.OpenParenthesis ▸ form.separated k.Semicolon forms.formal ▸ form.word k.CloseParenthesis).spells (λ p span. record { formals = p.1.0; span = span })
     told = record {
@@ -83,7 +83,7 @@ named_kind _ e = absurd (cc)
 named_lines : {A : Type 0} {F : Form A} {p : Parser A} (word : Kind) → is word k.Nothing ≡ false → IsLawful F p → F.empty ≡ false → Follows F (form.word k.Semicolon) → Follows (form.line F) (form.line F) → Follows (form.word word) (form.line F)
     → ((x : Kind) → begins_name x ≡ (form.line F).first x) → ((i : Input) → Takes k.Name i (next i) → F.begins i (next i)) → IsRead (form.word word ▸ form.lines F) (one (expect word) then one (several begins_name (ended k.Semicolon p)))
 named_lines {F = F} word is_token law some follows again behind named taken =
-    rules.and (rules.word word is_token) (rules.several begins_name (rules.line law some follows) (rw some refl) again (sym (named k.Nothing)) named takes) behind
+    rules.and (rules.word word is_token) (rules.several begins_name (rules.line law follows) (rw some refl) again (sym (named k.Nothing)) named takes) behind
   where
     takes : (i : Input) → (form.line F).first (kind i) ≡ true → (form.line F).begins i (next i)
     takes i s = inl (taken i (record { kind = named_kind (kind i) (named (kind i) ∙ s); next = refl }))

@@ -13,7 +13,7 @@ use Rattle.syntax_forms.specs.Definitions as forms
 use Rattle.syntax_forms.proofs.KindLaws.{ends_always}
 use Rattle.syntax_forms.proofs.Rules.{begins_with}
 use Rattle.type_parser.specs.Types.{begins_name}
-use Rattle.type_parser.specs.Definitions.{begins_formals, begins_block_decl, part, formals, block_decl}
+use Rattle.type_parser.specs.Definitions.{begins_block_decl, part, formals, block_decl}
 pub use Rattle.type_parser.specs.Laws.{EndsPart, EndsOrdinal}
 use Rattle.type_parser.proofs.Begin.{Begins, shrinking}
 use Rattle.type_parser.proofs.DefinitionForms.{named_ends, formals_lawful, block_decl_lawful}
@@ -23,12 +23,6 @@ formals_sound = formals_lawful.sound
 
 pub formals_complete : Complete formals AreFormals Anything
 formals_complete i j fs h end = formals_lawful.complete i j fs h (ends_always forms.formals.on refl (kind j))
-
-pub formals_begins : Begins begins_formals AreFormals
-formals_begins = begins_with begins_formals formals_lawful.form refl refl
-
-pub formals_advances : Advances AreFormals
-formals_advances = formals_lawful.form.advances refl
 
 -- Where this many more levels of nesting may open.
 module _ (room : ℕ) where

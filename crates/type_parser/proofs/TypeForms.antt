@@ -35,9 +35,10 @@ use Rattle.syntax_forms.specs.Reading.{Reading, one, ◌then◌, choose, looked,
 use Rattle.syntax_forms.specs.Types as forms
 use Rattle.syntax_forms.specs.Onward.{Below, IsOnward}
 use Rattle.syntax_forms.proofs.KindLaws.{is_it, it_is, not_is, within, ends_always}
+use Rattle.syntax_forms.proofs.Signs.{sign_forth, sign_back}
 use Rattle.syntax_forms.proofs.Steps.{step, expects_one, exact_below}
 use Rattle.syntax_forms.proofs.Placing.{untaken, other_token, unmarked}
-use Rattle.syntax_forms.proofs.ListForms.{sections_last}
+use Rattle.syntax_forms.proofs.ListForms.{sections_read}
 use Rattle.syntax_forms.proofs.ChoiceForms.{level_refused, chosen_one}
 use Rattle.syntax_forms.proofs.MarkForms.{eaten_there, eaten_other, eat_then}
 use Rattle.syntax_forms.proofs.AheadForms.{IsAhead, unless_last}
@@ -56,7 +57,7 @@ names_is = record {
 
 pub names_lawful : IsLawful forms.names names
 unfolding names
-names_lawful = rules.spanned names names_is refl (rules.separated k.Comma (one_lawful rules.name.rest) refl refl refl).rest (λ i. refl)
+names_lawful = rules.spanned names names_is refl (rules.separated k.Comma (one_lawful rules.name.rest) refl refl).rest (λ i. refl)
 
 -- ---- Const = ["+" | "-"] (NUMBER | NAME) | CHAR
 
@@ -81,17 +82,6 @@ constant_is = record { opened = opened; made = made }
     made i m (inl (s, inl n)) h = (record { at = h.0; sign = h.1; item = h.2 }, refl)
     made i m (inl (s, inr n)) h = (record { at = h.0; sign = h.1; item = h.2 }, refl)
     made i m (inr c) h = (h, refl)
-
-sign_forth : (s : Sign) → sign_of (of_sign s) ≡ Some s
-sign_forth sign.Plus = refl
-sign_forth sign.Minus = refl
-
-sign_back : (kind' : Kind) (s : Sign) → sign_of kind' ≡ Some s → kind' ≡ of_sign s
-sign_back k.Plus sign.Plus e = refl
-sign_back k.Plus sign.Minus e = absurd (cc)
-sign_back k.Minus sign.Plus e = absurd (cc)
-sign_back k.Minus sign.Minus e = refl
-sign_back _ s e = absurd (cc)
 
 -- the do-definition reads the sign first
 abbrev signed : Reading (Option Sign × (ℤ ⊎ Name))
@@ -231,7 +221,7 @@ module _ (T : Spelling TypeExpr) (B : Beginning) (below : Parser TypeExpr) (law 
   -- `Names ":" Type`
   pub typed_lawful : IsLawful (forms.typed T B) (typed_over below)
   unfolding typed_over
-  typed_lawful = rules.made (typed_over below) typed_is refl (rules.and (rules.part names_lawful) (rules.and (rules.word k.Colon refl) (rules.part law) refl) refl).rest (λ i. refl)
+  typed_lawful = rules.made (typed_over below) typed_is (rules.and (rules.part names_lawful) (rules.and (rules.word k.Colon refl) (rules.part law) refl) refl).rest (λ i. refl)
 
   fields_is : IsNode (AreFields T) (form.sections k.Semicolon (forms.typed T B)).spells (λ p span. roll-Fields (record { sections = p.0; semicolon = p.1; span = span }))
   fields_is = record {
@@ -242,7 +232,7 @@ module _ (T : Spelling TypeExpr) (B : Beginning) (below : Parser TypeExpr) (law 
   -- Fields = Names ":" Type {";" Names ":" Type} [";"]
   pub fields_lawful : IsLawful (forms.fields T B) (fields_over below)
   unfolding fields_over
-  fields_lawful = rules.spanned (fields_over below) fields_is refl (sections_last k.Semicolon (forms.typed T B) (typed_over below) typed_lawful refl refl refl refl begins_name named takes) (λ i. refl)
+  fields_lawful = rules.spanned (fields_over below) fields_is refl (sections_read k.Semicolon (forms.typed T B) (typed_over below) typed_lawful refl refl refl refl begins_name named takes).rest (λ i. refl)
     where
       named : (x : Kind) → begins_name x ≡ (forms.typed T B).first x
       named k.Name = refl
@@ -298,7 +288,7 @@ module _ (T : Spelling TypeExpr) (B : Beginning) (below : Parser TypeExpr) (law 
 
     array_read : IsRead (forms.array room T B) (levelled room k.Array (one (expect k.OpenBracket) then one (separated k.Comma ordinal) then one (expect k.CloseBracket) then one (expect k.Of) then one below))
     array_read =
-        rules.level room k.Array refl (rules.and (rules.word k.OpenBracket refl) (rules.and (rules.separated k.Comma ordinal_lawful refl refl refl)
+        rules.level room k.Array refl (rules.and (rules.word k.OpenBracket refl) (rules.and (rules.separated k.Comma ordinal_lawful refl refl)
         (rules.and (rules.word k.CloseBracket refl) (rules.and (rules.word k.Of refl) (rules.part law) refl) refl) refl) refl)
 
     record_read : IsRead (forms.a_record room T B) (levelled room k.Record (one (fields_over below) then one (expect k.End)))
@@ -388,10 +378,10 @@ module _ (T : Spelling TypeExpr) (B : Beginning) (below : Parser TypeExpr) (law 
 
 pub type_below_lawful : (room : ℕ) → IsLawful (forms.below (TypeBelow room) (BeginsTypeBelow room)) (type_below room)
 unfolding type_below
-type_below_lawful zero = never_lawful (TypeBelow zero) forms.type_first forms.type_on (λ i j t h. h)
+type_below_lawful zero = never_lawful false (TypeBelow zero) forms.type_first forms.type_on (λ i j t h. h)
 type_below_lawful (suc room) =
     known_lawful (forms.type_layer room (TypeBelow room) (BeginsTypeBelow room)) (type_over room (type_below room)) (type_layer_lawful (TypeBelow room) (BeginsTypeBelow room) (type_below room) (type_below_lawful room) room)
-    forms.type_first forms.type_on refl refl refl
+    forms.type_first forms.type_on refl refl
 
 pub type_lawful : (room : ℕ) → IsLawful (forms.below (IsType room) (BeginsType room)) (type_expr room)
 type_lawful room = type_below_lawful (suc room)

@@ -1,11 +1,8 @@
 use Rattle.estelle_tree.specs.Spells.{room_at, max_nesting}
-use Rattle.estelle_tree.specs.Types.{IsType}
-use Rattle.type_parser.specs.Types.{type_expr}
 use Rattle.type_parser.specs.Laws.{EndsOrdinal}
 use Rattle.type_parser.proofs.TypeForms.{type_lawful}
 use Rattle.type_parser.proofs.Complete.{type_expr_complete}
 use Rattle.pascal_parser.proofs.Meeting.{spelled, behind, ended, exact, unspelled}
-use Rattle.estelle_tree.specs.BeginsTypes.{BeginsType}
 use Rattle.pascal_parser.proofs.calls.type_expr.Goals as goal
 
 pub read_at-requires-clause-onward : goal.read_at-requires-clause-onward
@@ -14,35 +11,20 @@ read_at-requires-clause-onward c i = ((type_lawful (room_at c.args.depth)).place
 
 pub returns-clause-spelled : goal.returns-clause-spelled
 unfolding max_nesting
-returns-clause-spelled c =
-    let room = room_at c.args.depth in
-    let law = type_lawful room in
-    spelled (type_expr room) (IsType room) law.sound (λ i. (law.placed i).on) law.reaches c.args.tokens.now c.args.at c.requires.inside c.read_at.result c.read_at.ensures
+returns-clause-spelled c = spelled (type_lawful (room_at c.args.depth)) c.args.tokens.now c.args.at c.requires.inside c.read_at.result c.read_at.ensures
 
 pub returns-clause-behind : goal.returns-clause-behind
 unfolding max_nesting
-returns-clause-behind c =
-    let room = room_at c.args.depth in
-    let law = type_lawful room in
-    behind (type_expr room) (IsType room) law.sound (λ i. (law.placed i).on) law.reaches c.args.tokens.now c.args.at c.requires.inside c.read_at.result c.read_at.ensures
+returns-clause-behind c = behind (type_lawful (room_at c.args.depth)) c.args.tokens.now c.args.at c.requires.inside c.read_at.result c.read_at.ensures
 
 pub returns-clause-exact : goal.returns-clause-exact
 unfolding max_nesting
-returns-clause-exact c =
-    let room = room_at c.args.depth in
-    let law = type_lawful room in
-    exact (type_expr room) (IsType room) (BeginsType room) law.sound law.reaches law.placed law.form.whole c.args.tokens.now c.args.at c.requires.inside c.read_at.result c.read_at.ensures
+returns-clause-exact c = exact (type_lawful (room_at c.args.depth)) c.args.tokens.now c.args.at c.requires.inside c.read_at.result c.read_at.ensures
 
 pub returns-clause-refused : goal.returns-clause-refused
 unfolding max_nesting
-returns-clause-refused c =
-    let room = room_at c.args.depth in
-    let law = type_lawful room in
-    unspelled (type_expr room) (IsType room) (BeginsType room) law.sound law.reaches law.placed law.form.whole c.args.tokens.now c.args.at c.requires.inside c.read_at.result c.read_at.ensures
+returns-clause-refused c = unspelled (type_lawful (room_at c.args.depth)) c.args.tokens.now c.args.at c.requires.inside c.read_at.result c.read_at.ensures
 
 pub returns-clause-ended : goal.returns-clause-ended
 unfolding max_nesting
-returns-clause-ended c =
-    let room = room_at c.args.depth in
-    let law = type_lawful room in
-    ended (type_expr room) (IsType room) law.sound (λ i. (law.placed i).on) law.reaches c.args.tokens.now c.args.at c.requires.inside EndsOrdinal (type_expr_complete room) c.read_at.result c.read_at.ensures
+returns-clause-ended c = ended (type_lawful (room_at c.args.depth)) c.args.tokens.now c.args.at c.requires.inside EndsOrdinal (type_expr_complete (room_at c.args.depth)) c.read_at.result c.read_at.ensures

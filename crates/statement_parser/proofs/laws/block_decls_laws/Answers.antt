@@ -3,11 +3,12 @@ use Rattle.estelle_tree.specs.Spelling.{Chain}
 use Rattle.estelle_tree.specs.Declarations.{IsBlockDecl}
 use Rattle.token_reader.proofs.Complete.{unique}
 use Rattle.statement_parser.specs.Routine.{block_decls, EndsBlockDecls}
-use Rattle.statement_parser.proofs.Routines.{block_decls_sound, block_decls_complete}
+use Rattle.statement_parser.proofs.RoutineForms.{block_decls_lawful}
+use Rattle.statement_parser.proofs.Complete.{block_decls_complete}
 use Rattle.statement_parser.proofs.laws.block_decls_laws.Goals as goal
 
 pub returns-clause-sound : goal.returns-clause-sound
-returns-clause-sound c = block_decls_sound
+returns-clause-sound c room = (block_decls_lawful room).sound
 
 pub returns-clause-complete : goal.returns-clause-complete
 returns-clause-complete c = block_decls_complete

@@ -2,11 +2,12 @@ use Rattle.std.proofs.Common.{ap}
 use Rattle.estelle_tree.specs.Declarations.{IsRoutine}
 use Rattle.token_reader.proofs.Complete.{Anything, unique}
 use Rattle.statement_parser.specs.Routine.{routine}
-use Rattle.statement_parser.proofs.Routines.{routine_sound, routine_complete}
+use Rattle.statement_parser.proofs.RoutineForms.{routine_lawful}
+use Rattle.statement_parser.proofs.Complete.{routine_complete}
 use Rattle.statement_parser.proofs.laws.routine_laws.Goals as goal
 
 pub returns-clause-sound : goal.returns-clause-sound
-returns-clause-sound c = routine_sound
+returns-clause-sound c room = (routine_lawful room).sound
 
 pub returns-clause-complete : goal.returns-clause-complete
 returns-clause-complete c room i j x h = routine_complete room i j x h tt

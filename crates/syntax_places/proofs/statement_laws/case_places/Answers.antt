@@ -1,8 +1,9 @@
-use Rattle.syntax_places.proofs.StatementPlaces.{case_piece_at}
+use Rattle.std.proofs.Common.{suc}
+use Rattle.statement_parser.proofs.StatementForms.{case_lawful_at}
 use Rattle.syntax_places.proofs.statement_laws.case_places.Goals as goal
 
 pub returns-clause-stops : goal.returns-clause-stops
-returns-clause-stops c room = (case_piece_at room).placed
+returns-clause-stops c room = (case_lawful_at (suc room)).placed
 
 pub returns-clause-begun : goal.returns-clause-begun
-returns-clause-begun c room = (case_piece_at room).whole
+returns-clause-begun c room = (case_lawful_at (suc room)).form.whole

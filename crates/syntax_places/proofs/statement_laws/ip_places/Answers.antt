@@ -1,8 +1,8 @@
-use Rattle.syntax_places.proofs.SimplePlaces.{ip_piece}
+use Rattle.statement_parser.proofs.PartForms.{ip_lawful}
 use Rattle.syntax_places.proofs.statement_laws.ip_places.Goals as goal
 
 pub returns-clause-stops : goal.returns-clause-stops
-returns-clause-stops c = ip_piece.placed
+returns-clause-stops c = ip_lawful.placed
 
 pub returns-clause-begun : goal.returns-clause-begun
-returns-clause-begun c = ip_piece.whole
+returns-clause-begun c = ip_lawful.form.whole

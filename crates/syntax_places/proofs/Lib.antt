@@ -1,6 +1,0 @@
-pub mod ExpressionPlaces
-pub mod TypePlaces
-pub mod SimplePlaces
-pub mod NestedPlaces
-pub mod StatementPlaces
-pub mod RoutinePlaces
