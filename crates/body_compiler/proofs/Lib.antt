@@ -1,0 +1,17 @@
+pub mod Frames
+pub mod Does
+pub mod Single
+pub mod Control
+pub mod CodeFolds
+pub mod Operands
+pub mod Arguments
+pub mod Blind
+pub mod PlanCode
+pub mod Acts
+pub mod Expressions
+pub mod Statements
+pub mod Locals
+pub mod Units
+pub mod Temporaries
+pub mod Calls
+pub mod Blocks

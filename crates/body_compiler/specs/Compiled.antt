@@ -1,0 +1,52 @@
+-- What it is for a code to be what a specification is compiled to, as far as units ask it of each other.
+use Rattle.std.specs.Prelude.{◌≡◌, ℕ, List, [], ◌∷◌, length, Some}
+use Rattle.pascal_values.specs.declared.value.Shape.{Shape}
+use Rattle.estelle_tree.specs.declared.tree.name.Name.{Name}
+use Rattle.body_code.specs.declared.unit.Entry.{Entry}
+use Rattle.body_code.specs.declared.unit.Entry.TheVariants as entry
+use Rattle.body_code.specs.declared.unit.CodeUnit.{CodeUnit}
+use Rattle.body_code.specs.Units.{unit_of}
+use Rattle.estelle_model.specs.declared.denoter.Denoter.{Denoter}
+use Rattle.estelle_model.specs.declared.meaning.Routine.{Routine}
+use Rattle.estelle_model.specs.declared.meaning.InteractionKind.{InteractionKind}
+use Rattle.estelle_model.specs.declared.meaning.Meaning.TheVariants.{Called, Ip, Interaction}
+use Rattle.estelle_model.specs.Meant.{Meanings}
+use Rattle.estelle_model.specs.Subject.{Subject, child_of}
+use Rattle.estelle_tree.specs.Paths.{Path}
+use Rattle.pascal_values.specs.declared.value.Value.{Value}
+use Rattle.estelle_model.specs.States.{Logged}
+use Rattle.body_machine.specs.Machine.{Machine, ToNone}
+use Rattle.body_machine.specs.Numbers.{Numbers}
+use Rattle.body_machine.specs.Steps.{frame_with, begun}
+use Rattle.body_compiler.specs.UnitCode.{Known, IsUnit}
+
+-- numbers stand for the interaction point and the interaction that two names mean
+pub record IsInteraction (n : Numbers) (meant : Meanings) (body : ℕ) (ip m : Name) (k i : ℕ) : Type 0 where
+  pub kind : InteractionKind
+  pub means : meant m ≡ Interaction kind
+  pub word : n.word body k ≡ Some ip.word
+  pub interaction : n.interaction body k i ≡ Some kind
+  pub same : kind.word ≡ m.word
+
+-- the code has a unit for a routine at a place
+pub record HasUnit (code : List CodeUnit) (known : Known) (body : ℕ) (place : Entry) (r : Routine) : Type 0 where
+  pub unit : CodeUnit
+  pub found : unit_of code body place ≡ Some unit
+  pub is : IsUnit known body r unit
+
+-- numbers stand for what is known, and each routine and initialization has its unit
+pub record IsCode (s : Subject) (n : Numbers) (code : List CodeUnit) (known : Known) : Type 0 where
+  pub number : (shape : Shape) (k : ℕ) → known.number shape ≡ Some k → n.shape k ≡ Some shape
+  pub export : (body m k i : ℕ) → known.export body m k ≡ Some i → n.export body m i ≡ k
+  pub interaction : (body : ℕ) (ip m : Name) (k i : ℕ) → known.meant ip ≡ Ip k → known.interaction body ip m ≡ Some i → IsInteraction n known.meant body ip m k i
+  pub parameters : (k : ℕ) (types : List Denoter) → known.parameters k ≡ Some types → types ≡ (child_of s k).parameters
+  pub routine : (x : Name) (r : Routine) (u : ℕ × ℕ) → known.meant x ≡ Called r → known.routine x ≡ Some u → HasUnit code known u.0 (entry.Routine u.1) r
+  pub initialization : (k : ℕ) (types : List Denoter) → known.parameters k ≡ Some types → HasUnit code known k entry.Initialize (child_of s k).block
+
+-- the machine as a unit begins for itself, with these values for the first of its locals
+abbrev pub started : (body : ℕ) → CodeUnit → Path → Logged → (budget : ℕ) → List Value → Machine
+started body unit path state budget values = record {
+  running = record { state = state; frames = frame_with unit.locals (length values) values ∷ []; left = budget };
+  active = begun body unit path 0 [] ToNone;
+  waiting = [];
+}

@@ -1,0 +1,170 @@
+-- What statements are compiled to.
+use Rattle.std.specs.Prelude.{ℕ, List, [], ◌∷◌, length, map, option_map, Option, Some, None}
+use Rattle.estelle_tree.specs.declared.tree.name.Name.{Name}
+use Rattle.estelle_tree.specs.declared.tree.expression.Expr.{Expr}
+use Rattle.estelle_tree.specs.declared.tree.expression.Args.{Args}
+use Rattle.estelle_tree.specs.declared.tree.expression.Variable.{Variable}
+use Rattle.estelle_tree.specs.declared.tree.statement.Stmts.{Stmts}
+use Rattle.estelle_tree.specs.declared.tree.statement.Stmt.TheOpen.{Stmt-F, Case-F, Stmts-F}
+use Rattle.estelle_tree.specs.declared.tree.statement.Stmt.TheFolds.{fold-Stmts}
+use Rattle.body_code.specs.declared.instr.Point as point
+use Rattle.body_code.specs.declared.instr.Point.TheVariants.{Own, OfChild}
+use Rattle.body_code.specs.declared.instr.Ends as ends
+use Rattle.body_code.specs.declared.instr.Ends.TheVariants.{Point, Child}
+use Rattle.body_code.specs.declared.instr.Instr.TheVariants as op
+use Rattle.estelle_model.specs.declared.denoter.Denoter.{Denoter}
+use Rattle.estelle_model.specs.Types.{shape_of}
+use Rattle.estelle_model.specs.declared.meaning.Routine.{Routine}
+use Rattle.estelle_model.specs.declared.meaning.Meaning.{Meaning}
+use Rattle.estelle_model.specs.declared.meaning.Meaning.TheVariants.{Called, Ip, Module, Body}
+use Rattle.estelle_model.specs.declared.meaning.Passing.TheVariants.{ByValue}
+use Rattle.estelle_model.specs.Definitions.{types_received}
+use Rattle.estelle_model.specs.Statements.{Statement, Init, Release, Connect, Disconnect, Attach, Detach, Output}
+use Rattle.estelle_model.specs.Meant.{result_number}
+use Rattle.body_compiler.specs.Pieces.{Piece, none, refused, one, ◌⨾◌, fork, loop, repeat}
+use Rattle.body_compiler.specs.ExpressionCode.{by_number, Scope, Access, Operand, Selecting, expr, args, variable, accessed, give_all, call}
+
+module _ (scope : Scope) where
+  -- stores by the number of the type's shape
+  abbrev pub store_into : Denoter → Piece
+  store_into t = by_number (scope.number (shape_of t)) (λ n. one (op.Store n))
+
+  -- the place, then the value
+  abbrev pub assign_to : Option Access → Operand → Piece
+  assign_to None e = refused
+  assign_to (Some a) e = a.place ⨾ e.value ⨾ store_into a.denoter
+
+  -- a function's result is the local behind its own variables
+  abbrev pub result_of : Routine → Option Denoter → Option Access
+  result_of r None = None
+  result_of r (Some t) = Some (record { denoter = t; place = by_number (scope.local (result_number r)) (λ i. one (op.Loc i)) })
+
+  abbrev pub assigned : Meaning → List Selecting → Option Access
+  assigned (Called r) ss = result_of r r.result
+  assigned m ss = accessed scope m ss
+
+  abbrev pub target : Variable → Option Access
+  target v = assigned (scope.meant (variable scope v).name) (variable scope v).selectors
+
+  abbrev pub value_of_expr : Expr → Piece
+  value_of_expr e = (expr scope e).value
+
+  abbrev pub or_nothing : Option Piece → Piece
+  or_nothing None = none
+  or_nothing (Some p) = p
+
+  abbrev pub choose : Expr → Piece → Option Piece → Piece
+  choose test then_part else_part = value_of_expr test ⨾ fork then_part (or_nothing else_part)
+
+  -- a procedure alone leaves nothing
+  abbrev pub where_no_result : Option Denoter → Piece → Piece
+  where_no_result None p = p
+  where_no_result (Some t) p = refused
+
+  abbrev pub invoke_of : Name → Meaning → List Operand → Piece
+  invoke_of x (Called r) es = where_no_result r.result (call scope (scope.routine x) r es)
+  invoke_of x _ es = refused
+
+  abbrev pub arguments : Option Args → List Operand
+  arguments None = []
+  arguments (Some es) = args scope es
+
+  -- ---- statements of Estelle (ISO/IEC 9074)
+
+  -- an interaction point of the instance, or of the child in a module variable
+  abbrev pub point_of : Meaning → Option Meaning → Option point.Point
+  point_of (Ip k) None = Some (Own k)
+  point_of (Module m) (Some (Ip k)) = Some (OfChild m k)
+  point_of x part = None
+
+  -- one of these, or a whole child
+  abbrev pub ends_of : Meaning → Option Meaning → Option ends.Ends
+  ends_of (Module m) None = Some (Child m)
+  ends_of x part = option_map Point (point_of x part)
+
+  abbrev pub meant_part : Option Name → Option Meaning
+  meant_part = option_map scope.meant
+
+  abbrev pub with_point : Option point.Point → (point.Point → Piece) → Piece
+  with_point None f = refused
+  with_point (Some x) f = f x
+
+  abbrev pub connect : Option point.Point → Option point.Point → Piece
+  connect x y = with_point x (λ a. with_point y (λ b. one (op.Connect a b)))
+
+  abbrev pub disconnect : Option ends.Ends → Piece
+  disconnect None = refused
+  disconnect (Some x) = one (op.Disconnect x)
+
+  abbrev pub attach : Meaning → Option point.Point → Piece
+  attach (Ip k) x = with_point x (λ a. one (op.Attach k a))
+  attach _ x = refused
+
+  abbrev pub detach : Meaning → Piece
+  detach (Ip k) = one (op.Detach k)
+  detach _ = refused
+
+  abbrev pub release : Meaning → Piece
+  release (Module m) = one (op.Release m)
+  release _ = refused
+
+  abbrev pub output : Meaning → Option ℕ → List Denoter → Piece
+  output (Ip k) (Some i) types = one (op.Output k i (length types))
+  output _ _ types = refused
+
+  abbrev pub init_with : ℕ → ℕ → Option (List Denoter) → List Operand → Piece
+  init_with m k None es = refused
+  init_with m k (Some types) es = give_all scope (map ByValue types) es ⨾ one (op.Init m k (length types))
+
+  abbrev pub init : Meaning → Meaning → List Operand → Piece
+  init (Module m) (Body k) es = init_with m k (scope.parameters k) es
+  init _ _ es = refused
+
+  -- the types of what a statement is given
+  abbrev pub given_types : Statement → List Denoter
+  given_types (Output ip m) = types_received (scope.meant m)
+  given_types _ = []
+
+  abbrev pub plan : Statement → Piece
+  plan (Connect x y) = connect (point_of (scope.meant x.name) (meant_part x.part)) (point_of (scope.meant y.name) (meant_part y.part))
+  plan (Disconnect x) = disconnect (ends_of (scope.meant x.name) (meant_part x.part))
+  plan (Attach own x part) = attach (scope.meant own) (point_of (scope.meant x) (Some (scope.meant part)))
+  plan (Detach own) = detach (scope.meant own)
+  plan (Output ip m) = output (scope.meant ip) (scope.interaction ip m) (types_received (scope.meant m))
+  plan (Release x) = release (scope.meant x)
+  plan (Init x b) = refused
+
+  -- the arguments come first
+  abbrev pub act : Statement → List Operand → Piece
+  act (Init x b) es = init (scope.meant x) (scope.meant b) es
+  act st es = give_all scope (map ByValue (given_types st)) es ⨾ plan st
+
+  abbrev pub stmt_layer : Stmt-F Piece Piece Piece → Piece
+  stmt_layer Stmt-F.Empty = none
+  stmt_layer (Stmt-F.Assign v e span) = assign_to (target v) (expr scope e)
+  stmt_layer (Stmt-F.Call x es span) = invoke_of x (scope.meant x) (arguments es)
+  stmt_layer (Stmt-F.Begin body span) = body
+  stmt_layer (Stmt-F.If test then_part else_part span) = choose test then_part else_part
+  stmt_layer (Stmt-F.While test body span) = loop (value_of_expr test) body
+  stmt_layer (Stmt-F.Repeat body test span) = repeat (body ⨾ value_of_expr test)
+  stmt_layer (Stmt-F.Init x b es span) = act (Init x b) (arguments es)
+  stmt_layer (Stmt-F.Release x span) = act (Release x) []
+  stmt_layer (Stmt-F.Connect a b span) = act (Connect a b) []
+  stmt_layer (Stmt-F.Disconnect a span) = act (Disconnect a) []
+  stmt_layer (Stmt-F.Attach p x q span) = act (Attach p x q) []
+  stmt_layer (Stmt-F.Detach p span) = act (Detach p) []
+  stmt_layer (Stmt-F.Output p m es span) = act (Output p m) (arguments es)
+  stmt_layer _ = refused
+
+  abbrev pub case_layer : Case-F Piece Piece Piece → Piece
+  case_layer c = refused
+
+  abbrev pub all : List Piece → Piece
+  all [] = none
+  all (p ∷ ps) = p ⨾ all ps
+
+  abbrev pub stmts_layer : Stmts-F Piece Piece Piece → Piece
+  stmts_layer x = all x.stmts
+
+  unfoldable pub stmts : Stmts → Piece
+  stmts = fold-Stmts Piece Piece Piece stmt_layer case_layer stmts_layer

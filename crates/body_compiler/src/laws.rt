@@ -1,0 +1,13 @@
+//! The laws: the contract of each is the law, and none does anything.
+
+ghost use Rattle.body_compiler.specs.Laws.{BlocksAreCompiled, ClausesAreCompiled};
+
+/// The unit of a block comes to what the block means, its fault and the units left included.
+pub fn blocks_are_compiled()
+    ensures { BlocksAreCompiled }
+{}
+
+/// The unit of an expression in a clause comes to its value or its fault.
+pub fn clauses_are_compiled()
+    ensures { ClausesAreCompiled }
+{}

@@ -1,0 +1,6 @@
+-- ---- the machine, and what its instructions do
+pub mod Machine
+pub mod Numbers
+pub mod Ends
+pub mod Rows
+pub mod Steps
