@@ -1,5 +1,7 @@
 -- What statements of Estelle are compiled to does what they mean (ISO/IEC 9074).
-use Rattle.std.proofs.Common.{◌≡◌, ◌∙◌, refl, sym, ap, ap₂, subst, ℕ, suc, ◌+◌, Bool, List, [], ◌∷◌, ◌++◌, length, map, append-nil, Ok, Err, Option, Some, None, arith}
+use Rattle.std.proofs.Common.{◌≡◌, ◌∙◌, refl, sym, ap, ℕ, suc, Bool, List, [], ◌∷◌, ◌++◌, length, map, append_assoc, append-nil, Ok, Err, Option, Some, None}
+use Rattle.std.proofs.lemmas.List.{length-map}
+use Rattle.std.specs.Prelude.{option_map}
 use Rattle.pascal_values.specs.declared.value.Value.{Value}
 use Rattle.estelle_tree.specs.declared.tree.name.Name.{Name}
 use Rattle.estelle_tree.specs.declared.tree.statement.Ip as tree
@@ -11,8 +13,8 @@ use Rattle.estelle_model.specs.declared.denoter.Denoter.{Denoter}
 use Rattle.estelle_model.specs.States.{Logged, on_log}
 use Rattle.estelle_model.specs.Steps.{Running, StepResult, Do, and_then, pure}
 use Rattle.estelle_model.specs.Plans.{Plan, carry}
-use Rattle.estelle_model.specs.declared.meaning.Passing.{Passing}
-use Rattle.estelle_model.specs.declared.meaning.Passing.TheVariants.{ByValue, ByPlace}
+use Rattle.estelle_model.specs.Places.{child_step}
+use Rattle.estelle_model.specs.declared.meaning.Passing.TheVariants.{ByValue}
 use Rattle.estelle_model.specs.declared.meaning.Meaning.{Meaning}
 use Rattle.estelle_model.specs.declared.meaning.Meaning.TheVariants.{Ip, Module}
 use Rattle.estelle_model.specs.Definitions.{types_received}
@@ -23,10 +25,12 @@ use Rattle.estelle_model.specs.Actions.{detach_point, release, at, plan_of}
 use Rattle.estelle_model.specs.Acts as meaning
 use Rattle.estelle_model.proofs.Alike.{EachAlike}
 use Rattle.estelle_model.proofs.LoopLaws.{AtMost}
-use Rattle.body_machine.specs.Machine.{Item, Datum, Spot, Goes}
-use Rattle.body_machine.specs.Ends.{connect_ends, disconnect_ends, attach_to, release_in, output_with}
-use Rattle.body_machine.specs.Rows.{row, plain}
-use Rattle.body_machine.specs.Steps.{by_row, goes_on, values_from, with_values}
+use Rattle.body_machine.specs.declared.item.Item.{Item}
+use Rattle.body_machine.specs.Machine.{Goes}
+use Rattle.body_machine.specs.Ends.{connect_ends, disconnect_ends, attach_end, output_with}
+use Rattle.body_machine.specs.Numbers.{word_of, interaction_of}
+use Rattle.body_machine.specs.Rows.{row, nothing}
+use Rattle.body_machine.specs.Steps.{by_row, goes_on, taken_from, values_with, values_from, with_values}
 use Rattle.body_compiler.specs.Pieces.{one}
 use Rattle.body_compiler.specs.ExpressionCode as code
 use Rattle.body_compiler.specs.ExpressionCode.{Scope}
@@ -35,7 +39,8 @@ use Rattle.body_compiler.proofs.Frames.{joined, outline}
 use Rattle.body_compiler.proofs.Does.{Site, machine, full, Does, Does1, instr_does}
 use Rattle.body_compiler.proofs.Single.{no_item, result}
 use Rattle.body_compiler.proofs.Operands.{OperandDoes, IsScope, refused_does}
-use Rattle.body_compiler.proofs.Arguments.{Given, values_of, stack_of, arguments_do}
+use Rattle.body_compiler.proofs.Arguments.{Given, values_of, items_of, stack_of, arguments_do}
+use Rattle.body_compiler.proofs.Locals.{stack_taken}
 use Rattle.body_compiler.proofs.Blind.{framed, reframed, KeepsFrames, frames_kept, carry_blind}
 use Rattle.body_compiler.proofs.PlanCode.{attach_plan, detach_plan, connect_is, disconnect_is, attach_is, output_is}
 
@@ -45,22 +50,19 @@ ActsDo c scope act = (st : Statement) (es : List (model.Operand Logged)) (fs : L
 
 -- ---- values on the stack
 
-pub stack_below : (ps : List Passing) (a : Given ps) (more below : List Item) → stack_of ps a more ++ below ≡ stack_of ps a (more ++ below)
-stack_below [] a more below = refl
-stack_below (ByValue t ∷ ps) a more below = stack_below ps a.1 (Datum a.0 ∷ more) below
-stack_below (ByPlace ∷ ps) a more below = stack_below ps a.1 (Spot a.0 ∷ more) below
+-- behind those that were read before
+values_read : (ts : List Denoter) (a : Given (map ByValue ts)) (vs : List Value) → values_with vs (items_of (map ByValue ts) a) ≡ Some (vs ++ values_of (map ByValue ts) a)
+values_read [] a vs = ap Some (sym (append-nil vs))
+values_read (t ∷ ts) a vs = values_read ts a.1 (vs ++ a.0 ∷ []) ∙ ap Some (append_assoc vs (a.0 ∷ []) (values_of (map ByValue ts) a.1))
 
-taken_from : (ts : List Denoter) (a : Given (map ByValue ts)) (j : ℕ) (more : List Item) (vs : List Value) → values_from (length ts + j) (stack_of (map ByValue ts) a more) vs ≡ values_from j more (values_of (map ByValue ts) a ++ vs)
-taken_from [] a j more vs = ap (λ k. values_from k more vs) (omega arith)
-taken_from (t ∷ ts) a j more vs = ap (λ k. values_from k (stack_of (map ByValue ts) a.1 (Datum a.0 ∷ more)) vs) (omega arith) ∙ taken_from ts a.1 (suc j) (Datum a.0 ∷ more) vs
-
-pub values_taken : (ts : List Denoter) (a : Given (map ByValue ts)) (below : List Item) → values_from (length ts) (stack_of (map ByValue ts) a [] ++ below) [] ≡ Some (values_of (map ByValue ts) a, below)
-values_taken ts a below = ap₂ (λ k items. values_from k items []) (let e : length ts ≡ length ts + 0 = omega arith in e) (stack_below (map ByValue ts) a [] below) ∙ taken_from ts a 0 below [] ∙ ap (λ vs. Some (vs, below)) (append-nil (values_of (map ByValue ts) a))
+pub values_taken : (ts : List Denoter) (a : Given (map ByValue ts)) (below : List Item) → values_from (taken_from (length ts) (stack_of (map ByValue ts) a [] ++ below)) ≡ Some (values_of (map ByValue ts) a, below)
+values_taken ts a below = ap (λ k. values_from (taken_from k (stack_of (map ByValue ts) a [] ++ below))) (sym (length-map ts ByValue)) ∙ ap values_from (stack_taken (map ByValue ts) a below)
+    ∙ ap (option_map (λ vs. (vs, below))) (values_read ts a [])
 
 module _ (c : Site) (scope : Scope) (within : IsScope c scope) where
   -- an instruction that carries a plan
   effect_does : (i : Instr) (taken : List Item) (p : Plan (Unit {0}))
-      → ((at : ℕ) (turned : Bool) (q : Running Logged) (below : List Item) → by_row c.subject c.numbers c.code (row c.subject c.numbers (machine c at (taken ++ below) turned q).active i) (taken ++ below) (machine c at (taken ++ below) turned q) ≡ goes_on (plain p q) below (machine c at (taken ++ below) turned q))
+      → ((at : ℕ) (turned : Bool) (q : Running Logged) (below : List Item) → by_row c.subject c.numbers c.code (row c.subject c.numbers (machine c at (taken ++ below) turned q).active i) (taken ++ below) (machine c at (taken ++ below) turned q) ≡ goes_on (nothing (carry Logged on_log p) q) below (machine c at (taken ++ below) turned q))
       → Does c (one i) taken (carry Logged on_log p) no_item
   effect_does i taken p h = instr_does c i taken (carry Logged on_log p) no_item
       (λ at turned old r below same. by at turned old r below same (carry Logged on_log p r) (frames_kept (carry Logged on_log p) (carry_blind p) r) ((carry_blind p).fewer r)
@@ -72,10 +74,10 @@ module _ (c : Site) (scope : Scope) (within : IsScope c scope) where
       by at turned old r below same (Ok x) kept fewer h = (h ∙ ap (λ frames. Goes (machine c (suc at) below turned (framed (joined frames (c.callers ++ old ∷ [])) x.1))) (sym kept), ap outline kept ∙ same, fewer, tt)
       by at turned old r below same (Err e) kept fewer h = h
 
-  -- and where the plan is another one's
-  plan_does : (i : Instr) (p q : Plan (Unit {0})) → ((at : ℕ) (turned : Bool) (r : Running Logged) (below : List Item) → by_row c.subject c.numbers c.code (row c.subject c.numbers (machine c at below turned r).active i) below (machine c at below turned r) ≡ goes_on (plain p r) below (machine c at below turned r))
-      → p ≡ q → Does c (one i) [] (carry Logged on_log q) no_item
-  plan_does i p q h is = subst (λ (x : Plan (Unit {0})). Does c (one i) [] (carry Logged on_log x) no_item) is (effect_does i [] p h)
+  -- and one that does what a plan does
+  plan_does : (i : Instr) (x : Do Logged) (q : Plan (Unit {0})) → ((at : ℕ) (turned : Bool) (r : Running Logged) (below : List Item) → by_row c.subject c.numbers c.code (row c.subject c.numbers (machine c at below turned r).active i) below (machine c at below turned r) ≡ goes_on (nothing x r) below (machine c at below turned r))
+      → ((r : Running Logged) → x r ≡ carry Logged on_log q r) → Does c (one i) [] (carry Logged on_log q) no_item
+  plan_does i x q h is = effect_does i [] q (λ at turned r below. h at turned r below ∙ ap (λ o. goes_on (and_then o (λ done. pure [])) below (machine c at below turned r)) (is r))
 
   abbrev PlanDoes : Statement → List Value → Type 0
   PlanDoes st values = Does c (compiled.plan scope st) [] (carry Logged on_log (plan_of c.subject scope.meant c.here.path st values)) no_item
@@ -88,7 +90,7 @@ module _ (c : Site) (scope : Scope) (within : IsScope c scope) where
           → Does c (compiled.connect scope a b) [] (carry Logged on_log (plan_of c.subject scope.meant c.here.path (Connect x y) [])) no_item
       by None e b f = refused_does c [] _ no_item
       by (Some a) e None f = refused_does c [] _ no_item
-      by (Some a) e (Some b) f = plan_does (op.Connect a b) (connect_ends c.subject c.here.path a b) _ (λ at turned r below. refl) (connect_is scope c.subject c.here.path x y a b [] e f)
+      by (Some a) e (Some b) f = plan_does (op.Connect a b) (connect_ends c.subject c.here.path a b) (plan_of c.subject scope.meant c.here.path (Connect x y) []) (λ at turned r below. refl) (connect_is scope c.subject c.here.path x y a b [] e f)
 
   disconnect_does : (x : tree.Ip) → PlanDoes (Disconnect x) []
   unfolding row
@@ -96,7 +98,7 @@ module _ (c : Site) (scope : Scope) (within : IsScope c scope) where
     where
       by : (a : Option ends.Ends) → compiled.ends_of scope (scope.meant x.name) (compiled.meant_part scope x.part) ≡ a → Does c (compiled.disconnect scope a) [] (carry Logged on_log (plan_of c.subject scope.meant c.here.path (Disconnect x) [])) no_item
       by None e = refused_does c [] _ no_item
-      by (Some a) e = plan_does (op.Disconnect a) (disconnect_ends c.subject c.here.path a) _ (λ at turned r below. refl) (disconnect_is scope c.subject c.here.path (scope.meant x.name) (compiled.meant_part scope x.part) a e)
+      by (Some a) e = plan_does (op.Disconnect a) (disconnect_ends c.subject c.here.path a) (plan_of c.subject scope.meant c.here.path (Disconnect x) []) (λ at turned r below. refl) (disconnect_is scope c.subject c.here.path (scope.meant x.name) (compiled.meant_part scope x.part) a e)
 
   attach_does : (own x part : Name) → PlanDoes (Attach own x part) []
   unfolding row
@@ -105,7 +107,7 @@ module _ (c : Site) (scope : Scope) (within : IsScope c scope) where
       by : (m : Meaning) (a : Option point.Point) → compiled.point_of scope (scope.meant x) (Some (scope.meant part)) ≡ a
           → Does c (compiled.attach scope m a) [] (carry Logged on_log (attach_plan c.subject c.here.path m (scope.meant x) (Some (scope.meant part)))) no_item
       by (Ip k) None e = refused_does c [] (carry Logged on_log (attach_plan c.subject c.here.path (Ip k) (scope.meant x) (Some (scope.meant part)))) no_item
-      by (Ip k) (Some a) e = plan_does (op.Attach k a) (attach_to c.subject c.here.path k a) (attach_plan c.subject c.here.path (Ip k) (scope.meant x) (Some (scope.meant part))) (λ at turned r below. refl) (attach_is scope c.subject c.here.path k (scope.meant x) (Some (scope.meant part)) a e)
+      by (Ip k) (Some a) e = plan_does (op.Attach k a) (attach_end c.subject c.here.path k a) (attach_plan c.subject c.here.path (Ip k) (scope.meant x) (Some (scope.meant part))) (λ at turned r below. refl) (attach_is scope c.subject c.here.path k (scope.meant x) (Some (scope.meant part)) a e)
       by m a e = refused_does c [] (carry Logged on_log (attach_plan c.subject c.here.path m (scope.meant x) (Some (scope.meant part)))) no_item
 
   detach_does : (own : Name) → PlanDoes (Detach own) []
@@ -117,11 +119,11 @@ module _ (c : Site) (scope : Scope) (within : IsScope c scope) where
       by m = refused_does c [] (carry Logged on_log (detach_plan c.subject c.here.path m)) no_item
 
   release_does : (x : Name) → PlanDoes (Release x) []
-  unfolding row
+  unfolding row child_step
   release_does x = by (scope.meant x)
     where
       by : (m : Meaning) → Does c (compiled.release scope m) [] (carry Logged on_log (release c.subject c.here.path m)) no_item
-      by (Module m) = effect_does (op.Release m) [] (release_in c.subject c.here.path m) (λ at turned r below. refl)
+      by (Module m) = effect_does (op.Release m) [] (release c.subject c.here.path (Module m)) (λ at turned r below. refl)
       by m = refused_does c [] (carry Logged on_log (release c.subject c.here.path m)) no_item
 
   output_does : (ip m : Name) (a : Given (map ByValue (types_received (scope.meant m)))) → Does c (compiled.plan scope (Output ip m)) (stack_of (map ByValue (types_received (scope.meant m))) a []) (carry Logged on_log (plan_of c.subject scope.meant c.here.path (Output ip m) (values_of (map ByValue (types_received (scope.meant m))) a))) no_item
@@ -141,9 +143,9 @@ module _ (c : Site) (scope : Scope) (within : IsScope c scope) where
       done = carry Logged on_log (plan_of c.subject scope.meant c.here.path (Output ip m) values)
 
       by : (x : Meaning) → scope.meant ip ≡ x → (o : Option ℕ) → scope.interaction ip m ≡ o → Does c (compiled.output scope x o types) stack done no_item
-      by (Ip k) e (Some i) f = subst (λ (x : Plan (Unit {0})). Does c (one (op.Output k i (length types))) stack (carry Logged on_log x) no_item) (output_is scope c.subject c.here.path c.numbers c.body ip m k i values e (within.interaction ip m k i e f))
-          (effect_does (op.Output k i (length types)) stack (output_with c.subject c.here.path k (c.numbers.word c.body k) (c.numbers.interaction c.body k i) values)
-          (λ at turned r below. ap (λ o. with_values o (λ vs. plain (output_with c.subject c.here.path k (c.numbers.word c.body k) (c.numbers.interaction c.body k i) vs)) (machine c at (stack ++ below) turned r)) (values_taken types a below)))
+      by (Ip k) e (Some i) f = effect_does (op.Output k i (length types)) stack (plan_of c.subject scope.meant c.here.path (Output ip m) values)
+          (λ at turned r below. ap (λ o. with_values o (λ vs. nothing (output_with c.subject c.here.path k (word_of c.numbers c.body k) (interaction_of c.numbers c.body k i) vs)) (machine c at (stack ++ below) turned r)) (values_taken types a below)
+          ∙ ap (λ o. goes_on (and_then o (λ done. pure [])) below (machine c at (stack ++ below) turned r)) (output_is scope c.subject c.here.path c.numbers c.body ip m k i values e (within.interaction ip m k i e f) r))
       by (Ip k) e None f = refused_does c stack done no_item
       by _ e o f = refused_does c stack done no_item
 

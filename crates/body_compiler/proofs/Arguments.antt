@@ -20,7 +20,9 @@ use Rattle.estelle_model.specs.Places.{set_value}
 use Rattle.estelle_model.specs.Expressions as model
 use Rattle.estelle_model.specs.Expressions.{Call, place_of_operand, give_all, no_arguments, called}
 use Rattle.estelle_model.proofs.Alike.{EachAlike, MaybeAlike}
-use Rattle.body_machine.specs.Machine.{Item, Datum, Spot}
+use Rattle.body_machine.specs.declared.item.Item.{Item}
+use Rattle.body_machine.specs.declared.item.Item.TheVariants.{Datum, Spot}
+use Rattle.body_machine.specs.Numbers.{shape_numbered}
 use Rattle.body_machine.specs.Rows.{row, leaves, fit_as}
 use Rattle.body_machine.specs.Steps.{goes_on}
 use Rattle.body_compiler.specs.Pieces.{Piece, one, ◌⨾◌}
@@ -144,7 +146,7 @@ last_regrouped {A} {B} {D} {E} (Ok x) f g h = by (f x.0 x.1)
     by (Err e) = refl
 
 module _ (c : Site) (scope : Scope) (within : IsScope c scope) where
-  fit_does : (k : ℕ) (t : Denoter) → c.numbers.shape k ≡ Some (shape_of t) → (v : Value) → Does c (one (op.Fit k)) (datum v) (checked (fit_of (shape_of t) v) >>= λ ok. pure v) datum
+  fit_does : (k : ℕ) (t : Denoter) → shape_numbered c.numbers k ≡ Some (shape_of t) → (v : Value) → Does c (one (op.Fit k)) (datum v) (checked (fit_of (shape_of t) v) >>= λ ok. pure v) datum
   unfolding row
   fit_does k t is v = instr_does c (op.Fit k) (datum v) (checked (fit_of (shape_of t) v) >>= λ ok. pure v) datum
       (λ at turned old r below same. by at turned old r below same (fit_of (shape_of t) v) (ap (λ o. goes_on ((checked (fit_as o v) >> leaves (Datum v)) (full c old r)) below (machine c at (Datum v ∷ below) turned (full c old r))) is))

@@ -20,8 +20,12 @@ use Rattle.estelle_model.specs.Expressions.{Call}
 use Rattle.estelle_model.specs.Statements.{stmts}
 use Rattle.estelle_model.specs.Calls.{call_by, leave, frame_of, max_depth}
 use Rattle.estelle_model.specs.Blocks.{fresh, enter_values, leave_values, from_block, block_step, clause_value}
-use Rattle.body_machine.specs.Machine.{Item, Datum, ToNone, Machine, Goes, Ends}
-use Rattle.body_machine.specs.Numbers.{Numbers, slot, reference_number}
+use Rattle.body_machine.specs.declared.item.Item.{Item}
+use Rattle.body_machine.specs.declared.item.Item.TheVariants.{Datum}
+use Rattle.body_machine.specs.declared.activation.Return.TheVariants.{ToNone}
+use Rattle.body_machine.specs.Machine.{Machine, Goes, Ends}
+use Rattle.body_machine.specs.declared.numbers.Numbers.{Numbers}
+use Rattle.body_machine.specs.Numbers.{slot, reference_number}
 use Rattle.body_machine.specs.Steps.{frame_with, Comes}
 use Rattle.body_compiler.specs.Pieces.{Piece}
 use Rattle.body_compiler.specs.ExpressionCode as code

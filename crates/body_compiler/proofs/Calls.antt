@@ -1,7 +1,7 @@
 -- Calls and initializations: by induction over how many more may be nested, the statements of every unit do what they mean.
-use Rattle.std.proofs.Common.{◌≡◌, ◌∙◌, refl, sym, ap, ap₂, subst, ℕ, zero, suc, ◌+◌, ◌≤◌, ◌<◌, Bool, cond, List, [], ◌∷◌, ◌++◌, length, map, take, drop, reverse, length-append, Ok, Err, Option, Some, None, arith}
-use Rattle.std.proofs.lemmas.Bool.{le-leb}
-use Rattle.std.specs.Prelude.{slice_get, option_map, option_and_then, unwrap_or}
+use Rattle.std.proofs.Common.{◌≡◌, ◌∙◌, refl, sym, ap, subst, ℕ, zero, suc, ◌+◌, ◌≤◌, ◌<◌, Bool, true, false, cond, List, [], ◌∷◌, ◌++◌, length, map, length-append, Ok, Err, Option, Some, None, arith}
+use Rattle.std.specs.Prelude.{◌&&◌, slice_get, option_map, option_and_then, unwrap_or}
+use Rattle.std.specs.FinMap as finite
 use Rattle.pascal_values.specs.declared.fault.Fault.TheVariants.{Unset}
 use Rattle.pascal_values.specs.declared.value.Value.{Value}
 use Rattle.estelle_tree.specs.declared.tree.name.Name.{Name}
@@ -14,7 +14,7 @@ use Rattle.body_code.specs.Units.{unit_of}
 use Rattle.estelle_model.specs.declared.denoter.Denoter.{Denoter}
 use Rattle.estelle_model.specs.Core.{Instance}
 use Rattle.estelle_model.specs.States.{Logged, on_log}
-use Rattle.estelle_model.specs.Steps.{Running, StepResult, Step, Do, and_then, ◌>>=◌, ◌>>◌, pure, fail}
+use Rattle.estelle_model.specs.Steps.{Running, StepResult, Step, Do, and_then, ◌>>=◌, ◌>>◌, pure, fail, checked_at}
 use Rattle.estelle_model.specs.Plans.{carry}
 use Rattle.estelle_model.specs.declared.meaning.Passing.{Passing}
 use Rattle.estelle_model.specs.declared.meaning.Passing.TheVariants.{ByValue, ByPlace}
@@ -30,14 +30,20 @@ use Rattle.estelle_model.specs.Expressions as model
 use Rattle.estelle_model.specs.Expressions.{no_arguments, give_all}
 use Rattle.estelle_model.specs.Statements.{Acts, Init, stmts}
 use Rattle.estelle_model.specs.Calls.{Enters, call_by, max_depth, nested}
-use Rattle.estelle_model.specs.Actions.{may_begin, begins_child, holds_child}
+use Rattle.estelle_model.specs.Belonging.{are_values_of}
+use Rattle.estelle_model.specs.Actions.{or_no_module, may_hold, may_begin, begins_child, holds_child}
 use Rattle.estelle_model.specs.Acts as meaning
 use Rattle.estelle_model.proofs.Alike.{EachAlike}
 use Rattle.estelle_model.proofs.LoopLaws.{AtMost}
-use Rattle.body_machine.specs.Machine.{Item, Datum, Spot, Return, ToCaller, ToParent, Activation, Machine, Next, Goes, Faults}
+use Rattle.body_walker_actions.specs.Children.{beginning}
+use Rattle.body_machine.specs.declared.item.Item.{Item}
+use Rattle.body_machine.specs.declared.item.Item.TheVariants.{Datum, Spot}
+use Rattle.body_machine.specs.declared.activation.Return.{Return}
+use Rattle.body_machine.specs.declared.activation.Return.TheVariants.{ToCaller, ToParent}
+use Rattle.body_machine.specs.Machine.{Activation, Machine, Next, Goes, Faults}
 use Rattle.body_machine.specs.Numbers.{slot, reference_number}
 use Rattle.body_machine.specs.Rows.{row}
-use Rattle.body_machine.specs.Steps.{given_to, deeper_than, frame_with, push_frame, begun, enter, call_unit, call_given, init_unit, init_with, held, stuck, Comes}
+use Rattle.body_machine.specs.Steps.{given_to, nothing_given, deeper_than, frame_with, push_frame, begun, enter, call_unit, call_with, call_given, init_tested, init_unit, init_with, held, Comes}
 use Rattle.body_compiler.specs.Pieces.{one}
 use Rattle.body_compiler.specs.ExpressionCode as code
 use Rattle.body_compiler.specs.StatementCode as compiled
@@ -47,11 +53,11 @@ use Rattle.body_compiler.proofs.Frames.{joined, outline, IsNamed, named_longer, 
 use Rattle.body_compiler.proofs.Does.{Site, machine, full, AreNamed, Leads, Does, comes_then, step_at}
 use Rattle.body_compiler.proofs.Single.{no_item}
 use Rattle.body_compiler.proofs.Operands.{OperandDoes, IsScope, refused_does}
-use Rattle.body_compiler.proofs.Arguments.{Given, values_of, places_of, stack_of, actual, back, result_item, CallsDo, arguments_do}
+use Rattle.body_compiler.proofs.Arguments.{Given, values_of, places_of, items_of, stack_of, actual, back, result_item, CallsDo, arguments_do}
 use Rattle.body_compiler.proofs.Blind.{framed, reframed, IsBlind, KeepsFrames, frames_kept, pure_blind, carry_blind}
 use Rattle.body_compiler.proofs.Acts.{values_taken, acts_do}
 use Rattle.body_compiler.proofs.Statements.{stmts_does}
-use Rattle.body_compiler.proofs.Locals.{slot_is, reference_is, given_is_actual, items_reversed, stack_long, take_first, drop_first}
+use Rattle.body_compiler.proofs.Locals.{slot_is, reference_is, given_is_actual, stack_taken}
 use Rattle.body_compiler.proofs.Units.{IsPlaced, waits, inner_placed, callee, Ended, BodyDoes, enters_do}
 
 -- ---- what is known in a unit that is entered
@@ -178,18 +184,8 @@ module _ (known : Known) (n : ℕ) (deeper : Deeper known n) (c : Site) (placed 
       entered : Next
       entered = enter ((deeper_than c.here.frame >> pure (tt {0}) >> push_frame framed_with) (full c old s)) callee_begun below start
 
-      long : length ps ≡ length (stack_of ps a [])
-      long = let l : length (stack_of ps a []) ≡ length ps + 0 = stack_long ps a [] in omega (arith, l)
-
-      enough : length ps ≤ length items
-      enough = let l : length items ≡ length (stack_of ps a []) + length below = length-append (stack_of ps a []) below in omega (arith, l, long)
-
-      given : given_to unit.locals (reverse (take (length ps) items)) ≡ Some (actual ps a)
-      given = ap₂ (λ ls is. given_to ls (reverse is)) made.locals (ap (λ k. take k items) long ∙ take_first (stack_of ps a []) below)
-          ∙ ap (given_to (made.parameters ++ map variable (own_shapes r ++ (routine_code known u.0 r).temporaries))) (items_reversed ps a) ∙ given_is_actual ps made.parameters _ a made.are
-
-      rest : drop (length ps) items ≡ below
-      rest = ap (λ k. drop k items) long ∙ drop_first (stack_of ps a []) below
+      given : given_to unit.locals (items_of ps a) nothing_given ≡ Some (actual ps a)
+      given = ap (λ ls. given_to ls (items_of ps a) nothing_given) made.locals ∙ given_is_actual ps made.parameters _ a made.are
 
       nothing_before : (o : StepResult Logged (Unit {0})) → and_then o (λ done. push_frame framed_with) ≡ and_then (and_then o (λ done. pure (tt {0}))) (λ done. push_frame framed_with)
       nothing_before (Ok y) = refl
@@ -197,8 +193,8 @@ module _ (known : Known) (n : ℕ) (deeper : Deeper known n) (c : Site) (placed 
 
       called : call_unit c.subject c.numbers c.code u.0 (unit_of c.code u.0 (entry.Routine u.1)) (length ps) items start ≡ entered
       called = ap (λ o. call_unit c.subject c.numbers c.code u.0 o (length ps) items start) has.found
-          ∙ ap (λ b. cond b (call_given c.subject c.numbers c.code u.0 unit (length ps) (given_to unit.locals (reverse (take (length ps) items))) (drop (length ps) items) start) (stuck start)) (le-leb (length ps) (length items) enough)
-          ∙ ap₂ (λ g rest. call_given c.subject c.numbers c.code u.0 unit (length ps) g rest start) given rest
+          ∙ ap (λ o. call_with c.subject c.numbers c.code u.0 unit (length ps) o start) (stack_taken ps a below)
+          ∙ ap (λ g. call_given c.subject c.numbers c.code u.0 unit (length ps) g below start) given
           ∙ ap (λ o. enter o callee_begun below start) (nothing_before (deeper_than c.here.frame (full c old s)))
 
       begins : Comes c.subject c.numbers c.code (Goes start) entered
@@ -245,7 +241,7 @@ module _ (known : Known) (n : ℕ) (deeper : Deeper known n) (c : Site) (placed 
       allowed (may s) (frames_kept may (carry_blind (may_begin c.subject p m k values)) s) ((carry_blind (may_begin c.subject p m k values)).fewer s)
       (step_at c at (op.Init m k (length types)) [] items turned (full c old s) _ stands
       (ap (λ o. init_with c.subject c.numbers c.code m k o start) (values_taken types a below) ∙ ap (λ o. init_unit c.subject c.numbers c.code m k o values below start) found
-      ∙ begun_is (may (full c old s)) refl ∙ ap begun_at ((carry_blind (may_begin c.subject p m k values)).same F s)))
+      ∙ begun_is (finite.get s.state.image.instances p) ∙ ap begun_at ((carry_blind (may_begin c.subject p m k values)).same F s)))
     where
       values : List Value
       values = values_of (map ByValue types) a
@@ -263,7 +259,7 @@ module _ (known : Known) (n : ℕ) (deeper : Deeper known n) (c : Site) (placed 
       F = joined s.frames (c.callers ++ old ∷ [])
 
       return : Instance → Return
-      return i = ToParent m (path_of i) (to_of k)
+      return i = ToParent m k (path_of i)
 
       entered : Instance → Running Logged → Next
       entered i q = enter ((deeper_than c.here.frame >> begins_with m k values i >> push_frame (frame_with unit.locals 0 [])) q) (begun k unit (path_of i) (suc c.here.frame) [] (return i)) below start
@@ -273,9 +269,15 @@ module _ (known : Known) (n : ℕ) (deeper : Deeper known n) (c : Site) (placed 
       begun_at (Ok z) = entered z.0 z.1
       begun_at (Err e) = Faults e.0 e.1
 
-      begun_is : (o : StepResult Logged Instance) → carry Logged on_log (may_begin c.subject p m k values) (full c old s) ≡ o → init_unit c.subject c.numbers c.code m k (Some unit) values below start ≡ begun_at o
-      begun_is (Ok z) h = simp h
-      begun_is (Err e) h = simp h
+      -- whether the module variable may hold such a child
+      tested : (i : Instance) (b : Bool) → init_tested c.subject c.numbers c.code m k unit values (cond b (Ok (tt {0})) (Err Unset)) (Some i) below start ≡ begun_at (and_then (checked_at (cond b (Ok (tt {0})) (Err Unset)) (full c old s)) (λ allowed. pure i))
+      tested i true = refl
+      tested i false = refl
+
+      begun_is : (o : Option Instance) → init_tested c.subject c.numbers c.code m k unit values (beginning c.subject m k values o) o below start
+          ≡ begun_at (and_then (checked_at (or_no_module o) (full c old s)) (λ i. λ q. and_then (checked_at (cond (may_hold c.subject i.body m k && are_values_of (child_of c.subject k).parameters values) (Ok (tt {0})) (Err Unset)) q) (λ allowed. pure i)))
+      begun_is None = refl
+      begun_is (Some i) = tested i (may_hold c.subject i.body m k && are_values_of (child_of c.subject k).parameters values)
 
       -- behind its initialization
       holding : (i : Instance) (y : Running Logged) → outline y.frames ≡ c.counts → (units : ℕ) → y.left ≤ units → units ≤ s.left → (o : StepResult Logged (Unit {0})) → KeepsFrames y.frames o → AtMost y.left o

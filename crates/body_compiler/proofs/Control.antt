@@ -11,7 +11,9 @@ use Rattle.estelle_model.specs.Operators.{bool_of}
 use Rattle.estelle_model.specs.Loops.{while_turns, repeat_turns, while_loop, repeat_loop}
 use Rattle.estelle_model.specs.States.{Logged}
 use Rattle.estelle_model.specs.Steps.{Running, StepResult, Step, Do, and_then, ◌>>=◌, ◌>>◌, pure, fail, checked, checked_at, spend}
-use Rattle.body_machine.specs.Machine.{Item, Datum, Machine, Next, Goes, Faults}
+use Rattle.body_machine.specs.declared.item.Item.{Item}
+use Rattle.body_machine.specs.declared.item.Item.TheVariants.{Datum}
+use Rattle.body_machine.specs.Machine.{Machine, Next, Goes, Faults}
 use Rattle.body_machine.specs.Rows.{row}
 use Rattle.body_machine.specs.Steps.{jump_back, decide, turn, Comes}
 use Rattle.body_compiler.specs.Pieces.{Piece, ◌⨾◌, fork, loop, repeat}

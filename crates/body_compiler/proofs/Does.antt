@@ -9,8 +9,11 @@ use Rattle.estelle_model.specs.States.{Logged}
 use Rattle.estelle_model.specs.Steps.{Running, StepResult, Step, and_then, ◌>>=◌, pure}
 use Rattle.estelle_model.specs.declared.place.Environment.{Environment}
 use Rattle.estelle_model.specs.Subject.{Subject}
-use Rattle.body_machine.specs.Machine.{Item, Datum, Spot, Return, Activation, Machine, Next, Goes, Ends, Faults}
-use Rattle.body_machine.specs.Numbers.{Numbers}
+use Rattle.body_machine.specs.declared.item.Item.{Item}
+use Rattle.body_machine.specs.declared.item.Item.TheVariants.{Datum, Spot}
+use Rattle.body_machine.specs.declared.activation.Return.{Return}
+use Rattle.body_machine.specs.Machine.{Activation, Machine, Next, Goes, Ends, Faults}
+use Rattle.body_machine.specs.declared.numbers.Numbers.{Numbers}
 use Rattle.body_machine.specs.Rows.{row}
 use Rattle.body_machine.specs.Steps.{next, act, by_row, run, Comes}
 use Rattle.body_compiler.specs.Pieces.{Piece, none, one, ◌⨾◌}

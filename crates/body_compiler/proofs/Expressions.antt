@@ -47,8 +47,10 @@ use Rattle.estelle_model.specs.Expressions as model
 use Rattle.estelle_model.specs.Expressions.{Call, bool_step, ordinal_step, both, conjunction, disjunction, multiplied, added, reference_at, index_step, member_step, set_step}
 use Rattle.estelle_model.proofs.Alike.{EachAlike, MaybeAlike, each_related, each_marked}
 use Rattle.estelle_model.proofs.ExpressionEquations as meant
-use Rattle.body_machine.specs.Machine.{Item, Datum, Spot}
-use Rattle.body_machine.specs.Rows.{row, gives, leaves, a_set}
+use Rattle.body_machine.specs.declared.item.Item.{Item}
+use Rattle.body_machine.specs.declared.item.Item.TheVariants.{Datum, Spot}
+use Rattle.body_machine.specs.Operations.{a_set}
+use Rattle.body_machine.specs.Rows.{row, gives, leaves, by_export}
 use Rattle.body_machine.specs.Steps.{goes_on}
 use Rattle.body_compiler.specs.Pieces.{Piece, refused, one, ◌⨾◌, fork}
 use Rattle.body_compiler.specs.ExpressionCode as code
@@ -83,7 +85,7 @@ module _ (c : Site) (scope : Scope) (within : IsScope c scope) (call : Call Logg
   exported_place m k = by_number_does c (scope.export m k) (λ i. one (op.Exp m i)) [] (child_step Logged on_log c.here.path m >>= λ p. pure (Of p k [])) spot
       (λ i is. as_does c (one (op.Exp m i)) [] (λ r. checked_at (of_child r) r) (child_step Logged on_log c.here.path m >>= λ p. pure (Of p k [])) spot (λ r. by r (child_at c.here.path m r.state.image))
       (value_does c (op.Exp m i) [] of_child spot (λ r p found. (named (child_at c.here.path m r.state.image) p found, tt))
-      (λ at turned old r below same. ap (λ j. goes_on (and_then (checked_at (child_at c.here.path m r.state.image) (full c old r)) (λ p. leaves (Spot (Of p j [])))) below (machine c at below turned (full c old r))) (within.export m k i is) ∙ ap (λ o. goes_on o below (machine c at below turned (full c old r))) (one_by_one old r (child_at c.here.path m r.state.image)))))
+      (λ at turned old r below same. ap (λ j. goes_on (and_then (checked_at (child_at c.here.path m r.state.image) (full c old r)) (by_export j)) below (machine c at below turned (full c old r))) (within.export m k i is) ∙ ap (λ o. goes_on o below (machine c at below turned (full c old r))) (one_by_one old r (child_at c.here.path m r.state.image)))))
     where
       placed : Result Path Fault → Result Place Fault
       placed o = o >>> λ p. Ok (Of p k [])

@@ -1,10 +1,10 @@
 -- Locals of a unit: which variable of the meaning's frame each is, and how they begin.
-use Rattle.std.proofs.Common.{◌≡◌, ◌∙◌, refl, sym, ap, subst, ℕ, zero, suc, ◌+◌, ◌≤◌, ◌<◌, Bool, true, false, cond, List, [], ◌∷◌, ◌++◌, length, map, take, drop, reverse, append_assoc, append-nil, length-append, Option, Some, None, arith}
+use Rattle.std.proofs.Common.{◌≡◌, ◌∙◌, refl, sym, ap, ap₂, subst, ℕ, zero, suc, ◌+◌, ◌≤◌, ◌<◌, Bool, true, false, cond, List, [], ◌∷◌, ◌++◌, length, map, take, drop, reverse, append_assoc, append-nil, length-append, Option, Some, None, arith}
 use mathlib.Core.List.{reverse_aux}
-use Rattle.std.proofs.lemmas.Bool.{ltb-true}
+use Rattle.std.proofs.lemmas.Bool.{le-leb, ltb-true}
 use Rattle.std.proofs.lemmas.List.{map-append, length-map}
 use Rattle.std.proofs.lemmas.Simd.{map-map}
-use Rattle.std.specs.Prelude.{IsTrue, nat_lt, option_map}
+use Rattle.std.specs.Prelude.{IsTrue, nat_lt, option_map, option_and_then}
 use Rattle.pascal_values.specs.declared.value.Value.{Value}
 use Rattle.pascal_values.specs.declared.value.Value.TheVariants as pascal
 use Rattle.pascal_values.specs.declared.value.Value.TheVariants.{outs-Fields}
@@ -16,16 +16,18 @@ use Rattle.estelle_model.specs.declared.meaning.Passing.{Passing}
 use Rattle.estelle_model.specs.declared.meaning.Passing.TheVariants.{ByValue, ByPlace}
 use Rattle.estelle_model.specs.declared.meaning.Routine.{Routine}
 use Rattle.estelle_model.specs.Meant.{value_types, result_types}
+use Rattle.estelle_model.specs.declared.place.ActualParameters.{ActualParameters}
 use Rattle.estelle_model.specs.Expressions.{no_arguments}
 use Rattle.estelle_model.specs.Calls.{blank, frame_of}
-use Rattle.body_machine.specs.Machine.{Item, Datum, Spot}
+use Rattle.body_machine.specs.declared.item.Item.{Item}
+use Rattle.body_machine.specs.declared.item.Item.TheVariants.{Datum, Spot}
 use Rattle.body_machine.specs.Numbers.{variables_in, slot, reference_number}
-use Rattle.body_machine.specs.Steps.{given_to, blanks_of, frame_with}
+use Rattle.body_machine.specs.Steps.{taken_from, given_one, given_to, blanks_of, frame_with}
 use Rattle.body_code.specs.declared.unit.Heading.{Heading}
 use Rattle.body_compiler.specs.Pieces.{Piece}
 use Rattle.body_compiler.specs.UnitCode.{local_of, reference_of, variable, own_shapes, AreParameters, IsMadeOf, made_of}
 use Rattle.body_compiler.proofs.Frames.{lengthened, lengthened_at, count_of, count_at}
-use Rattle.body_compiler.proofs.Arguments.{Given, values_of, items_of, stack_of, actual}
+use Rattle.body_compiler.proofs.Arguments.{Given, values_of, places_of, items_of, stack_of, with_given, actual}
 
 -- ---- numbers of locals
 
@@ -111,17 +113,27 @@ parameters_long (p ∷ ps) [] are = absurd are
 parameters_long (ByValue t ∷ ps) (l ∷ ls) are = ap suc (parameters_long ps ls are.1)
 parameters_long (ByPlace ∷ ps) (l ∷ ls) are = ap suc (parameters_long ps ls are.1)
 
-no_more : (ls : List Local) → given_to ls [] ≡ Some no_arguments
-no_more [] = refl
-no_more (l ∷ ls) = refl
+no_more : (ls : List Local) (g : ActualParameters) → given_to ls [] g ≡ Some g
+no_more [] g = refl
+no_more (l ∷ ls) g = refl
+
+-- behind what was given before
+given_behind : (ps : List Passing) (parameters more : List Local) (a : Given ps) (g : ActualParameters) → AreParameters ps parameters → given_to (parameters ++ more) (items_of ps a) g ≡ Some (with_given g ps a)
+given_behind [] [] more a g are = no_more more g ∙ ap₂ (λ vs places. Some (record { values = vs; references = places })) (sym (append-nil g.values)) (sym (append-nil g.references))
+given_behind [] (l ∷ ls) more a g are = absurd are
+given_behind (p ∷ ps) [] more a g are = absurd are
+given_behind (ByValue t ∷ ps) (l ∷ ls) more a g are =
+    ap (λ b. option_and_then (given_to (ls ++ more) (items_of ps a.1)) (given_one b (Datum a.0) g)) are.0
+    ∙ given_behind ps ls more a.1 (record g { values = g.values ++ a.0 ∷ [] }) are.1
+    ∙ ap (λ vs. Some (record { values = vs; references = g.references ++ places_of ps a.1 })) (append_assoc g.values (a.0 ∷ []) (values_of ps a.1))
+given_behind (ByPlace ∷ ps) (l ∷ ls) more a g are =
+    ap (λ b. option_and_then (given_to (ls ++ more) (items_of ps a.1)) (given_one b (Spot a.0) g)) are.0
+    ∙ given_behind ps ls more a.1 (record g { references = g.references ++ a.0 ∷ [] }) are.1
+    ∙ ap (λ places. Some (record { values = g.values ++ values_of ps a.1; references = places })) (append_assoc g.references (a.0 ∷ []) (places_of ps a.1))
 
 -- values for the locals that are variables, places for those by reference
-pub given_is_actual : (ps : List Passing) (parameters more : List Local) (a : Given ps) → AreParameters ps parameters → given_to (parameters ++ more) (items_of ps a) ≡ Some (actual ps a)
-given_is_actual [] [] more a are = no_more more
-given_is_actual [] (l ∷ ls) more a are = absurd are
-given_is_actual (p ∷ ps) [] more a are = absurd are
-given_is_actual (ByValue t ∷ ps) (l ∷ ls) more a are = ap (λ b. given_to (record l { by_ref = b } ∷ (ls ++ more)) (Datum a.0 ∷ items_of ps a.1)) are.0 ∙ simp (given_is_actual ps ls more a.1 are.1)
-given_is_actual (ByPlace ∷ ps) (l ∷ ls) more a are = ap (λ b. given_to (record l { by_ref = b } ∷ (ls ++ more)) (Spot a.0 ∷ items_of ps a.1)) are.0 ∙ simp (given_is_actual ps ls more a.1 are.1)
+pub given_is_actual : (ps : List Passing) (parameters more : List Local) (a : Given ps) → AreParameters ps parameters → given_to (parameters ++ more) (items_of ps a) no_arguments ≡ Some (actual ps a)
+given_is_actual ps parameters more a are = given_behind ps parameters more a no_arguments are
 
 -- what stands on the stack, from the bottom
 reversed : (ps : List Passing) (a : Given ps) (more end : List Item) → reverse_aux (stack_of ps a more) end ≡ reverse_aux more (items_of ps a ++ end)
@@ -129,10 +141,10 @@ reversed [] a more end = refl
 reversed (ByValue t ∷ ps) a more end = reversed ps a.1 (Datum a.0 ∷ more) end
 reversed (ByPlace ∷ ps) a more end = reversed ps a.1 (Spot a.0 ∷ more) end
 
-pub items_reversed : (ps : List Passing) (a : Given ps) → reverse (stack_of ps a []) ≡ items_of ps a
+items_reversed : (ps : List Passing) (a : Given ps) → reverse (stack_of ps a []) ≡ items_of ps a
 items_reversed ps a = reversed ps a [] [] ∙ append-nil (items_of ps a)
 
-pub stack_long : (ps : List Passing) (a : Given ps) (more : List Item) → length (stack_of ps a more) ≡ length ps + length more
+stack_long : (ps : List Passing) (a : Given ps) (more : List Item) → length (stack_of ps a more) ≡ length ps + length more
 stack_long [] a more = omega arith
 stack_long (ByValue t ∷ ps) a more = stack_long ps a.1 (Datum a.0 ∷ more) ∙ (let e : length ps + suc (length more) ≡ suc (length ps) + length more = omega arith in e)
 stack_long (ByPlace ∷ ps) a more = stack_long ps a.1 (Spot a.0 ∷ more) ∙ (let e : length ps + suc (length more) ≡ suc (length ps) + length more = omega arith in e)
@@ -148,9 +160,23 @@ pub take_first : {X : Type 0} (xs ys : List X) → take (length xs) (xs ++ ys) �
 take_first [] ys = refl
 take_first (x ∷ xs) ys = ap (λ zs. x ∷ zs) (take_first xs ys)
 
-pub drop_first : {X : Type 0} (xs ys : List X) → drop (length xs) (xs ++ ys) ≡ ys
+drop_first : {X : Type 0} (xs ys : List X) → drop (length xs) (xs ++ ys) ≡ ys
 drop_first [] ys = refl
 drop_first (x ∷ xs) ys = drop_first xs ys
+
+-- what is taken from the stack for parameters, in order
+pub stack_taken : (ps : List Passing) (a : Given ps) (below : List Item) → taken_from (length ps) (stack_of ps a [] ++ below) ≡ Some (items_of ps a, below)
+stack_taken ps a below = ap (λ b. cond b (Some (reverse (take (length ps) items), drop (length ps) items)) None) (le-leb (length ps) (length items) enough)
+    ∙ ap₂ (λ xs ys. Some (xs, ys)) (ap (λ k. reverse (take k items)) long ∙ ap reverse (take_first (stack_of ps a []) below) ∙ items_reversed ps a) (ap (λ k. drop k items) long ∙ drop_first (stack_of ps a []) below)
+  where
+    items : List Item
+    items = stack_of ps a [] ++ below
+
+    long : length ps ≡ length (stack_of ps a [])
+    long = let l : length (stack_of ps a []) ≡ length ps + 0 = stack_long ps a [] in omega (arith, l)
+
+    enough : length ps ≤ length items
+    enough = let l : length items ≡ length (stack_of ps a []) + length below = length-append (stack_of ps a []) below in omega (arith, l, long)
 
 -- ---- the frame of a unit
 

@@ -14,10 +14,11 @@ use Rattle.estelle_model.specs.declared.meaning.Meaning.TheVariants.{Ip}
 use Rattle.estelle_model.specs.Subject.{child_of}
 use Rattle.estelle_model.specs.Expressions as model
 use Rattle.estelle_model.proofs.Alike.{EachAlike, MaybeAlike}
-use Rattle.body_machine.specs.Machine.{Item, Spot}
+use Rattle.body_machine.specs.declared.item.Item.{Item}
+use Rattle.body_machine.specs.declared.item.Item.TheVariants.{Spot}
 use Rattle.body_machine.specs.Rows.{row}
 use Rattle.body_machine.specs.Steps.{goes_on}
-use Rattle.body_machine.specs.Numbers.{slot, reference_number}
+use Rattle.body_machine.specs.Numbers.{shape_numbered, export_numbered, slot, reference_number}
 use Rattle.body_compiler.specs.Pieces.{Piece, refused, one}
 use Rattle.body_compiler.specs.ExpressionCode as code
 use Rattle.body_compiler.specs.ExpressionCode.{Scope, by_number}
@@ -64,9 +65,9 @@ pub record IsScope (c : Site) (scope : Scope) : Type 0 where
   pub reference : (k i : ℕ) → scope.reference k ≡ Some i → reference_number c.unit.locals i ≡ k
   pub named : (k : ℕ) (p : Place) → slice_get c.here.references k ≡ Some p → IsNamed c.counts p
   -- an exported variable of a child is an export of its header
-  pub export : (m k i : ℕ) → scope.export m k ≡ Some i → c.numbers.export c.body m i ≡ k
+  pub export : (m k i : ℕ) → scope.export m k ≡ Some i → export_numbered c.numbers c.body m i ≡ Some k
   -- shapes have their numbers
-  pub number : (shape : Shape) (k : ℕ) → scope.number shape ≡ Some k → c.numbers.shape k ≡ Some shape
+  pub number : (shape : Shape) (k : ℕ) → scope.number shape ≡ Some k → shape_numbered c.numbers k ≡ Some shape
   -- interaction points and interactions have their numbers
   pub interaction : (ip m : Name) (k i : ℕ) → scope.meant ip ≡ Ip k → scope.interaction ip m ≡ Some i → IsInteraction c.numbers scope.meant c.body ip m k i
   -- a body has its parameters

@@ -18,7 +18,10 @@ use Rattle.estelle_model.specs.declared.place.Place.{Place}
 use Rattle.estelle_model.specs.declared.place.Place.TheVariants.{Of, In}
 use Rattle.estelle_model.specs.Places.{known, held, load, put_in_instance, put, store}
 use Rattle.estelle_model.specs.Expressions.{both}
-use Rattle.body_machine.specs.Machine.{Item, Datum, Spot, Activation, Machine, Next, Goes}
+use Rattle.body_machine.specs.declared.item.Item.{Item}
+use Rattle.body_machine.specs.declared.item.Item.TheVariants.{Datum, Spot}
+use Rattle.body_machine.specs.Machine.{Activation, Machine, Next, Goes}
+use Rattle.body_machine.specs.Numbers.{shape_numbered}
 use Rattle.body_machine.specs.Rows.{OfValue, OfValues, row, gives, leaves, nothing, fit_as}
 use Rattle.body_machine.specs.Steps.{by_row, goes_on}
 use Rattle.body_compiler.specs.Pieces.{Piece, one, ◌⨾◌}
@@ -133,7 +136,7 @@ module _ (c : Site) where
       by None h = h
       by (Some instance) h = there (may_store (r.state.image.types instance.body) x way v) h
 
-  pub store_does : (k : ℕ) (t : Denoter) → c.numbers.shape k ≡ Some (shape_of t) → (p : Place) (v : Value) → IsNamed c.counts p → D (one (op.Store k)) (Datum v ∷ spot p) (store Logged on_log t p v) no_item
+  pub store_does : (k : ℕ) (t : Denoter) → shape_numbered c.numbers k ≡ Some (shape_of t) → (p : Place) (v : Value) → IsNamed c.counts p → D (one (op.Store k)) (Datum v ∷ spot p) (store Logged on_log t p v) no_item
   unfolding store row
   store_does k t is p v named = instr_does c (op.Store k) (Datum v ∷ spot p) (store Logged on_log t p v) no_item
       (λ at turned old r below same. by at turned old r below same (fit_of (shape_of t) v) (ap (λ o. goes_on (nothing (checked (fit_as o v) >> put Logged on_log p v) (F old r)) below (M at (Datum v ∷ (Spot p ∷ below)) turned (F old r))) is))

@@ -28,7 +28,7 @@ use Rattle.estelle_model.specs.Statements as meaning
 use Rattle.estelle_model.specs.Statements.{Acts, Init, Release, Connect, Disconnect, Attach, Detach, Output, assign, choose, invoke}
 use Rattle.estelle_model.proofs.Alike.{EachAlike, MaybeAlike, each_related}
 use Rattle.estelle_model.proofs.StatementEquations as meant
-use Rattle.body_machine.specs.Machine.{Datum}
+use Rattle.body_machine.specs.declared.item.Item.TheVariants.{Datum}
 use Rattle.body_compiler.specs.Pieces.{Piece, one, ◌⨾◌}
 use Rattle.body_compiler.specs.ExpressionCode as code
 use Rattle.body_compiler.specs.ExpressionCode.{Scope}

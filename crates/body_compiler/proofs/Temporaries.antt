@@ -16,8 +16,11 @@ use Rattle.estelle_model.specs.Meant.{value_types}
 use Rattle.estelle_model.specs.declared.place.Place.{Place}
 use Rattle.estelle_model.specs.declared.place.Place.TheVariants.{In}
 use Rattle.estelle_model.specs.Places.{set_value, load, put}
-use Rattle.body_machine.specs.Machine.{Item, Datum, Spot, Return, Machine, Next, Goes, Faults}
-use Rattle.body_machine.specs.Numbers.{slot}
+use Rattle.body_machine.specs.declared.item.Item.{Item}
+use Rattle.body_machine.specs.declared.item.Item.TheVariants.{Datum, Spot}
+use Rattle.body_machine.specs.declared.activation.Return.{Return}
+use Rattle.body_machine.specs.Machine.{Machine, Next, Goes, Faults}
+use Rattle.body_machine.specs.Numbers.{shape_numbered, slot}
 use Rattle.body_machine.specs.Rows.{row, leaves, nothing, fit_as}
 use Rattle.body_machine.specs.Steps.{goes_on, Comes}
 use Rattle.body_compiler.specs.Pieces.{Piece, keep, recall}
@@ -73,7 +76,7 @@ module _ (c : Site) (placed : IsPlaced c) (has : HasTemporaries c) where
   Stored i at stack turned own r v start (Ok done) = C start (Goes (machine c (suc at) stack turned (full c (slice_set own i v) r)))
   Stored i at stack turned own r v start (Err e) = C start (Faults e r.left)
 
-  pub value_stored : (i k : ℕ) (shape : Shape) → c.numbers.shape k ≡ Some shape → (v w : Value) (at : ℕ) (more : List Instr) (stack : List Item) (turned : Bool) (own : List Value) (r : Running Logged) → outline r.frames ≡ c.counts → slice_get own i ≡ Some w
+  pub value_stored : (i k : ℕ) (shape : Shape) → shape_numbered c.numbers k ≡ Some shape → (v w : Value) (at : ℕ) (more : List Instr) (stack : List Item) (turned : Bool) (own : List Value) (r : Running Logged) → outline r.frames ≡ c.counts → slice_get own i ≡ Some w
       → StandsAt c at (op.Store k ∷ more) → Stored i at stack turned own r v (Goes (machine c at (Datum v ∷ (Spot (temporary i) ∷ stack)) turned (full c own r))) (fit_of shape v)
   unfolding row put
   value_stored i k shape is v w at more stack turned own r same found stands =
@@ -150,7 +153,7 @@ module _ (c : Site) (placed : IsPlaced c) (has : HasTemporaries c) where
   }
 
   -- a value is kept in a temporary, and then the rest knows it
-  module _ (shape : Shape) (k : ℕ) (is : c.numbers.shape k ≡ Some shape) (value : Piece) (rest : ℕ → Piece) (uniform : (n : ℕ) → ((rest n).temporaries ≡ (rest 0).temporaries) × ((rest n).fine ≡ (rest 0).fine))
+  module _ (shape : Shape) (k : ℕ) (is : shape_numbered c.numbers k ≡ Some shape) (value : Piece) (rest : ℕ → Piece) (uniform : (n : ℕ) → ((rest n).temporaries ≡ (rest 0).temporaries) × ((rest n).fine ≡ (rest 0).fine))
       (A B : Type 0) (x : Step Logged A) (v : A → Value) (more : A → Step Logged B) (left : B → List Item)
       (value_does : Does c value [] x (λ a. Datum (v a) ∷ [])) (rest_does : (i : ℕ) → i < c.number → (a : A) → DoesWhere c (Holds i (v a)) (rest (c.base + i)) [] (more a) left) where
     abbrev kept_step : Step Logged B

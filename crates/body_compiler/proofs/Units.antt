@@ -25,7 +25,9 @@ use Rattle.estelle_model.specs.Statements.{Acts}
 use Rattle.estelle_model.specs.Statements as meaning
 use Rattle.estelle_model.specs.Calls.{Enters, call_by, last_or, enter as enter_frame, leave, frame_of, max_depth, within as runs_within, nested}
 use Rattle.estelle_model.proofs.LoopLaws.{AtMost}
-use Rattle.body_machine.specs.Machine.{Item, Return, Activation, Machine, Next, Goes, Faults}
+use Rattle.body_machine.specs.declared.item.Item.{Item}
+use Rattle.body_machine.specs.declared.activation.Return.{Return}
+use Rattle.body_machine.specs.Machine.{Activation, Machine, Next, Goes, Faults}
 use Rattle.body_machine.specs.Rows.{row}
 use Rattle.body_machine.specs.Steps.{deeper_than, frame_with, push_frame, pop_frame, begun, enter, return_to, Comes}
 use Rattle.body_compiler.specs.Pieces.{Piece, one, ◌⨾◌}

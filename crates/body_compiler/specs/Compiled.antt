@@ -15,8 +15,10 @@ use Rattle.estelle_model.specs.Subject.{Subject, child_of}
 use Rattle.estelle_tree.specs.Paths.{Path}
 use Rattle.pascal_values.specs.declared.value.Value.{Value}
 use Rattle.estelle_model.specs.States.{Logged}
-use Rattle.body_machine.specs.Machine.{Machine, ToNone}
-use Rattle.body_machine.specs.Numbers.{Numbers}
+use Rattle.body_machine.specs.declared.activation.Return.TheVariants.{ToNone}
+use Rattle.body_machine.specs.Machine.{Machine}
+use Rattle.body_machine.specs.declared.numbers.Numbers.{Numbers}
+use Rattle.body_machine.specs.Numbers.{shape_numbered, export_numbered, word_of, interaction_of}
 use Rattle.body_machine.specs.Steps.{frame_with, begun}
 use Rattle.body_compiler.specs.UnitCode.{Known, IsUnit}
 
@@ -24,8 +26,8 @@ use Rattle.body_compiler.specs.UnitCode.{Known, IsUnit}
 pub record IsInteraction (n : Numbers) (meant : Meanings) (body : ℕ) (ip m : Name) (k i : ℕ) : Type 0 where
   pub kind : InteractionKind
   pub means : meant m ≡ Interaction kind
-  pub word : n.word body k ≡ Some ip.word
-  pub interaction : n.interaction body k i ≡ Some kind
+  pub word : word_of n body k ≡ Some ip.word
+  pub interaction : interaction_of n body k i ≡ Some kind
   pub same : kind.word ≡ m.word
 
 -- the code has a unit for a routine at a place
@@ -36,8 +38,8 @@ pub record HasUnit (code : List CodeUnit) (known : Known) (body : ℕ) (place : 
 
 -- numbers stand for what is known, and each routine and initialization has its unit
 pub record IsCode (s : Subject) (n : Numbers) (code : List CodeUnit) (known : Known) : Type 0 where
-  pub number : (shape : Shape) (k : ℕ) → known.number shape ≡ Some k → n.shape k ≡ Some shape
-  pub export : (body m k i : ℕ) → known.export body m k ≡ Some i → n.export body m i ≡ k
+  pub number : (shape : Shape) (k : ℕ) → known.number shape ≡ Some k → shape_numbered n k ≡ Some shape
+  pub export : (body m k i : ℕ) → known.export body m k ≡ Some i → export_numbered n body m i ≡ Some k
   pub interaction : (body : ℕ) (ip m : Name) (k i : ℕ) → known.meant ip ≡ Ip k → known.interaction body ip m ≡ Some i → IsInteraction n known.meant body ip m k i
   pub parameters : (k : ℕ) (types : List Denoter) → known.parameters k ≡ Some types → types ≡ (child_of s k).parameters
   pub routine : (x : Name) (r : Routine) (u : ℕ × ℕ) → known.meant x ≡ Called r → known.routine x ≡ Some u → HasUnit code known u.0 (entry.Routine u.1) r

@@ -12,8 +12,10 @@ use Rattle.estelle_model.specs.Steps.{StepResult}
 use Rattle.estelle_model.specs.Blocks.{fresh, block_step, clause_value}
 use Rattle.estelle_model.specs.Acts.{act}
 use Rattle.estelle_model.specs.Subject.{Subject}
-use Rattle.body_machine.specs.Machine.{Item, Datum, Machine, Goes, Ends, Faults}
-use Rattle.body_machine.specs.Numbers.{Numbers}
+use Rattle.body_machine.specs.declared.item.Item.{Item}
+use Rattle.body_machine.specs.declared.item.Item.TheVariants.{Datum}
+use Rattle.body_machine.specs.Machine.{Machine, Goes, Ends, Faults}
+use Rattle.body_machine.specs.declared.numbers.Numbers.{Numbers}
 use Rattle.body_machine.specs.Steps.{Comes}
 use Rattle.body_compiler.specs.UnitCode.{Known, IsUnit, IsClause}
 use Rattle.body_compiler.specs.Compiled.{IsCode, started}

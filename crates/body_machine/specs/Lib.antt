@@ -1,6 +1,8 @@
 -- ---- the machine, and what its instructions do
 pub mod Machine
 pub mod Numbers
+pub mod Operations
 pub mod Ends
 pub mod Rows
 pub mod Steps
+pub mod Seen

@@ -1,27 +1,14 @@
 -- The machine that runs the code of bodies: units that run, each with its own stack of values and places.
-use Rattle.std.specs.Prelude.{ℕ, Bool, List, Option}
+use Rattle.std.specs.Prelude.{ℕ, Bool, List}
 use Rattle.pascal_values.specs.declared.fault.Fault.{Fault}
-use Rattle.pascal_values.specs.declared.value.Value.{Value}
-use Rattle.estelle_tree.specs.Paths.{Path}
 use Rattle.body_code.specs.declared.unit.CodeUnit.{CodeUnit}
 use Rattle.estelle_model.specs.States.{Logged}
 use Rattle.estelle_model.specs.Steps.{Running}
-use Rattle.estelle_model.specs.declared.place.Place.{Place}
 use Rattle.estelle_model.specs.declared.place.Environment.{Environment}
-
--- what stands on a stack
-pub data Item : Type 0 where
-  Datum : (value : Value) → Item
-  Spot : (place : Place) → Item
-
--- what comes behind the end of a unit
-pub data Return : Type 0 where
-  -- a block, a guard or a delay: nothing
-  ToNone : Return
-  -- a routine: the unit that called it
-  ToCaller : Return
-  -- an initialization: the child takes its state, and then a module variable of its parent holds it
-  ToParent : (variable : ℕ) (child : Path) (to : Option ℕ) → Return
+pub use Rattle.body_machine.specs.declared.item.Item.{Item}
+pub use Rattle.body_machine.specs.declared.item.Item.TheVariants.{Datum, Spot}
+pub use Rattle.body_machine.specs.declared.activation.Return.{Return}
+pub use Rattle.body_machine.specs.declared.activation.Return.TheVariants.{ToNone, ToCaller, ToParent}
 
 -- a unit that runs
 pub record Activation : Type 0 where

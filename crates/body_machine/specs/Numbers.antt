@@ -1,19 +1,28 @@
 -- What the numbers in instructions stand for.
-use Rattle.std.specs.Prelude.{ℕ, suc, if◌then◌else◌, List, [], ◌∷◌, take, Option}
+use Rattle.std.specs.Prelude.{ℕ, suc, if◌then◌else◌, List, [], ◌∷◌, option_map, slice_get, take, Option, Some, None}
+use Rattle.std.specs.Option.{option_and_then}
 use Rattle.pascal_values.specs.declared.value.Shape.{Shape}
 use Rattle.body_code.specs.declared.unit.Local.{Local}
 use Rattle.estelle_model.specs.declared.meaning.InteractionKind.{InteractionKind}
+use Rattle.body_machine.specs.declared.numbers.Numbers.{Numbers}
 
--- what the numbers of a specification stand for
-pub record Numbers : Type 0 where
-  -- shapes: those of the required types, then those of the type expressions in text order
-  pub shape : ℕ → Option Shape
-  -- the variable of the child in a module variable of a body that an export of its header is
-  pub export : (body variable export : ℕ) → ℕ
-  -- the word of an interaction point of a body
-  pub word : (body ip : ℕ) → Option (List ℕ)
-  -- the interaction of the channel of an interaction point of a body
-  pub interaction : (body ip interaction : ℕ) → Option InteractionKind
+-- the shape with a number
+abbrev pub shape_numbered : Numbers → ℕ → Option Shape
+shape_numbered n k = slice_get n.shapes k
+
+-- the variable of the child in a module variable of a body that an export of its header is
+abbrev pub export_numbered : Numbers → ℕ → ℕ → ℕ → Option ℕ
+export_numbered n body variable k =
+    option_and_then (λ b. option_and_then (λ h. option_and_then (λ exports. slice_get exports k) (slice_get n.headers h)) (slice_get b.module_variables variable)) (slice_get n.bodies body)
+
+-- the word of an interaction point of a body
+abbrev pub word_of : Numbers → ℕ → ℕ → Option (List ℕ)
+word_of n body ip = option_and_then (λ b. option_map (λ i. i.word) (slice_get b.ips ip)) (slice_get n.bodies body)
+
+-- the interaction with a number of the channel of an interaction point of a body
+abbrev pub interaction_of : Numbers → ℕ → ℕ → ℕ → Option InteractionKind
+interaction_of n body ip k =
+    option_and_then (λ b. option_and_then (λ i. option_and_then (λ kinds. slice_get kinds k) (slice_get n.channels i.channel)) (slice_get b.ips ip)) (slice_get n.bodies body)
 
 -- how many of these locals are variables
 abbrev pub variables_in : List Local → ℕ

@@ -1,5 +1,25 @@
-//! The machine that runs the code of bodies, as a definition.
+//! The machine that runs the code of bodies: instructions one by one, each unit with a stack of its own.
 //!
-//! It stands on `body_code` and on `estelle_model`, of whose steps each instruction is made. Nothing here runs: `specs/` says what an
-//! instruction does, and what units that run come to.
+//! It stands on `body_code`, and on the walk of `body_walker_state`; each instruction is made of the steps of which `estelle_model`
+//! makes the meaning of bodies. Calls of a text are units on a list of those that wait, no calls of this program.
 #![tactic(auto)]
+
+mod activation;
+mod calls;
+mod estelle;
+mod frames;
+mod given;
+mod item;
+mod jumps;
+mod machine;
+mod numbers;
+#[tactic(auto, unfolding(estelle_model::specs::Operators::required_value))]
+mod operators;
+mod places;
+mod stack;
+mod values;
+
+pub use activation::{Activation, Return};
+pub use item::Item;
+pub use machine::Machine;
+pub use numbers::{BodyNumbers, IpNumbers, Numbers};

@@ -1,0 +1,6 @@
+use Rattle.std.proofs.Common.{◌≡◌, ◌≤◌, length, take}
+use Rattle.body_machine.specs.Numbers.{references_in}
+use Rattle.body_machine.proofs.places.count_references.Given as goal
+
+abbrev pub invariant-loop-local : goal.invariant-loop-local
+invariant-loop-local l = (l.count ≡ references_in (take l.local-index l.locals)) × (l.count ≤ l.local-index)

@@ -1,0 +1,46 @@
+//! Units that run.
+
+use crate::stack::Stack;
+use body_code::CodeUnit;
+use estelle_model::Environment;
+use estelle_tree::Path;
+
+/// What comes behind the end of a unit.
+#[derive(Drop)]
+pub enum Return {
+    /// A block, a guard or a delay: nothing.
+    ToNone,
+    /// A routine: the unit that called it.
+    ToCaller,
+    /// An initialization: the child takes its state, and then a module variable of its parent holds it.
+    ToParent {
+        variable: u32,
+        body: u32,
+        child: Path,
+    },
+}
+
+/// A unit that runs.
+pub struct Activation<'a> {
+    pub body: u32,
+    pub unit: &'a CodeUnit,
+    pub here: Environment,
+    pub address: usize,
+    pub stack: Stack,
+    pub turned: bool,
+    pub return_to: Return,
+}
+
+impl Drop for Activation<'_> {
+    fn drop(self) {
+        let Activation {
+            body: _,
+            unit: _,
+            here: _,
+            address: _,
+            stack: _,
+            turned: _,
+            return_to: _,
+        } = self;
+    }
+}
