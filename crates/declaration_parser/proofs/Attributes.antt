@@ -1,8 +1,8 @@
 -- The laws of attributes, queues and heads.
-use Rattle.std.proofs.Common.{◌≡◌, ℕ, true, false, List, [], ◌∷◌, ◌++◌, Option, Some, None, Ok, sym, refl, ap, ◌∙◌, subst}
-use Rattle.std.specs.Prelude.{map}
+use Rattle.std.proofs.Common.{◌≡◌, true, false, List, [], ◌∷◌, ◌++◌, Option, Some, None, Ok, Err, sym, refl, ap, subst, inl, inr, ◌⊎◌}
 use Rattle.estelle_tree.specs.declared.kind.Kind.{Kind}
 use Rattle.estelle_tree.specs.declared.kind.Kind.TheVariants as k
+use Rattle.estelle_tree.specs.declared.span.Span.{Span}
 use Rattle.estelle_tree.specs.declared.tree.specification.SysAttr.{SysAttr}
 use Rattle.estelle_tree.specs.declared.tree.specification.SysAttr.TheVariants as a_sys_attr
 use Rattle.estelle_tree.specs.declared.tree.specification.Attr.{Attr}
@@ -12,245 +12,248 @@ use Rattle.estelle_tree.specs.declared.tree.specification.Disc.TheVariants as a_
 use Rattle.estelle_tree.specs.declared.tree.specification.Head.{Head}
 use Rattle.estelle_tree.specs.declared.tree.specification.Head.TheVariants as a_head
 use Rattle.estelle_tree.specs.Input.{Input, kind, next, start, between}
-use Rattle.estelle_tree.specs.Spelling as spelling
-use Rattle.estelle_tree.specs.Spelling.{Spelling, Takes, Chain, Ended, Enclosed}
-use Rattle.estelle_tree.specs.Types.{IsName}
 use Rattle.estelle_tree.specs.Clauses.{stands}
-use Rattle.estelle_tree.specs.Specification.{IsSysAttr, IsAttr, IsDisc, IsQueue, IsHead, of_head, Distinct, AreHeads}
-use Rattle.token_reader.specs.Reader.{name}
-use Rattle.token_reader.specs.Lists.{optional}
-use Rattle.token_reader.proofs.Sound.{Sound, through, answered, name_sound, ended_sound, optional_sound}
-use Rattle.token_reader.proofs.Complete.{Anything, Complete, Shrinks, Advances, takes_advances, name_complete, ended_complete, chain_shrinks}
-use Rattle.type_parser.proofs.Begin.{Begins, shrinking, name_shrinks, enclosed_advances}
-use Rattle.type_parser.proofs.Definitions.{ended_advances}
+use Rattle.estelle_tree.specs.Specification.{IsSysAttr, IsAttr, IsDisc, IsQueue, IsHead, of_head, AreHeads}
+use Rattle.token_reader.specs.Reader.{Parser, ReadResult, and_then, pure, expect, name}
+use Rattle.token_reader.specs.Lists.{optional, ended}
+use Rattle.syntax_forms.specs.Kinds.{is}
+use Rattle.syntax_forms.specs.Form as form
+use Rattle.syntax_forms.specs.Form.{◌▸◌, ◌⊕◌}
+use Rattle.syntax_forms.specs.Repeats as repeats
+use Rattle.syntax_forms.specs.Reading.{one, ◌then◌, choose, closed}
+use Rattle.syntax_forms.proofs.NodeForms.{IsNode}
+use Rattle.syntax_forms.proofs.Lawful.{IsRead, IsLawful}
+use Rattle.syntax_forms.proofs.Rules as rules
 use Rattle.declaration_parser.specs.Forms.{enclosed}
-use Rattle.declaration_parser.specs.Attributes.{begins_sys_attr, begins_attr, begins_disc, begins_head, begins_second, sys_attr_by, sys_attr, system, attr_by, attr, disc_by, disc, queue, default_head, timescale_head, head_by, head, listed, heads}
-use Rattle.declaration_parser.specs.Laws.{EndsHeads}
-use Rattle.declaration_parser.proofs.Forms.{enclosed_sound, enclosed_complete, optional_there, optional_missing, optional_began}
+use Rattle.declaration_parser.specs.Attributes.{begins_default, begins_timescale, begins_head, begins_second, sys_attr, system, attr, disc, queue, default_head, timescale_head, head, listed, heads}
+use Rattle.declaration_parser.specs.Productions as forms
+use Rattle.declaration_parser.proofs.Forms.{agree, takes_first, there, refused, kept, enclosed_lawful}
+
+abbrev Word : Type 0
+Word = Unit {0}
 
 -- ---- attributes
 
-sys_attr_by_sound : (kind' : Kind) (i j : Input) (s : SysAttr) → kind i ≡ kind' → sys_attr_by (start i) kind' i ≡ Ok (s, j) → IsSysAttr s i j
-unfolding between
-sys_attr_by_sound k.Systemprocess i j s e h = answered IsSysAttr i j (next i) (a_sys_attr.Systemprocess (between i (next i))) s (record { kind = e; next = refl }, refl) h
-sys_attr_by_sound k.Systemactivity i j s e h = answered IsSysAttr i j (next i) (a_sys_attr.Systemactivity (between i (next i))) s (record { kind = e; next = refl }, refl) h
-sys_attr_by_sound _ i j s e h = absurd (cc)
+abbrev make_sys_attr : Word ⊎ Word → Span → SysAttr
+make_sys_attr (inl u) span = a_sys_attr.Systemprocess span
+make_sys_attr (inr u) span = a_sys_attr.Systemactivity span
 
-pub sys_attr_sound : Sound sys_attr IsSysAttr
+-- SysAttr = systemprocess | systemactivity
+pub sys_attr_lawful : IsLawful forms.sys_attr sys_attr
 unfolding sys_attr
-sys_attr_sound i j s h = sys_attr_by_sound (kind i) i j s refl h
+sys_attr_lawful = rules.spanned sys_attr told refl (rules.or (rules.word k.Systemprocess refl) (rules.word k.Systemactivity refl) refl refl).rest (λ i. same i (kind i) refl)
+  where
+    told : IsNode IsSysAttr (form.word k.Systemprocess ⊕ form.word k.Systemactivity).spells make_sys_attr
+    told = record { opened = opened; made = made }
+      where
+        opened : (i m : Input) (s : SysAttr) → IsSysAttr s i m → (form.built make_sys_attr (form.word k.Systemprocess ⊕ form.word k.Systemactivity)).spells s i m
+        opened i m (a_sys_attr.Systemprocess span) h = (inl tt, h.0, ap a_sys_attr.Systemprocess (sym h.1))
+        opened i m (a_sys_attr.Systemactivity span) h = (inr tt, h.0, ap a_sys_attr.Systemactivity (sym h.1))
 
-pub sys_attr_complete : Complete sys_attr IsSysAttr Anything
-unfolding sys_attr between
-sys_attr_complete i j (a_sys_attr.Systemprocess span) h end = rw (h.0.kind, h.0.next, ← h.1)
-sys_attr_complete i j (a_sys_attr.Systemactivity span) h end = rw (h.0.kind, h.0.next, ← h.1)
+        made : (i m : Input) (p : Word ⊎ Word) → (form.word k.Systemprocess ⊕ form.word k.Systemactivity).spells p i m → IsSysAttr (make_sys_attr p (between i m)) i m
+        made i m (inl u) t = (t, refl)
+        made i m (inr u) t = (t, refl)
 
-pub sys_attr_begins : Begins begins_sys_attr IsSysAttr
-sys_attr_begins i j (a_sys_attr.Systemprocess span) h = ap begins_sys_attr h.0.kind
-sys_attr_begins i j (a_sys_attr.Systemactivity span) h = ap begins_sys_attr h.0.kind
+    same : (i : Input) (x : Kind) → kind i ≡ x → sys_attr i ≡ choose (is k.Systemprocess) (one (expect k.Systemprocess)) (one (expect k.Systemactivity)) SysAttr (closed make_sys_attr (start i)) i
+    same i k.Systemprocess e = rw (e, there k.Systemprocess i e) refl
+    same i k.Systemactivity e = rw (e, there k.Systemactivity i e) refl
+    same i x e = rw (e, refused k.Systemactivity i (ap (is k.Systemactivity) e)) refl
 
-pub sys_attr_advances : Advances IsSysAttr
-sys_attr_advances i j (a_sys_attr.Systemprocess span) h = takes_advances k.Systemprocess (λ e. cc) i j h.0
-sys_attr_advances i j (a_sys_attr.Systemactivity span) h = takes_advances k.Systemactivity (λ e. cc) i j h.0
+abbrev make_attr : Word ⊎ (Word ⊎ SysAttr) → Span → Attr
+make_attr (inl u) span = an_attr.Process span
+make_attr (inr (inl u)) span = an_attr.Activity span
+make_attr (inr (inr s)) span = an_attr.SysAttr s
 
-system_sound : Sound system IsAttr
-unfolding system
-system_sound i j a h = through (sys_attr i) _ _ h (λ s b is h. answered IsAttr i j b (an_attr.SysAttr s) a (sys_attr_sound i b s is) h)
+-- Attr = SysAttr | process | activity
+pub attr_lawful : IsLawful forms.attr attr
+unfolding attr system
+attr_lawful = rules.spanned attr told refl (rules.or (rules.word k.Process refl) (rules.or (rules.word k.Activity refl) (rules.part sys_attr_lawful) refl refl) refl refl).rest (λ i. same i (kind i) refl)
+  where
+    told : IsNode IsAttr (form.word k.Process ⊕ form.word k.Activity ⊕ forms.sys_attr).spells make_attr
+    told = record { opened = opened; made = made }
+      where
+        opened : (i m : Input) (a : Attr) → IsAttr a i m → (form.built make_attr (form.word k.Process ⊕ form.word k.Activity ⊕ forms.sys_attr)).spells a i m
+        opened i m (an_attr.Process span) h = (inl tt, h.0, ap an_attr.Process (sym h.1))
+        opened i m (an_attr.Activity span) h = (inr (inl tt), h.0, ap an_attr.Activity (sym h.1))
+        opened i m (an_attr.SysAttr s) h = (inr (inr s), h, refl)
 
-attr_by_sound : (kind' : Kind) (i j : Input) (a : Attr) → kind i ≡ kind' → attr_by (start i) kind' i ≡ Ok (a, j) → IsAttr a i j
-unfolding between
-attr_by_sound k.Process i j a e h = answered IsAttr i j (next i) (an_attr.Process (between i (next i))) a (record { kind = e; next = refl }, refl) h
-attr_by_sound k.Activity i j a e h = answered IsAttr i j (next i) (an_attr.Activity (between i (next i))) a (record { kind = e; next = refl }, refl) h
-attr_by_sound _ i j a e h = system_sound i j a h
+        made : (i m : Input) (p : Word ⊎ (Word ⊎ SysAttr)) → (form.word k.Process ⊕ form.word k.Activity ⊕ forms.sys_attr).spells p i m → IsAttr (make_attr p (between i m)) i m
+        made i m (inl u) t = (t, refl)
+        made i m (inr (inl u)) t = (t, refl)
+        made i m (inr (inr s)) h = h
 
-pub attr_sound : Sound attr IsAttr
-unfolding attr
-attr_sound i j a h = attr_by_sound (kind i) i j a refl h
-
-by_system : (from : ℕ) (kind' : Kind) → begins_sys_attr kind' ≡ true → attr_by from kind' ≡ system
-by_system from k.Systemprocess e = refl
-by_system from k.Systemactivity e = refl
-by_system from _ e = absurd (cc)
-
-pub attr_complete : Complete attr IsAttr Anything
-unfolding attr system between
-attr_complete i j (an_attr.SysAttr s) h end = rw (by_system (start i) (kind i) (sys_attr_begins i j s h), sys_attr_complete i j s h tt)
-attr_complete i j (an_attr.Process span) h end = rw (h.0.kind, h.0.next, ← h.1)
-attr_complete i j (an_attr.Activity span) h end = rw (h.0.kind, h.0.next, ← h.1)
-
-wider : (kind' : Kind) → begins_sys_attr kind' ≡ true → begins_attr kind' ≡ true
-wider k.Systemprocess e = refl
-wider k.Systemactivity e = refl
-wider _ e = absurd (cc)
-
-pub attr_begins : Begins begins_attr IsAttr
-attr_begins i j (an_attr.SysAttr s) h = wider (kind i) (sys_attr_begins i j s h)
-attr_begins i j (an_attr.Process span) h = ap begins_attr h.0.kind
-attr_begins i j (an_attr.Activity span) h = ap begins_attr h.0.kind
-
-pub attr_advances : Advances IsAttr
-attr_advances i j (an_attr.SysAttr s) h = sys_attr_advances i j s h
-attr_advances i j (an_attr.Process span) h = takes_advances k.Process (λ e. cc) i j h.0
-attr_advances i j (an_attr.Activity span) h = takes_advances k.Activity (λ e. cc) i j h.0
+    same : (i : Input) (x : Kind) → kind i ≡ x → attr i ≡ choose (is k.Process) (one (expect k.Process)) (choose (is k.Activity) (one (expect k.Activity)) (one sys_attr)) Attr (closed make_attr (start i)) i
+    same i k.Process e = rw (e, there k.Process i e) refl
+    same i k.Activity e = rw (e, e, there k.Activity i e) refl
+    same i x e = rw (e, e) refl
 
 -- ---- queues
 
-disc_by_sound : (kind' : Kind) (i j : Input) (d : Disc) → kind i ≡ kind' → disc_by (start i) kind' i ≡ Ok (d, j) → IsDisc d i j
-unfolding between
-disc_by_sound k.Individual i j d e h = answered IsDisc i j (next i) (a_disc.Individual (between i (next i))) d (record { kind = e; next = refl }, refl) h
-disc_by_sound k.Common i j d e h = answered IsDisc i j (next i) (a_disc.Common (between i (next i))) d (record { kind = e; next = refl }, refl) h
-disc_by_sound _ i j d e h = absurd (cc)
+abbrev make_disc : Word ⊎ Word → Span → Disc
+make_disc (inl u) span = a_disc.Individual span
+make_disc (inr u) span = a_disc.Common span
 
-disc_sound : Sound disc IsDisc
+-- Disc = individual | common
+pub disc_lawful : IsLawful forms.disc disc
 unfolding disc
-disc_sound i j d h = disc_by_sound (kind i) i j d refl h
+disc_lawful = rules.spanned disc told refl (rules.or (rules.word k.Individual refl) (rules.word k.Common refl) refl refl).rest (λ i. same i (kind i) refl)
+  where
+    told : IsNode IsDisc (form.word k.Individual ⊕ form.word k.Common).spells make_disc
+    told = record { opened = opened; made = made }
+      where
+        opened : (i m : Input) (d : Disc) → IsDisc d i m → (form.built make_disc (form.word k.Individual ⊕ form.word k.Common)).spells d i m
+        opened i m (a_disc.Individual span) h = (inl tt, h.0, ap a_disc.Individual (sym h.1))
+        opened i m (a_disc.Common span) h = (inr tt, h.0, ap a_disc.Common (sym h.1))
 
-disc_complete : Complete disc IsDisc Anything
-unfolding disc between
-disc_complete i j (a_disc.Individual span) h end = rw (h.0.kind, h.0.next, ← h.1)
-disc_complete i j (a_disc.Common span) h end = rw (h.0.kind, h.0.next, ← h.1)
+        made : (i m : Input) (p : Word ⊎ Word) → (form.word k.Individual ⊕ form.word k.Common).spells p i m → IsDisc (make_disc p (between i m)) i m
+        made i m (inl u) t = (t, refl)
+        made i m (inr u) t = (t, refl)
 
-disc_begins : Begins begins_disc IsDisc
-disc_begins i j (a_disc.Individual span) h = ap begins_disc h.0.kind
-disc_begins i j (a_disc.Common span) h = ap begins_disc h.0.kind
+    same : (i : Input) (x : Kind) → kind i ≡ x → disc i ≡ choose (is k.Individual) (one (expect k.Individual)) (one (expect k.Common)) Disc (closed make_disc (start i)) i
+    same i k.Individual e = rw (e, there k.Individual i e) refl
+    same i k.Common e = rw (e, there k.Common i e) refl
+    same i x e = rw (e, refused k.Common i (ap (is k.Common) e)) refl
 
-disc_advances : Advances IsDisc
-disc_advances i j (a_disc.Individual span) h = takes_advances k.Individual (λ e. cc) i j h.0
-disc_advances i j (a_disc.Common span) h = takes_advances k.Common (λ e. cc) i j h.0
-
-pub queue_sound : Sound queue IsQueue
-queue_sound = ended_sound disc IsDisc disc_sound k.Queue
-
-pub queue_complete : Complete queue IsQueue Anything
-queue_complete = ended_complete disc IsDisc Anything disc_complete k.Queue (λ j e. tt)
-
-pub queue_begins : Begins begins_disc IsQueue
-queue_begins i j d h = disc_begins i h.mid d h.item
-
-pub queue_advances : Advances IsQueue
-queue_advances = ended_advances k.Queue IsDisc disc_advances
+-- `Disc queue`
+pub queue_lawful : IsLawful forms.queue queue
+unfolding ended
+queue_lawful = rules.made queue told (rules.and (rules.part disc_lawful) (rules.word k.Queue refl) refl).rest (λ i. refl)
+  where
+    told : IsNode IsQueue (forms.disc ▸ form.word k.Queue).spells (λ p span. p.0)
+    told = record { opened = λ i m d h. ((d, tt), (h.mid, h.item, h.mark), refl); made = λ i m p h. record { mid = h.0; item = h.1; mark = h.2 } }
 
 -- ---- heads
 
-default_head_sound : Sound default_head IsHead
-unfolding default_head between
-default_head_sound i j x h = through (enclosed k.Default k.Semicolon queue i) _ _ h (λ d a is h.
-    answered IsHead i j a (a_head.Default d (between i a)) x (enclosed_sound queue IsQueue queue_sound k.Default k.Semicolon i a d is, refl) h)
+-- `default Disc queue ";"`
+default_lawful : IsLawful forms.default_head default_head
+unfolding default_head
+default_lawful = rules.built a_head.Default default_head refl (rules.part (enclosed_lawful queue k.Default k.Semicolon refl refl (rules.part queue_lawful) refl)).rest (λ i. refl)
 
-timescale_head_sound : Sound timescale_head IsHead
-unfolding timescale_head between
-timescale_head_sound i j x h = through (enclosed k.Timescale k.Semicolon name i) _ _ h (λ n a is h.
-    answered IsHead i j a (a_head.Timescale n (between i a)) x (enclosed_sound name IsName name_sound k.Timescale k.Semicolon i a n is, refl) h)
+default_is : (i m : Input) (x : Head) → forms.default_head.spells x i m → IsHead x i m × (of_head x ≡ k.Default)
+default_is i m x (d, h, e) = subst (λ x. IsHead x i m × (of_head x ≡ k.Default)) e ((h, refl), refl)
 
-head_by_sound : (kind' : Kind) → Sound (head_by kind') IsHead
-head_by_sound k.Default i j x h = default_head_sound i j x h
-head_by_sound k.Timescale i j x h = timescale_head_sound i j x h
-head_by_sound _ i j x h = absurd (cc)
+-- `timescale NAME ";"`
+timescale_lawful : IsLawful forms.timescale_head timescale_head
+unfolding timescale_head
+timescale_lawful = rules.built a_head.Timescale timescale_head refl (rules.part (enclosed_lawful name k.Timescale k.Semicolon refl refl rules.name refl)).rest (λ i. refl)
 
-pub head_sound : Sound head IsHead
-unfolding head
-head_sound i j x h = head_by_sound (kind i) i j x h
+timescale_is : (i m : Input) (x : Head) → forms.timescale_head.spells x i m → IsHead x i m × (of_head x ≡ k.Timescale)
+timescale_is i m x (n, h, e) = subst (λ x. IsHead x i m × (of_head x ≡ k.Timescale)) e ((h, refl), refl)
 
-pub head_complete : Complete head IsHead Anything
-unfolding head default_head timescale_head between
-head_complete i j (a_head.Default d span) h end =
-    rw (h.0.opens.kind, enclosed_complete queue IsQueue Anything queue_complete k.Default k.Semicolon (λ j e. tt) i j d h.0 tt, ← h.1)
-head_complete i j (a_head.Timescale n span) h end =
-    rw (h.0.opens.kind, enclosed_complete name IsName Anything name_complete k.Timescale k.Semicolon (λ j e. tt) i j n h.0 tt, ← h.1)
+abbrev either : Head ⊎ Head → Head
+either (inl x) = x
+either (inr x) = x
 
-head_kind : (x : Head) (i j : Input) → IsHead x i j → kind i ≡ of_head x
-head_kind (a_head.Default d span) i j h = h.0.opens.kind
-head_kind (a_head.Timescale n span) i j h = h.0.opens.kind
+-- Head = default Disc queue ";" | timescale NAME ";"
+pub head_lawful : IsLawful forms.head head
+unfolding head timescale_head enclosed
+head_lawful = rules.made head told (rules.or (rules.part default_lawful) (rules.part timescale_lawful) refl refl).rest (λ i. same i (kind i) refl)
+  where
+    told : IsNode IsHead (forms.default_head ⊕ forms.timescale_head).spells (λ p span. either p)
+    told = record { opened = opened; made = made }
+      where
+        opened : (i m : Input) (x : Head) → IsHead x i m → (p : Head ⊎ Head) × (forms.default_head ⊕ forms.timescale_head).spells p i m × (either p ≡ x)
+        opened i m (a_head.Default d span) h = (inl (a_head.Default d span), (d, h.0, ap (a_head.Default d) (sym h.1)), refl)
+        opened i m (a_head.Timescale n span) h = (inr (a_head.Timescale n span), (n, h.0, ap (a_head.Timescale n) (sym h.1)), refl)
 
-of_head_begins : (x : Head) → begins_head (of_head x) ≡ true
-of_head_begins (a_head.Default d span) = refl
-of_head_begins (a_head.Timescale n span) = refl
+        made : (i m : Input) (p : Head ⊎ Head) → (forms.default_head ⊕ forms.timescale_head).spells p i m → IsHead (either p) i m
+        made i m (inl x) h = (default_is i m x h).0
+        made i m (inr x) h = (timescale_is i m x h).0
 
-pub head_begins : Begins begins_head IsHead
-head_begins i j x h = ap begins_head (head_kind x i j h) ∙ of_head_begins x
+    same : (i : Input) (x : Kind) → kind i ≡ x → head i ≡ choose forms.default_head.first (one default_head) (one timescale_head) Head (λ p. pure (either p)) i
+    same i k.Default e = rw e (kept (default_head i))
+    same i k.Timescale e = rw e (kept (timescale_head i))
+    same i x e = rw (e, refused k.Timescale i (ap (is k.Timescale) e)) refl
 
-pub head_advances : Advances IsHead
-head_advances i j (a_head.Default d span) h = enclosed_advances k.Default k.Semicolon IsQueue (λ e. cc) (shrinking IsQueue queue_advances) i j d h.0
-head_advances i j (a_head.Timescale n span) h = enclosed_advances k.Timescale k.Semicolon IsName (λ e. cc) name_shrinks i j n h.0
+-- ---- `{Head}`: each form at most once
 
--- ---- each form at most once
+abbrev Pair : Type 0
+Pair = (Head × Option Head) ⊎ (Head × Option Head)
 
-second_differs : (first second : Kind) → begins_second first second ≡ true → stands first (second ∷ []) ≡ false
-unfolding stands
-second_differs k.Default k.Timescale e = refl
-second_differs k.Timescale k.Default e = refl
-second_differs k.Default _ e = absurd (cc)
-second_differs k.Timescale _ e = absurd (cc)
-second_differs _ _ e = absurd (cc)
+-- a head and one of the other form
+some_heads : Parser Pair
+some_heads i = choose (forms.default_head ▸ repeats.may forms.timescale_head).first (one default_head then one (optional begins_timescale timescale_head)) (one timescale_head then one (optional begins_default default_head)) Pair (λ p. pure p) i
 
--- two heads at most, the second of the other form
-pair_of_heads : (first second : Option Head) (i a b : Input) → spelling.Optional IsHead first i a → spelling.Optional IsHead second a b
-    → ((x : Head) → second ≡ Some x → begins_second (kind i) (kind a) ≡ true) → AreHeads (listed first ++ listed second) i b
-unfolding stands
-pair_of_heads None None i a b h h' other = record { heads = h ∙ h'; once = tt }
-pair_of_heads None (Some y) i a b h h' other = record { heads = (b, subst (λ i. IsHead y i b) (sym h) h', refl); once = (refl, tt) }
-pair_of_heads (Some x) None i a b h h' other = record { heads = (a, h, h'); once = (refl, tt) }
-pair_of_heads (Some x) (Some y) i a b h h' other =
-    let differs = second_differs (kind i) (kind a) (other y refl) in
-    record {
-      heads = (a, h, (b, h', refl));
-      once = (subst (λ first. stands first (of_head y ∷ []) ≡ false) (head_kind x i a h) (subst (λ second. stands (kind i) (second ∷ []) ≡ false) (head_kind y a b h') differs), (refl, tt));
-    }
+some_lawful : IsLawful forms.some_heads some_heads
+unfolding some_heads
+some_lawful = rules.made some_heads told (rules.or (rules.and (rules.part default_lawful) may_be_timescale refl) (rules.and (rules.part timescale_lawful) may_be_default refl) refl refl).rest (λ i. refl)
+  where
+    told : IsNode forms.some_heads.spells forms.some_heads.spells (λ p span. p)
+    told = record { opened = λ i m p h. (p, h, refl); made = λ i m p h. h }
 
-pub heads_sound : Sound heads AreHeads
-unfolding heads
-heads_sound i j hs h =
-    through (optional begins_head head i) _ _ h (λ first a one h.
-    through (optional (begins_second (kind i)) head a) _ _ h (λ second b two h.
-    answered AreHeads i j b (listed first ++ listed second) hs (pair_of_heads first second i a b
-    (optional_sound head IsHead head_sound begins_head i a first one)
-    (optional_sound head IsHead head_sound (begins_second (kind i)) a b second two)
-    (λ x e. optional_began (begins_second (kind i)) head a b x (subst (λ second. optional (begins_second (kind i)) head a ≡ Ok (second, b)) e two))) h))
+    may_be_default : IsRead (repeats.may forms.default_head) (one (optional begins_default default_head))
+    may_be_default = rules.may begins_default default_lawful refl (agree begins_default forms.default_head.first refl) (λ i s. inr (next i, takes_first forms.default_head k.Default refl i s, inl (queue_lawful.form.nothing (next i)))) refl
 
-no_second : (first second : Kind) → begins_head second ≡ false → begins_second first second ≡ false
-no_second k.Default k.Timescale e = absurd (cc)
-no_second k.Timescale k.Default e = absurd (cc)
-no_second k.Default _ e = refl
-no_second k.Timescale _ e = refl
-no_second _ _ e = refl
+    may_be_timescale : IsRead (repeats.may forms.timescale_head) (one (optional begins_timescale timescale_head))
+    may_be_timescale = rules.may begins_timescale timescale_lawful refl (agree begins_timescale forms.timescale_head.first refl) (λ i s. inr (next i, takes_first forms.timescale_head k.Timescale refl i s, inl refl)) refl
 
-second_begins : (x y : Head) → stands (of_head x) (of_head y ∷ []) ≡ false → begins_second (of_head x) (of_head y) ≡ true
-unfolding stands
-second_begins (a_head.Default d span) (a_head.Timescale n span') e = refl
-second_begins (a_head.Timescale n span') (a_head.Default d span) e = refl
-second_begins (a_head.Default d span) (a_head.Default d' span') e = absurd (cc)
-second_begins (a_head.Timescale n span) (a_head.Timescale n' span') e = absurd (cc)
+make_heads : Option Pair → List Head
+make_heads None = []
+make_heads (Some (inl (x, y))) = x ∷ listed y
+make_heads (Some (inr (x, y))) = x ∷ listed y
 
-no_third : (x y z : Head) (kinds : List Kind) → stands (of_head x) (of_head y ∷ of_head z ∷ kinds) ≡ false → stands (of_head y) (of_head z ∷ kinds) ≡ false → ⊥
-unfolding stands
-no_third (a_head.Default d span) (a_head.Default d' span') z kinds e f = absurd (cc)
-no_third (a_head.Timescale n span) (a_head.Timescale n' span') z kinds e f = absurd (cc)
-no_third (a_head.Default d span) (a_head.Timescale n span') (a_head.Default d' span'') kinds e f = absurd (cc)
-no_third (a_head.Default d span) (a_head.Timescale n span') (a_head.Timescale n' span'') kinds e f = absurd (cc)
-no_third (a_head.Timescale n span) (a_head.Default d span') (a_head.Timescale n' span'') kinds e f = absurd (cc)
-no_third (a_head.Timescale n span) (a_head.Default d span') (a_head.Default d' span'') kinds e f = absurd (cc)
+-- the second is of the other form
+timescale_second : (a : Input) (x : Kind) → kind a ≡ x → optional (begins_second k.Default) head a ≡ optional begins_timescale timescale_head a
+unfolding optional head
+timescale_second a k.Timescale e = rw (e, e) refl
+timescale_second a x e = rw e refl
 
-heads_over : (hs : List Head) (i j : Input) → Chain IsHead hs i j → Distinct (map of_head hs) → EndsHeads j → heads i ≡ Ok (hs, j)
-unfolding heads
-heads_over [] i j r once end =
-    rw (r, optional_missing begins_head head j end, optional_missing (begins_second (kind j)) head j (no_second (kind j) (kind j) end))
-heads_over (x ∷ []) i j r once end =
-    rw (
-      optional_there begins_head head i r.0 x (head_begins i r.0 x r.1) (head_complete i r.0 x r.1 tt),
-      r.2,
-      optional_missing (begins_second (kind i)) head j (no_second (kind i) (kind j) end),
-    )
-heads_over (x ∷ y ∷ []) i j r once end =
-    let both = ap (λ first. begins_second first (kind r.0)) (head_kind x i r.0 r.1) ∙ ap (λ second. begins_second (of_head x) second) (head_kind y r.0 r.2.0 r.2.1) ∙ second_begins x y once.0 in
-    rw (
-      optional_there begins_head head i r.0 x (head_begins i r.0 x r.1) (head_complete i r.0 x r.1 tt),
-      optional_there (begins_second (kind i)) head r.0 r.2.0 y both (head_complete r.0 r.2.0 y r.2.1 tt),
-      r.2.2,
-    )
-heads_over (x ∷ y ∷ z ∷ hs) i j r once end = absurd (no_third x y z (map of_head hs) once.0 once.1.0)
+default_second : (a : Input) (x : Kind) → kind a ≡ x → optional (begins_second k.Timescale) head a ≡ optional begins_default default_head a
+unfolding optional head
+default_second a k.Default e = rw (e, e) refl
+default_second a x e = rw e refl
 
-pub heads_complete : Complete heads AreHeads EndsHeads
-heads_complete i j hs h end = heads_over hs i j h.heads h.once end
+pub heads_lawful : IsLawful forms.heads heads
+unfolding heads head make_heads some_heads optional stands
+heads_lawful = rules.made heads told (rules.may begins_head some_lawful refl (agree begins_head forms.some_heads.first refl) (λ i s. takes i (kind i) refl s) refl).rest (λ i. same i (kind i) refl)
+  where
+    takes : (i : Input) (x : Kind) → kind i ≡ x → forms.some_heads.first x ≡ true → forms.some_heads.begins i (next i)
+    takes i k.Default e s = inl (inl (inr (next i, record { kind = e; next = refl }, inl (queue_lawful.form.nothing (next i)))))
+    takes i k.Timescale e s = inr (inl (inr (next i, record { kind = e; next = refl }, inl refl)))
+    takes i _ e s = absurd (cc)
 
-pub heads_shrinks : Shrinks AreHeads
-heads_shrinks i j hs h = chain_shrinks IsHead (shrinking IsHead head_advances) i j hs h.heads
+    told : IsNode AreHeads (repeats.may forms.some_heads).spells (λ o span. make_heads o)
+    told = record { opened = opened; made = made }
+      where
+        no : true ≡ false → ⊥
+        no e = cc
+
+        opened : (i m : Input) (hs : List Head) → AreHeads hs i m → (o : Option Pair) × (repeats.may forms.some_heads).spells o i m × (make_heads o ≡ hs)
+        opened i m [] h = (None, h.heads, refl)
+        opened i m (a_head.Default d span ∷ []) h = let r = h.heads in (Some (inl (a_head.Default d span, None)), (r.0, (d, r.1.0, ap (a_head.Default d) (sym r.1.1)), r.2), refl)
+        opened i m (a_head.Timescale n span ∷ []) h = let r = h.heads in (Some (inr (a_head.Timescale n span, None)), (r.0, (n, r.1.0, ap (a_head.Timescale n) (sym r.1.1)), r.2), refl)
+        opened i m (a_head.Default d span ∷ a_head.Timescale n span' ∷ []) h =
+            let r = h.heads in
+            (Some (inl (a_head.Default d span, Some (a_head.Timescale n span'))), (r.0, (d, r.1.0, ap (a_head.Default d) (sym r.1.1)), subst (λ m. forms.timescale_head.spells (a_head.Timescale n span') r.0 m) r.2.2 (n, r.2.1.0, ap (a_head.Timescale n) (sym r.2.1.1))), refl)
+        opened i m (a_head.Timescale n span ∷ a_head.Default d span' ∷ []) h =
+            let r = h.heads in
+            (Some (inr (a_head.Timescale n span, Some (a_head.Default d span'))), (r.0, (n, r.1.0, ap (a_head.Timescale n) (sym r.1.1)), subst (λ m. forms.default_head.spells (a_head.Default d span') r.0 m) r.2.2 (d, r.2.1.0, ap (a_head.Default d) (sym r.2.1.1))), refl)
+        opened i m (a_head.Default d span ∷ a_head.Default d' span' ∷ hs) h = absurd (no h.once.0)
+        opened i m (a_head.Timescale n span ∷ a_head.Timescale n' span' ∷ hs) h = absurd (no h.once.0)
+        opened i m (a_head.Default d span ∷ a_head.Timescale n span' ∷ a_head.Default d' span'' ∷ hs) h = absurd (no h.once.0)
+        opened i m (a_head.Default d span ∷ a_head.Timescale n span' ∷ a_head.Timescale n' span'' ∷ hs) h = absurd (no h.once.1.0)
+        opened i m (a_head.Timescale n span ∷ a_head.Default d span' ∷ a_head.Timescale n' span'' ∷ hs) h = absurd (no h.once.0)
+        opened i m (a_head.Timescale n span ∷ a_head.Default d span' ∷ a_head.Default d' span'' ∷ hs) h = absurd (no h.once.1.0)
+
+        made : (i m : Input) (o : Option Pair) → (repeats.may forms.some_heads).spells o i m → AreHeads (make_heads o) i m
+        made i m None h = record { heads = h; once = tt }
+        made i m (Some (inl (x, None))) (a, h, e) = record { heads = (a, (default_is i a x h).0, e); once = (refl, tt) }
+        made i m (Some (inr (x, None))) (a, h, e) = record { heads = (a, (timescale_is i a x h).0, e); once = (refl, tt) }
+        made i m (Some (inl (x, Some y))) (a, h, g) =
+            let one = default_is i a x h in let two = timescale_is a m y g in record { heads = (a, one.0, (m, two.0, refl)); once = (rw (one.1, two.1) refl, (refl, tt)) }
+        made i m (Some (inr (x, Some y))) (a, h, g) =
+            let one = timescale_is i a x h in let two = default_is a m y g in record { heads = (a, one.0, (m, two.0, refl)); once = (rw (one.1, two.1) refl, (refl, tt)) }
+
+    paired : (side : Head × Option Head → Pair) → ((p : Head × Option Head) → make_heads (Some (side p)) ≡ p.0 ∷ listed p.1) → (first : ReadResult Head) (second other : Parser (Option Head)) → ((a : Input) → second a ≡ other a)
+        → and_then (and_then first (λ x. pure (Some x))) (λ x a. and_then (second a) (λ y. pure (listed x ++ listed y))) ≡ and_then (and_then (and_then first (λ x a. and_then (other a) (λ y. pure (side (x, y))))) (λ p. pure (Some p))) (λ o. pure (make_heads o))
+    paired side e (Err r) second other same = refl
+    paired side e (Ok p) second other same = rw (same p.1) (by (other p.1))
+      where
+        by : (o : ReadResult (Option Head)) → and_then o (λ y. pure (p.0 ∷ listed y)) ≡ and_then (and_then (and_then o (λ y. pure (side (p.0, y)))) (λ p. pure (Some p))) (λ o. pure (make_heads o))
+        by (Ok q) = ap (λ hs. Ok (hs, q.1)) (sym (e (p.0, q.0)))
+        by (Err r) = refl
+
+    same : (i : Input) (x : Kind) → kind i ≡ x → heads i ≡ and_then (optional begins_head some_heads i) (λ o. pure (make_heads o))
+    same i k.Default e = rw (e, e) (paired (λ p. inl p) (λ p. refl) (default_head i) (optional (begins_second k.Default) head) (optional begins_timescale timescale_head) (λ a. timescale_second a (kind a) refl))
+    same i k.Timescale e = rw (e, e) (paired (λ p. inr p) (λ p. refl) (timescale_head i) (optional (begins_second k.Timescale) head) (optional begins_default default_head) (λ a. default_second a (kind a) refl))
+    same i x e = rw e refl

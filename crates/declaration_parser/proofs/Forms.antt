@@ -1,123 +1,136 @@
--- The laws of forms that stand in one another.
-use Rattle.std.proofs.Common.{◌≡◌, Bool, true, false, List, [], ◌∷◌, Option, Some, None, Ok, refl, ap, arith}
+-- The laws of forms that stand in one another, and what the law of a form says of its parser.
+use Rattle.std.proofs.Common.{◌≡◌, Bool, true, false, List, [], ◌∷◌, Option, Some, None, Ok, Err, sym, refl, ap, ◌∙◌, inl, inr}
+use Rattle.std.specs.Prelude.{◌||◌, ◌&&◌, not}
 use Rattle.estelle_tree.specs.declared.kind.Kind.{Kind}
 use Rattle.estelle_tree.specs.declared.kind.Kind.TheVariants as k
-use Rattle.estelle_tree.specs.Input.{Input, kind}
-use Rattle.estelle_tree.specs.Spelling.{Spelling, Behind, Enclosed, Joined, Lines, MayBeLines}
-use Rattle.token_reader.specs.Reader.{Parser, sees, expect}
-use Rattle.token_reader.specs.Lists.{optional_if, optional}
-use Rattle.token_reader.proofs.Sound.{Sound, through, answered, ok_pair, expect_sound}
-use Rattle.token_reader.proofs.Complete.{After, Anything, Complete, Shrinks, Advances, unique, sees_takes, unseen, expect_complete}
+use Rattle.estelle_tree.specs.Input.{Input, kind, next}
+use Rattle.estelle_tree.specs.Spelling.{Spelling, Takes, Behind, Enclosed, Joined, Lines, MayBeLines}
+use Rattle.token_reader.specs.Reader.{Parser, ReadResult, and_then, pure, refuse, sees, expect}
+use Rattle.token_reader.specs.Lists.{optional_if, optional, several, ended}
+use Rattle.token_reader.proofs.Sound.{Sound}
+use Rattle.token_reader.proofs.Complete.{After, Anything, Complete, unique, unseen, expect_complete}
+use Rattle.syntax_forms.specs.Kinds.{is, of_all}
+use Rattle.syntax_forms.specs.Form as form
+use Rattle.syntax_forms.specs.Form.{Form, ◌▸◌}
+use Rattle.syntax_forms.specs.Repeats as repeats
+use Rattle.syntax_forms.specs.Reading.{one}
+use Rattle.syntax_forms.proofs.KindLaws.{is_it, not_is, each, within, ends_always}
+use Rattle.syntax_forms.proofs.Firsts.{in_a_row}
+use Rattle.syntax_forms.proofs.NodeForms.{IsNode}
+use Rattle.syntax_forms.proofs.Lawful.{IsRead, IsLawful, Ends, Starts, Follows}
+use Rattle.syntax_forms.proofs.Rules as rules
+use Rattle.type_parser.specs.Types.{begins_name}
 use Rattle.type_parser.specs.Definitions.{part}
-use Rattle.type_parser.proofs.Begin.{Begins, shrinking}
-use Rattle.type_parser.proofs.Definitions.{EndsPart, part_sound, part_complete, part_advances}
 use Rattle.declaration_parser.specs.Forms.{enclosed, joined, part_if, may_be_part}
+use Rattle.declaration_parser.specs.Productions as forms
 use Rattle.declaration_parser.specs.Laws.{IsClosed, IsOpen}
 
--- ---- what is read is spelled so
+-- ---- tests and terminals
 
-pub enclosed_sound : {A : Type 0} (item : Parser A) (P : Spelling A) → Sound item P → (opener closer : Kind) → Sound (enclosed opener closer item) (Enclosed opener closer P)
-unfolding enclosed
-enclosed_sound item P sound opener closer i j x h =
-    through (expect opener i) _ _ h (λ u a opens h.
-    through (item a) _ _ h (λ y b is h.
-    through (expect closer b) _ _ h (λ v c closes h.
-    answered (Enclosed opener closer P) i j c y x (record {
-      at = a;
-      mid = b;
-      opens = expect_sound opener i a u opens;
-      inside = sound a b y is;
-      closes = expect_sound closer b c v closes;
-    }) h)))
-
--- both of `x k y`
-abbrev pub Both : {A B : Type 0} → Kind → Spelling A → Spelling B → Spelling (A × B)
-Both kind' P Q x i j = Joined kind' P Q x.0 x.1 i j
-
-pub joined_sound : {A B : Type 0} (first : Parser A) (P : Spelling A) → Sound first P → (second : Parser B) (Q : Spelling B) → Sound second Q → (kind' : Kind) → Sound (joined kind' first second) (Both kind' P Q)
-unfolding joined
-joined_sound first P sound second Q sound' kind' i j x h =
-    through (first i) _ _ h (λ y a is h.
-    through (expect kind' a) _ _ h (λ u b mark h.
-    through (second b) _ _ h (λ z c too h.
-    answered (Both kind' P Q) i j c (y, z) x (record {
-      mid = a;
-      at = b;
-      first = sound i a y is;
-      mark = expect_sound kind' a b u mark;
-      second = sound' b c z too;
-    }) h)))
-
-some_lines : {A : Type 0} (P : Spelling A) (first : Kind) (xs : List A) (i j : Input) → Behind first (Lines P) xs i j → MayBeLines first P xs i j
-some_lines P first [] i j h = absurd h.item
-some_lines P first (x ∷ xs) i j h = h
-
-pub may_be_part_sound : {A : Type 0} (item : Parser A) (P : Spelling A) → Sound item P → (first : Kind) (begins : Kind → Bool) → Sound (may_be_part first begins item) (MayBeLines first P)
-unfolding may_be_part
-may_be_part_sound {A} item P sound first begins i j xs h = go (sees first i) h
+-- what agrees on all terminals agrees on each
+pub agree : (p q : Kind → Bool) → of_all (λ x. (p x && q x) || not (p x || q x)) ≡ true → (x : Kind) → p x ≡ q x
+agree p q all x = by (p x) (q x) (each (λ x. (p x && q x) || not (p x || q x)) all x)
   where
-    go : (b : Bool) → part_if b (part first begins item) i ≡ Ok (xs, j) → MayBeLines first P xs i j
-    go true h = some_lines P first xs i j (part_sound item P sound first begins i j xs h)
-    go false h = answered (MayBeLines first P) i j i [] xs refl h
+    by : (a b : Bool) → ((a && b) || not (a || b)) ≡ true → a ≡ b
+    by true true e = refl
+    by false false e = refl
+    by true false e = absurd (cc)
+    by false true e = absurd (cc)
 
--- ---- that tokens are taken
+-- the terminal that alone begins a form
+pub takes_first : {A : Type 0} (F : Form A) (word : Kind) → of_all (λ x. is word x || not (F.first x)) ≡ true → (i : Input) → Starts F i → Takes word i (next i)
+takes_first F word only i s = record { kind = is_it word (kind i) (within F.first (is word) only (kind i) s); next = refl }
 
-pub may_be_lines_shrinks : {A : Type 0} (P : Spelling A) → Advances P → (first : Kind) → (k.Nothing ≡ first → ⊥) → Shrinks (MayBeLines first P)
-may_be_lines_shrinks P advances first is_token i j [] h = rw h (omega arith)
-may_be_lines_shrinks P advances first is_token i j (x ∷ xs) h = shrinking (Behind first (Lines P)) (part_advances P advances first is_token) i j (x ∷ xs) h
+-- it comes, or another one is refused
+pub there : (word : Kind) (i : Input) → kind i ≡ word → expect word i ≡ Ok (tt, next i)
+there word i e = expect_complete word i (next i) (record { kind = e; next = refl })
 
--- ---- what is spelled is read
+pub refused : (word : Kind) (i : Input) → is word (kind i) ≡ false → expect word i ≡ refuse i
+unfolding expect
+refused word i e = rw (unseen word i (not_is word (kind i) e)) refl
 
-pub enclosed_complete : {A : Type 0} (item : Parser A) (P : Spelling A) (end : After) → Complete item P end → (opener closer : Kind) → ((j : Input) → kind j ≡ closer → end j)
-    → Complete (enclosed opener closer item) (Enclosed opener closer P) Anything
+-- what is read and kept as it is
+pub kept : {A : Type 0} (o : ReadResult A) → o ≡ and_then o (λ x. pure x)
+kept (Ok p) = refl
+kept (Err e) = refl
+
+-- ---- forms in one another
+
+-- `from x to`
+pub enclosed_lawful : {A : Type 0} {F : Form A} (p : Parser A) (opener closer : Kind) → is opener k.Nothing ≡ false → is closer k.Nothing ≡ false → IsRead F (one p) → Follows F (form.word closer) → IsLawful (forms.enclosed opener closer F) (enclosed opener closer p)
 unfolding enclosed
-enclosed_complete item P end complete opener closer ends i j x h stop =
-    rw (expect_complete opener i h.at h.opens, complete h.at h.mid x h.inside (ends h.mid h.closes.kind), expect_complete closer h.mid j h.closes)
-
-pub joined_complete : {A B : Type 0} (first : Parser A) (P : Spelling A) (end : After) → Complete first P end → (second : Parser B) (Q : Spelling B) (last : After) → Complete second Q last
-    → (kind' : Kind) → ((j : Input) → kind j ≡ kind' → end j) → (i j : Input) (x : A) (y : B) → Joined kind' P Q x y i j → last j → joined kind' first second i ≡ Ok ((x, y), j)
-unfolding joined
-joined_complete first P end complete second Q last complete' kind' ends i j x y h stop =
-    rw (complete i h.mid x h.first (ends h.mid h.mark.kind), expect_complete kind' h.mid h.at h.mark, complete' h.at j y h.second stop)
-
--- a part that may be missing ends where neither another item nor the part itself can begin
-pub may_be_part_complete : {A : Type 0} (item : Parser A) (P : Spelling A) (end : After) → Complete item P end → Advances P
-    → (first : Kind) (begins : Kind → Bool) → Begins begins P → ((j : Input) → kind j ≡ k.Semicolon → end j)
-    → Complete (may_be_part first begins item) (MayBeLines first P) (λ j. EndsPart begins j × (kind j ≡ first → ⊥))
-unfolding may_be_part
-may_be_part_complete item P end complete advances first begins starts ends i j [] h stop = rw (h, unseen first j stop.1)
-may_be_part_complete item P end complete advances first begins starts ends i j (x ∷ xs) h stop =
-    rw (sees_takes first i h.at h.mark, part_complete item P end complete advances first begins starts ends i j (x ∷ xs) h stop.0)
-
--- what a test on the next kind says of a part
-pub optional_there : {A : Type 0} (begins : Kind → Bool) (item : Parser A) (i j : Input) (x : A) → begins (kind i) ≡ true → item i ≡ Ok (x, j) → optional begins item i ≡ Ok (Some x, j)
-unfolding optional
-optional_there begins item i j x begin is = rw (begin, is)
-
-pub optional_missing : {A : Type 0} (begins : Kind → Bool) (item : Parser A) (i : Input) → begins (kind i) ≡ false → optional begins item i ≡ Ok (None, i)
-unfolding optional
-optional_missing begins item i none = rw none
-
-none_some : {A : Type 0} (o : Option A) (x : A) → o ≡ None → o ≡ Some x → ⊥
-none_some o x e f = cc
-
-pub optional_began : {A : Type 0} (begins : Kind → Bool) (item : Parser A) (i j : Input) (x : A) → optional begins item i ≡ Ok (Some x, j) → begins (kind i) ≡ true
-unfolding optional
-optional_began {A} begins item i j x h = go (begins (kind i)) refl h
+enclosed_lawful {F = F} p opener closer opens closes read follows = rules.made (enclosed opener closer p) told (rules.and (rules.word opener opens) (rules.and read (rules.word closer closes) follows) refl).rest (λ i. refl)
   where
-    go : (b : Bool) → begins (kind i) ≡ b → optional_if b item i ≡ Ok (Some x, j) → b ≡ true
-    go true e h = refl
-    go false e h = absurd (none_some None x refl (ap (λ p. p.0) (ok_pair None (Some x) i j h)))
+    told : IsNode (Enclosed opener closer F.spells) (form.word opener ▸ F ▸ form.word closer).spells (λ x span. x.1.0)
+    told = record { opened = λ i m x h. ((tt, (x, tt)), (h.at, h.opens, (h.mid, h.inside, h.closes)), refl); made = λ i m x h. record { at = h.0; mid = h.2.0; opens = h.1; inside = h.2.1; closes = h.2.2 } }
+
+-- `x k y`
+pub joined_lawful : {A B : Type 0} {F : Form A} {G : Form B} (p : Parser A) (q : Parser B) (word : Kind) → is word k.Nothing ≡ false → IsRead F (one p) → IsRead G (one q) → Follows F (form.word word ▸ G) → IsLawful (forms.joined word F G) (joined word p q)
+unfolding joined
+joined_lawful {A} {B} {F = F} {G = G} p q word is_token first second follows = rules.made (joined word p q) told (rules.and first (rules.and (rules.word word is_token) second refl) follows).rest (λ i. refl)
+  where
+    told : IsNode (λ (x : A × B). Joined word F.spells G.spells x.0 x.1) (F ▸ form.word word ▸ G).spells (λ x span. (x.0, x.1.1))
+    told = record { opened = λ i m x h. ((x.0, (tt, x.1)), (h.mid, h.first, (h.at, h.mark, h.second)), refl); made = λ i m x h. record { mid = h.0; at = h.2.0; first = h.1; mark = h.2.1; second = h.2.2 } }
+
+-- parts that begin with a NAME, each before `;`
+module _ {A : Type 0} {F : Form A} {p : Parser A} (law : IsLawful F p) (some : F.empty ≡ false) (follows : Follows F (form.word k.Semicolon)) (agrees : (x : Kind) → begins_name x ≡ (form.line F).first x) (taken : (i : Input) → Takes k.Name i (next i) → F.begins i (next i)) (word : Kind) (is_token : is word k.Nothing ≡ false) where
+  takes : (i : Input) → Starts (form.line F) i → (form.line F).begins i (next i)
+  takes i s = inl (taken i (takes_first (form.word k.Name) k.Name refl i (sym (agree begins_name (is k.Name) refl (kind i)) ∙ (agrees (kind i) ∙ s))))
+
+  -- `k {x ";"}+`
+  pub part_lawful : IsLawful (forms.part word F) (part word begins_name p)
+  unfolding part
+  part_lawful = rules.made (part word begins_name p) told (rules.and (rules.word word is_token) (rules.several begins_name (rules.line law follows) (rw some refl) refl (sym (agrees k.Nothing)) agrees takes) refl).rest same
+    where
+      told : IsNode (Behind word (Lines F.spells)) (form.word word ▸ form.lines F).spells (λ x span. x.1)
+      told = record { opened = λ i m xs h. ((tt, xs), (h.at, h.mark, h.item), refl); made = λ i m x h. record { at = h.0; mark = h.1; item = h.2 } }
+
+      same : (i : Input) → part word begins_name p i ≡ and_then (expect word i) (λ u a. and_then (several begins_name (ended k.Semicolon p) a) (λ xs. pure xs))
+      same i = kept (part word begins_name p i) ∙ sym (in_a_row (expect word i) (λ u. several begins_name (ended k.Semicolon p)) (λ xs. pure xs))
+
+  listed : Option (List A) → List A
+  listed None = []
+  listed (Some xs) = xs
+
+  -- `[k {x ";"}+]`
+  pub may_be_part_read : IsRead (forms.may_be_part word F) (one (may_be_part word begins_name p))
+  unfolding may_be_part sees optional listed
+  may_be_part_read = rules.part (rules.made (may_be_part word begins_name p) told (rules.may (is word) part_lawful refl tells started (sym (tells k.Nothing) ∙ is_token)).rest same)
+    where
+      tells : (x : Kind) → is word x ≡ (forms.part word F).first x
+      tells x = by (is word x)
+        where
+          by : (b : Bool) → b ≡ (b || false)
+          by true = refl
+          by false = refl
+
+      started : (i : Input) → Starts (forms.part word F) i → (forms.part word F).begins i (next i)
+      started i s = inr (next i, record { kind = is_it word (kind i) (tells (kind i) ∙ s); next = refl }, inl (inl (law.form.nothing (next i))))
+
+      told : IsNode (MayBeLines word F.spells) (repeats.may (forms.part word F)).spells (λ o span. listed o)
+      told = record { opened = opened; made = made }
+        where
+          opened : (i m : Input) (xs : List A) → MayBeLines word F.spells xs i m → (o : Option (List A)) × (repeats.may (forms.part word F)).spells o i m × (listed o ≡ xs)
+          opened i m [] h = (None, h, refl)
+          opened i m (x ∷ xs) h = (Some (x ∷ xs), h, refl)
+
+          made : (i m : Input) (o : Option (List A)) → (repeats.may (forms.part word F)).spells o i m → MayBeLines word F.spells (listed o) i m
+          made i m None h = h
+          made i m (Some []) h = absurd h.item
+          made i m (Some (x ∷ xs)) h = h
+
+      there_is : (o : ReadResult (List A)) → o ≡ and_then (and_then o (λ xs. pure (Some xs))) (λ o. pure (listed o))
+      there_is (Ok p) = refl
+      there_is (Err e) = refl
+
+      same : (i : Input) → may_be_part word begins_name p i ≡ and_then (optional (is word) (part word begins_name p) i) (λ o. pure (listed o))
+      same i = by (is word (kind i))
+        where
+          by : (b : Bool) → part_if b (part word begins_name p) i ≡ and_then (optional_if b (part word begins_name p) i) (λ o. pure (listed o))
+          by true = there_is (part word begins_name p i)
+          by false = refl
 
 -- ---- the laws together
-
-pub closed : {A : Type 0} (p : Parser A) (P : Spelling A) → Sound p P → Complete p P Anything → Advances P → IsClosed p P
-closed p P sound complete advances = record {
-  only = sound;
-  all = λ i j x h. complete i j x h tt;
-  one = λ i j m x y a b. let same = unique p P Anything complete x y i j m a b tt tt in (ap (λ p. p.0) same, ap (λ p. p.1) same);
-  some = advances;
-}
 
 pub ended_by_next : {A : Type 0} (p : Parser A) (P : Spelling A) (Ends : After) → Sound p P → Complete p P Ends → IsOpen p P Ends
 ended_by_next p P Ends sound complete = record {
@@ -125,3 +138,13 @@ ended_by_next p P Ends sound complete = record {
   all = complete;
   one = λ i j m x y a b stop stop'. let same = unique p P Ends complete x y i j m a b stop stop' in (ap (λ p. p.0) same, ap (λ p. p.1) same);
 }
+
+-- what the law of a form says
+module _ {A : Type 0} {F : Form A} {p : Parser A} (law : IsLawful F p) where
+  pub opened : (End : After) → ((j : Input) → End j → Ends F j) → IsOpen p F.spells End
+  opened End ends = ended_by_next p F.spells End law.sound (λ i j x h end. law.complete i j x h (ends j end))
+
+  pub closed : F.empty ≡ false → of_all (λ x. not (F.on x)) ≡ true → IsClosed p F.spells
+  closed some none =
+      let any : IsOpen p F.spells Anything = opened Anything (λ j end. ends_always F.on none (kind j)) in
+      record { only = any.only; all = λ i j x h. any.all i j x h tt; one = λ i j m x y a b. any.one i j m x y a b tt tt; some = law.form.advances some }

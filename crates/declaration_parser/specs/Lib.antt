@@ -3,3 +3,4 @@ pub mod Attributes
 pub mod Channels
 pub mod Declarations
 pub mod Laws
+pub mod Productions

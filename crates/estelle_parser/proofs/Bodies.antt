@@ -1,13 +1,15 @@
 -- The laws of bodies and their parts.
-use Rattle.std.proofs.Common.{◌≡◌, ◌<◌, ℕ, zero, suc, Bool, true, false, List, [], ◌∷◌, Option, Some, None, Ok, sym, refl, ap, ◌∙◌, subst, arith}
-use Rattle.std.specs.Prelude.{◌==◌, if◌then◌else◌}
+use Rattle.std.proofs.Common.{◌≡◌, ◌<◌, ℕ, zero, suc, Bool, true, false, List, [], ◌∷◌, Option, Some, None, Ok, sym, refl, ap, ◌∙◌, subst, inl, inr, ◌⊎◌, arith}
+use Rattle.std.specs.Prelude.{◌==◌, ◌||◌, if◌then◌else◌}
 use Rattle.std.proofs.lemmas.Bool.{ne_eqb}
 use Rattle.estelle_tree.specs.declared.kind.Kind.{Kind}
 use Rattle.estelle_tree.specs.declared.kind.Kind.TheVariants as k
 use Rattle.estelle_tree.specs.declared.tree.declaration.RoutineForm.{RoutineForm}
-use Rattle.estelle_tree.specs.declared.tree.declaration.RoutineForm.TheVariants as form
-use Rattle.estelle_tree.specs.declared.tree.specification.Body.{out-Body, roll-Body}
+use Rattle.estelle_tree.specs.declared.tree.declaration.RoutineForm.TheVariants as a_form
+use Rattle.estelle_tree.specs.declared.tree.declaration.Routine.{Routine}
+use Rattle.estelle_tree.specs.declared.tree.specification.Body.{Body, out-Body, roll-Body}
 use Rattle.estelle_tree.specs.declared.tree.specification.Decl.{Decl, out-Decl, roll-Decl}
+use Rattle.estelle_tree.specs.declared.tree.specification.Decl.TheVariants as a_decl
 use Rattle.estelle_tree.specs.declared.tree.specification.Decl.TheVariants.{outs-Body, outs-Routine, rolls-Body, rolls-Routine}
 use Rattle.estelle_tree.specs.declared.tree.specification.Decl.TheOpen.{Decl-F}
 use Rattle.estelle_tree.specs.declared.tree.specification.Decl.TheViews.{roll-out-Decl, roll-out-Body, roll-out-Parts}
@@ -18,20 +20,25 @@ use Rattle.estelle_tree.specs.Input.{Input, kind, left, between, over}
 use Rattle.estelle_tree.specs.Spans.{DeclLayer}
 use Rattle.estelle_tree.specs.Spelling as spelling
 use Rattle.estelle_tree.specs.Spelling.{Spelling, Takes, Chain}
-use Rattle.estelle_tree.specs.Types.{IsName}
-use Rattle.estelle_tree.specs.Declarations.{of_form}
+use Rattle.estelle_tree.specs.Declarations.{of_form, IsRoutine}
 use Rattle.estelle_tree.specs.Specification.{IsInit, IsTrans, BodyOf, DeclLayerOf, DeclOf, PartsOf, PartsBelow, IsParts}
 use Rattle.token_reader.specs.Reader.{Parser, pure, refuse, expect, name}
 use Rattle.token_reader.specs.Lists.{optional, repeated}
-use Rattle.token_reader.proofs.Sound.{Sound, through, answered, expect_sound, name_sound, optional_sound, repeated_sound}
-use Rattle.token_reader.proofs.Complete.{Anything, Complete, Shrinks, Advances, takes_shrinks, takes_advances, name_advances, chain_shrinks, expect_complete, name_complete, optional_complete, repeated_complete}
-use Rattle.type_parser.proofs.Begin.{Begins, shrinking, optional_shrinks, name_shrinks, joined_advances}
+use Rattle.token_reader.proofs.Sound.{Sound, through, answered, expect_sound, optional_sound, repeated_sound}
+use Rattle.token_reader.proofs.Complete.{Anything, Complete, Shrinks, Advances, takes_shrinks, takes_advances, chain_shrinks, expect_complete, optional_complete, repeated_complete}
+use Rattle.syntax_forms.specs.Form as form
+use Rattle.syntax_forms.proofs.KindLaws.{neither, when, apart, within}
+use Rattle.syntax_forms.proofs.Lawful.{IsLawful}
+use Rattle.syntax_forms.proofs.Rules as rules
+use Rattle.type_parser.proofs.Begin.{Begins, shrinking, optional_shrinks}
 use Rattle.declaration_parser.specs.Forms.{joined}
 use Rattle.declaration_parser.specs.Channels.{begins_group}
 use Rattle.declaration_parser.specs.Declarations.{begins_plain_decl, plain_decl}
-use Rattle.declaration_parser.specs.Laws.{EndsDecl, IsPlainLayer}
-use Rattle.declaration_parser.proofs.Forms.{joined_sound, joined_complete}
-use Rattle.declaration_parser.proofs.Declarations.{plain_decl_sound, plain_layer_complete, plain_layer_begins, plain_layer_advances}
+use Rattle.declaration_parser.specs.Laws.{EndsDecl, IsPlainLayer, IsPlainDecl}
+use Rattle.declaration_parser.specs.Productions as forms
+use Rattle.declaration_parser.proofs.Forms.{joined_lawful}
+use Rattle.declaration_parser.proofs.Channels.{ends_named}
+use Rattle.declaration_parser.proofs.Declarations.{plain_decl_lawful}
 use Rattle.type_parser.specs.Types.{begins_name}
 use Rattle.declaration_parser.specs.Attributes.{begins_head}
 use Rattle.statement_parser.specs.Routine.{routine}
@@ -67,54 +74,25 @@ ends_decls k.Trans = true
 ends_decls k.End = true
 ends_decls _ = false
 
+-- no name and no group of interactions
+abbrev names_or_group : Kind → Bool
+names_or_group x = begins_name x || begins_group x
+
 decl_ends : (kind' : Kind) → begins_decl kind' ≡ true → (begins_name kind' ≡ false) × (begins_group kind' ≡ false)
-decl_ends k.Const e = (refl, refl)
-decl_ends k.Type e = (refl, refl)
-decl_ends k.Channel e = (refl, refl)
-decl_ends k.Module e = (refl, refl)
-decl_ends k.Body e = (refl, refl)
-decl_ends k.Ip e = (refl, refl)
-decl_ends k.Modvar e = (refl, refl)
-decl_ends k.Var e = (refl, refl)
-decl_ends k.State e = (refl, refl)
-decl_ends k.Stateset e = (refl, refl)
-decl_ends k.Procedure e = (refl, refl)
-decl_ends k.Function e = (refl, refl)
-decl_ends _ e = absurd (cc)
+decl_ends kind' e = neither (begins_name kind') _ (when (names_or_group kind') (apart begins_decl names_or_group refl kind' e))
 
 decls_end : (kind' : Kind) → ends_decls kind' ≡ true → (begins_name kind' ≡ false) × (begins_group kind' ≡ false)
-decls_end k.Initialize e = (refl, refl)
-decls_end k.Trans e = (refl, refl)
-decls_end k.End e = (refl, refl)
-decls_end _ e = absurd (cc)
+decls_end kind' e = neither (begins_name kind') _ (when (names_or_group kind') (apart ends_decls names_or_group refl kind' e))
 
 no_decl : (kind' : Kind) → ends_decls kind' ≡ true → begins_decl kind' ≡ false
-no_decl k.Initialize e = refl
-no_decl k.Trans e = refl
-no_decl k.End e = refl
-no_decl _ e = absurd (cc)
-
-trans_ends_decls : (kind' : Kind) → ends_trans kind' ≡ true → ends_decls kind' ≡ true
-trans_ends_decls k.Trans e = refl
-trans_ends_decls k.End e = refl
-trans_ends_decls _ e = absurd (cc)
+no_decl kind' e = when (begins_decl kind') (apart ends_decls begins_decl refl kind' e)
 
 no_init : (kind' : Kind) → ends_trans kind' ≡ true → begins_init kind' ≡ false
-no_init k.Trans e = refl
-no_init k.End e = refl
-no_init _ e = absurd (cc)
+no_init kind' e = when (begins_init kind') (apart ends_trans begins_init refl kind' e)
 
-plain_begins : (kind' : Kind) → begins_plain_decl kind' ≡ true → begins_decl kind' ≡ true
-plain_begins k.Const e = refl
-plain_begins k.Type e = refl
-plain_begins k.Channel e = refl
-plain_begins k.Module e = refl
-plain_begins k.Ip e = refl
-plain_begins k.Modvar e = refl
-plain_begins k.Var e = refl
-plain_begins k.State e = refl
-plain_begins k.Stateset e = refl
-plain_begins _ e = absurd (cc)
+-- `NAME for NAME`
+for_lawful : IsLawful (forms.joined k.For form.name form.name) (joined k.For name name)
+for_lawful = joined_lawful name name k.For refl rules.name rules.name refl
 
 -- ---- over the parts of a body in it
 module _ (room : ℕ) (p : Parser Parts) (P : Spelling Parts) (sound : Sound p P) (complete : Complete p P EndsParts) (shrinks : Shrinks P) where
@@ -136,7 +114,7 @@ module _ (room : ℕ) (p : Parser Parts) (P : Spelling Parts) (sound : Sound p P
         after_end = f;
         fits = opened.0;
         word = opened.1;
-        names = (joined_sound name IsName name_sound name IsName name_sound k.For a c names are);
+        names = for_lawful.sound a c names are;
         semicolon = expect_sound k.Semicolon c d v semicolon;
         parts = sound d e ps inside;
         ends = expect_sound k.End e f w ends;
@@ -149,7 +127,7 @@ module _ (room : ℕ) (p : Parser Parts) (P : Spelling Parts) (sound : Sound p P
   body_over_complete i j b h end =
       rw (
         opens_complete room k.Body i h.after_word h.fits h.word,
-        joined_complete name IsName Anything name_complete name IsName Anything name_complete k.For (λ j e. tt) h.after_word h.after_names (out-Body b).name (out-Body b).header h.names tt,
+        for_lawful.complete h.after_word h.after_names ((out-Body b).name, (out-Body b).header) h.names refl,
         expect_complete k.Semicolon h.after_names h.after_head h.semicolon,
         complete h.after_head h.after_parts (out-Body b).parts h.parts h.ends.kind,
         expect_complete k.End h.after_parts h.after_end h.ends,
@@ -161,7 +139,7 @@ module _ (room : ℕ) (p : Parser Parts) (P : Spelling Parts) (sound : Sound p P
   body_over_advances : Advances (BodyOf room P)
   body_over_advances i j b h =
       let one = takes_advances k.Body (λ e. cc) i h.after_word h.word in
-      let two = joined_advances k.For IsName IsName name_advances name_shrinks h.after_word h.after_names (out-Body b).name (out-Body b).header h.names in
+      let two = for_lawful.form.advances refl h.after_word h.after_names ((out-Body b).name, (out-Body b).header) h.names in
       let three = takes_shrinks k.Semicolon h.after_names h.after_head h.semicolon in
       let four = shrinks h.after_head h.after_parts (out-Body b).parts h.parts in
       let five = takes_shrinks k.End h.after_parts h.after_end h.ends in
@@ -198,15 +176,15 @@ module _ (room : ℕ) (p : Parser Parts) (P : Spelling Parts) (sound : Sound p P
   decl_by_sound k.Body i j d h = body_part_sound i j d h
   decl_by_sound k.Procedure i j d h = routine_part_sound i j d h
   decl_by_sound k.Function i j d h = routine_part_sound i j d h
-  decl_by_sound _ i j d h = plain_layer (out-Decl d) i j (plain_decl_sound room i j d h)
+  decl_by_sound _ i j d h = plain_layer (out-Decl d) i j ((plain_decl_lawful room).sound i j d h)
 
   decl_over_sound : Sound (decl_over room p) (DeclOf room P)
   unfolding decl_over
   decl_over_sound i j d h = decl_by_sound (kind i) i j d h
 
   by_routine : (f : RoutineForm) → decl_by room p (of_form room f) ≡ routine_part room
-  by_routine form.Procedure = refl
-  by_routine (form.Function n) = refl
+  by_routine a_form.Procedure = refl
+  by_routine (a_form.Function n) = refl
 
   by_plain : (kind' : Kind) → begins_plain_decl kind' ≡ true → decl_by room p kind' ≡ plain_decl room
   by_plain k.Const e = refl
@@ -220,62 +198,57 @@ module _ (room : ℕ) (p : Parser Parts) (P : Spelling Parts) (sound : Sound p P
   by_plain k.Stateset e = refl
   by_plain _ e = absurd (cc)
 
-  plain_complete : (l : DeclLayer) (i j : Input) → IsPlainLayer room l i j → EndsDecl j → decl_over room p i ≡ Ok (roll-Decl l, j)
-  unfolding decl_over
-  plain_complete l i j h end = rw (by_plain (kind i) (plain_layer_begins room i j l h), plain_layer_complete room l i j h end)
+  -- a declaration is a plain one, a body or a routine
+  Side : DeclLayer → Input → Input → Type 0
+  Side l i j = IsPlainLayer room l i j ⊎ (((b : Body) × BodyOf room P b i j × (a_decl.Body b ≡ roll-Decl l)) ⊎ ((r : Routine) × IsRoutine room r i j × (a_decl.Routine r ≡ roll-Decl l)))
 
-  layer_complete : (l : DeclLayer) (i j : Input) → DeclLayerOf room P l i j → EndsDecl j → decl_over room p i ≡ Ok (roll-Decl l, j)
-  unfolding decl_over body_part routine_part
-  layer_complete (Decl-F.Const defs span) i j h end = plain_complete (Decl-F.Const defs span) i j h end
-  layer_complete (Decl-F.Types defs span) i j h end = plain_complete (Decl-F.Types defs span) i j h end
-  layer_complete (Decl-F.Channel c) i j h end = plain_complete (Decl-F.Channel c) i j h end
-  layer_complete (Decl-F.Header x) i j h end = plain_complete (Decl-F.Header x) i j h end
-  layer_complete (Decl-F.Body b) i j h end = rw (h.word.kind, body_over_complete i j b h tt, rolls-Body b)
-  layer_complete (Decl-F.Ip ips span) i j h end = plain_complete (Decl-F.Ip ips span) i j h end
-  layer_complete (Decl-F.Modvar ms span) i j h end = plain_complete (Decl-F.Modvar ms span) i j h end
-  layer_complete (Decl-F.Var vars span) i j h end = plain_complete (Decl-F.Var vars span) i j h end
-  layer_complete (Decl-F.State states span) i j h end = plain_complete (Decl-F.State states span) i j h end
-  layer_complete (Decl-F.Stateset sets span) i j h end = plain_complete (Decl-F.Stateset sets span) i j h end
-  layer_complete (Decl-F.Routine r) i j h end = rw (h.name.mark.kind, by_routine r.form, routine_complete room i j r h tt, rolls-Routine r)
+  side : (l : DeclLayer) (i j : Input) → DeclLayerOf room P l i j → Side l i j
+  unfolding Side
+  side (Decl-F.Body b) i j h = inr (inl (b, h, sym (rolls-Body b)))
+  side (Decl-F.Routine r) i j h = inr (inr (r, h, sym (rolls-Routine r)))
+  side (Decl-F.Const defs span) i j h = inl h
+  side (Decl-F.Types defs span) i j h = inl h
+  side (Decl-F.Channel c) i j h = inl h
+  side (Decl-F.Header x) i j h = inl h
+  side (Decl-F.Ip ips span) i j h = inl h
+  side (Decl-F.Modvar ms span) i j h = inl h
+  side (Decl-F.Var vars span) i j h = inl h
+  side (Decl-F.State states span) i j h = inl h
+  side (Decl-F.Stateset sets span) i j h = inl h
+
+  plain_begins : (i j : Input) (d : Decl) → IsPlainDecl room d i j → begins_plain_decl (kind i) ≡ true
+  plain_begins = rules.begins_with begins_plain_decl (plain_decl_lawful room).form refl refl
 
   decl_over_complete : Complete (decl_over room p) (DeclOf room P) EndsDecl
-  decl_over_complete i j d h end = rw (layer_complete (out-Decl d) i j h end, roll-out-Decl d)
+  unfolding decl_over body_part routine_part Side
+  decl_over_complete i j d h end = by (side (out-Decl d) i j h)
+    where
+      by : Side (out-Decl d) i j → decl_over room p i ≡ Ok (d, j)
+      by (inl plain) = rw (by_plain (kind i) (plain_begins i j d plain)) ((plain_decl_lawful room).complete i j d plain (ends_named (forms.plain_decl room).on refl j end))
+      by (inr (inl (b, is, e))) = rw (is.word.kind, body_over_complete i j b is tt) (ap (λ d. Ok (d, j)) (e ∙ roll-out-Decl d))
+      by (inr (inr (r, is, e))) = rw (is.name.mark.kind, by_routine r.form, routine_complete room i j r is tt) (ap (λ d. Ok (d, j)) (e ∙ roll-out-Decl d))
 
   form_begins : (f : RoutineForm) → begins_decl (of_form room f) ≡ true
-  form_begins form.Procedure = refl
-  form_begins (form.Function n) = refl
-
-  layer_begins : (i j : Input) (l : DeclLayer) → DeclLayerOf room P l i j → begins_decl (kind i) ≡ true
-  layer_begins i j (Decl-F.Const defs span) h = plain_begins (kind i) (plain_layer_begins room i j (Decl-F.Const defs span) h)
-  layer_begins i j (Decl-F.Types defs span) h = plain_begins (kind i) (plain_layer_begins room i j (Decl-F.Types defs span) h)
-  layer_begins i j (Decl-F.Channel c) h = plain_begins (kind i) (plain_layer_begins room i j (Decl-F.Channel c) h)
-  layer_begins i j (Decl-F.Header x) h = plain_begins (kind i) (plain_layer_begins room i j (Decl-F.Header x) h)
-  layer_begins i j (Decl-F.Body b) h = ap begins_decl h.word.kind
-  layer_begins i j (Decl-F.Ip ips span) h = plain_begins (kind i) (plain_layer_begins room i j (Decl-F.Ip ips span) h)
-  layer_begins i j (Decl-F.Modvar ms span) h = plain_begins (kind i) (plain_layer_begins room i j (Decl-F.Modvar ms span) h)
-  layer_begins i j (Decl-F.Var vars span) h = plain_begins (kind i) (plain_layer_begins room i j (Decl-F.Var vars span) h)
-  layer_begins i j (Decl-F.State states span) h = plain_begins (kind i) (plain_layer_begins room i j (Decl-F.State states span) h)
-  layer_begins i j (Decl-F.Stateset sets span) h = plain_begins (kind i) (plain_layer_begins room i j (Decl-F.Stateset sets span) h)
-  layer_begins i j (Decl-F.Routine r) h = ap begins_decl h.name.mark.kind ∙ form_begins r.form
+  form_begins a_form.Procedure = refl
+  form_begins (a_form.Function n) = refl
 
   decl_over_begins : Begins begins_decl (DeclOf room P)
-  decl_over_begins i j d h = layer_begins i j (out-Decl d) h
-
-  layer_advances : (i j : Input) (l : DeclLayer) → DeclLayerOf room P l i j → left j < left i
-  layer_advances i j (Decl-F.Const defs span) h = plain_layer_advances room i j (Decl-F.Const defs span) h
-  layer_advances i j (Decl-F.Types defs span) h = plain_layer_advances room i j (Decl-F.Types defs span) h
-  layer_advances i j (Decl-F.Channel c) h = plain_layer_advances room i j (Decl-F.Channel c) h
-  layer_advances i j (Decl-F.Header x) h = plain_layer_advances room i j (Decl-F.Header x) h
-  layer_advances i j (Decl-F.Body b) h = body_over_advances i j b h
-  layer_advances i j (Decl-F.Ip ips span) h = plain_layer_advances room i j (Decl-F.Ip ips span) h
-  layer_advances i j (Decl-F.Modvar ms span) h = plain_layer_advances room i j (Decl-F.Modvar ms span) h
-  layer_advances i j (Decl-F.Var vars span) h = plain_layer_advances room i j (Decl-F.Var vars span) h
-  layer_advances i j (Decl-F.State states span) h = plain_layer_advances room i j (Decl-F.State states span) h
-  layer_advances i j (Decl-F.Stateset sets span) h = plain_layer_advances room i j (Decl-F.Stateset sets span) h
-  layer_advances i j (Decl-F.Routine r) h = (routine_lawful room).form.advances refl i j r h
+  unfolding Side
+  decl_over_begins i j d h = by (side (out-Decl d) i j h)
+    where
+      by : Side (out-Decl d) i j → begins_decl (kind i) ≡ true
+      by (inl plain) = within begins_plain_decl begins_decl refl (kind i) (plain_begins i j d plain)
+      by (inr (inl (b, is, e))) = ap begins_decl is.word.kind
+      by (inr (inr (r, is, e))) = ap begins_decl is.name.mark.kind ∙ form_begins r.form
 
   decl_over_advances : Advances (DeclOf room P)
-  decl_over_advances i j d h = layer_advances i j (out-Decl d) h
+  unfolding Side
+  decl_over_advances i j d h = by (side (out-Decl d) i j h)
+    where
+      by : Side (out-Decl d) i j → left j < left i
+      by (inl plain) = (plain_decl_lawful room).form.advances refl i j d plain
+      by (inr (inl (b, is, e))) = body_over_advances i j b is
+      by (inr (inr (r, is, e))) = (routine_lawful room).form.advances refl i j r is
 
   -- ---- parts
 
@@ -320,7 +293,7 @@ module _ (room : ℕ) (p : Parser Parts) (P : Spelling Parts) (sound : Sound p P
   after_init_ends (t ∷ ts) i j h end = ap ends_trans h.1.body.mark.kind
 
   after_decls_end : (x : Option Init) (i j : Input) → spelling.Optional (IsInit room) x i j → ends_trans (kind j) ≡ true → ends_decls (kind i) ≡ true
-  after_decls_end None i j h e = trans_ends_decls (kind i) (ap (λ i. ends_trans (kind i)) h ∙ e)
+  after_decls_end None i j h e = within ends_trans ends_decls refl (kind i) (ap (λ i. ends_trans (kind i)) h ∙ e)
   after_decls_end (Some x) i j h e = ap ends_decls h.word.kind
 
   parts_over_complete : Complete (parts_over room p) (PartsOf room P) EndsParts
@@ -343,30 +316,9 @@ module _ (room : ℕ) (p : Parser Parts) (P : Spelling Parts) (sound : Sound p P
       omega arith
 
   -- no head begins where parts begin
-  decl_no_head : (kind' : Kind) → begins_decl kind' ≡ true → begins_head kind' ≡ false
-  decl_no_head k.Const e = refl
-  decl_no_head k.Type e = refl
-  decl_no_head k.Channel e = refl
-  decl_no_head k.Module e = refl
-  decl_no_head k.Body e = refl
-  decl_no_head k.Ip e = refl
-  decl_no_head k.Modvar e = refl
-  decl_no_head k.Var e = refl
-  decl_no_head k.State e = refl
-  decl_no_head k.Stateset e = refl
-  decl_no_head k.Procedure e = refl
-  decl_no_head k.Function e = refl
-  decl_no_head _ e = absurd (cc)
-
-  end_no_head : (kind' : Kind) → ends_decls kind' ≡ true → begins_head kind' ≡ false
-  end_no_head k.Initialize e = refl
-  end_no_head k.Trans e = refl
-  end_no_head k.End e = refl
-  end_no_head _ e = absurd (cc)
-
   first_no_head : (ds : List Decl) (i j : Input) → Chain (DeclOf room P) ds i j → ends_decls (kind j) ≡ true → begins_head (kind i) ≡ false
-  first_no_head [] i j h e = end_no_head (kind i) (ap (λ i. ends_decls (kind i)) h ∙ e)
-  first_no_head (d ∷ ds) i j h e = decl_no_head (kind i) (decl_over_begins i h.0 d h.1)
+  first_no_head [] i j h e = when (begins_head (kind i)) (apart ends_decls begins_head refl (kind i) (ap (λ i. ends_decls (kind i)) h ∙ e))
+  first_no_head (d ∷ ds) i j h e = when (begins_head (kind i)) (apart begins_decl begins_head refl (kind i) (decl_over_begins i h.0 d h.1))
 
   pub parts_no_head : (ps : Parts) (i j : Input) → PartsOf room P ps i j → EndsParts j → begins_head (kind i) ≡ false
   parts_no_head ps i j h end =

@@ -5,7 +5,7 @@ use Rattle.std.proofs.lemmas.Bool.{eqb-true}
 use Rattle.estelle_tree.specs.declared.kind.Kind.TheVariants as k
 use Rattle.estelle_tree.specs.declared.token.Placed.{Placed}
 use Rattle.estelle_tree.specs.declared.tree.specification.Spec.{Spec}
-use Rattle.estelle_tree.specs.Input.{Input, input, left, between}
+use Rattle.estelle_tree.specs.Input.{Input, input, kind, left, between}
 use Rattle.estelle_tree.specs.Specification.{IsSysAttr, IsSpec}
 use Rattle.estelle_tree.specs.Spells.{max_nesting, Spells}
 use Rattle.token_reader.specs.declared.error.ReadError.{ReadError}
@@ -13,8 +13,11 @@ use Rattle.token_reader.specs.Reader.{ReadResult, pure, refuse, expect, name}
 use Rattle.token_reader.specs.Lists.{optional}
 use Rattle.token_reader.proofs.Sound.{Sound, through, answered, ok_pair, expect_sound, name_sound, optional_sound}
 use Rattle.token_reader.proofs.Complete.{Anything, Complete, expect_complete, name_complete, optional_complete}
-use Rattle.declaration_parser.specs.Attributes.{begins_sys_attr, sys_attr, heads}
-use Rattle.declaration_parser.proofs.Attributes.{sys_attr_sound, sys_attr_complete, sys_attr_begins, heads_sound, heads_complete}
+use Rattle.syntax_forms.proofs.KindLaws.{ends_by}
+use Rattle.syntax_forms.proofs.Rules.{begins_with}
+use Rattle.declaration_parser.specs.Attributes.{begins_sys_attr, begins_head, sys_attr, heads}
+use Rattle.declaration_parser.specs.Productions as forms
+use Rattle.declaration_parser.proofs.Attributes.{sys_attr_lawful, heads_lawful}
 use Rattle.estelle_parser.specs.Bodies.{parts}
 use Rattle.estelle_parser.specs.Whole.{specification, finish, whole}
 use Rattle.estelle_parser.specs.Answers.{AreTokens}
@@ -56,9 +59,9 @@ module _ (room : ℕ) where
         after_parts = f;
         after_end = g;
         name = record { at = a; mark = expect_sound k.Specification i a u word; item = name_sound a b n is };
-        attr = optional_sound sys_attr IsSysAttr sys_attr_sound begins_sys_attr b c at may;
+        attr = optional_sound sys_attr IsSysAttr sys_attr_lawful.sound begins_sys_attr b c at may;
         semicolon = expect_sound k.Semicolon c d v semicolon;
-        heads = heads_sound d e hs are;
+        heads = heads_lawful.sound d e hs are;
         parts = parts_sound room e f ps inside;
         ends = expect_sound k.End f g w ends;
         dot = expect_sound k.Dot g m x dot;
@@ -71,9 +74,9 @@ module _ (room : ℕ) where
       rw (
         expect_complete k.Specification i h.name.at h.name.mark,
         name_complete h.name.at h.after_name s.name h.name.item tt,
-        optional_complete sys_attr IsSysAttr Anything sys_attr_complete begins_sys_attr sys_attr_begins h.after_name h.after_attr s.attr h.attr (tt, ap begins_sys_attr h.semicolon.kind),
+        optional_complete sys_attr IsSysAttr Anything (λ i j x h end. sys_attr_lawful.complete i j x h refl) begins_sys_attr (begins_with begins_sys_attr sys_attr_lawful.form refl refl) h.after_name h.after_attr s.attr h.attr (tt, ap begins_sys_attr h.semicolon.kind),
         expect_complete k.Semicolon h.after_attr h.after_head h.semicolon,
-        heads_complete h.after_head h.after_heads s.heads h.heads (no_head room s.parts h.after_heads h.after_parts h.parts h.ends.kind),
+        heads_lawful.complete h.after_head h.after_heads s.heads h.heads (ends_by forms.heads.on begins_head refl (kind h.after_heads) (no_head room s.parts h.after_heads h.after_parts h.parts h.ends.kind)),
         parts_complete room h.after_heads h.after_parts s.parts h.parts h.ends.kind,
         expect_complete k.End h.after_parts h.after_end h.ends,
         expect_complete k.Dot h.after_end j h.dot,

@@ -1,12 +1,17 @@
-use Rattle.estelle_tree.specs.Specification.{IsParams, MayBeParams}
-use Rattle.declaration_parser.specs.Channels.{params, may_be_params}
+use Rattle.std.proofs.Common.{refl}
+use Rattle.estelle_tree.specs.Input.{kind}
+use Rattle.estelle_tree.specs.declared.kind.Kind.TheVariants as k
+use Rattle.syntax_forms.proofs.KindLaws.{ends_by, ends_but}
+use Rattle.syntax_forms.proofs.NodeForms.{one_lawful}
+use Rattle.declaration_parser.specs.Channels.{begins_parenthesis}
 use Rattle.declaration_parser.specs.Laws.{EndsParams, EndsInter}
-use Rattle.declaration_parser.proofs.Forms.{ended_by_next}
-use Rattle.declaration_parser.proofs.Channels.{params_sound, params_complete, may_be_params_sound, may_be_params_complete}
+use Rattle.declaration_parser.specs.Productions as forms
+use Rattle.declaration_parser.proofs.Forms.{opened}
+use Rattle.declaration_parser.proofs.Channels.{params_lawful, may_be_params_read}
 use Rattle.declaration_parser.proofs.laws.parameters_are_read.Goals as goal
 
 pub returns-clause-list : goal.returns-clause-list
-returns-clause-list c = ended_by_next params IsParams EndsParams params_sound params_complete
+returns-clause-list c = opened params_lawful EndsParams (λ j. ends_but forms.params.on k.Semicolon refl (kind j))
 
 pub returns-clause-may_be : goal.returns-clause-may_be
-returns-clause-may_be c = ended_by_next may_be_params MayBeParams EndsInter may_be_params_sound may_be_params_complete
+returns-clause-may_be c = opened (one_lawful may_be_params_read.rest) EndsInter (λ j. ends_by forms.may_be_params.on begins_parenthesis refl (kind j))
