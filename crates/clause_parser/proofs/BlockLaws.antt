@@ -1,6 +1,5 @@
 -- The laws of blocks, over those of the statement part.
 use Rattle.std.proofs.Common.{◌≡◌, ℕ, true, false, List, [], ◌∷◌, Option, Some, None, sym, refl, ap, ◌∙◌, subst, arith}
-use Rattle.estelle_tree.specs.declared.kind.Kind.{Kind}
 use Rattle.estelle_tree.specs.declared.kind.Kind.TheVariants as k
 use Rattle.estelle_tree.specs.declared.tree.statement.Stmts.{Stmts}
 use Rattle.estelle_tree.specs.declared.tree.declaration.BlockDecl.{BlockDecl}
@@ -12,19 +11,28 @@ use Rattle.estelle_tree.specs.Declarations.{IsBlockDecl, IsStatementPart}
 use Rattle.estelle_tree.specs.Clauses.{IsLabel, IsLabelled, IsBlock}
 use Rattle.token_reader.specs.Reader.{Parser}
 use Rattle.token_reader.specs.Lists.{optional}
-use Rattle.token_reader.proofs.Sound.{Sound, through, answered, optional_sound, repeated_sound}
-use Rattle.token_reader.proofs.Complete.{After, Anything, Complete, Advances, chain_shrinks, optional_complete, repeated_complete}
+use Rattle.token_reader.proofs.Sound.{Sound, through, answered, optional_sound}
+use Rattle.token_reader.proofs.Complete.{Anything, Complete, Advances, optional_complete}
+use Rattle.syntax_forms.proofs.KindLaws.{when, apart, within}
+use Rattle.syntax_forms.proofs.Lawful.{shrinks}
 use Rattle.type_parser.specs.Types.{begins_name}
-use Rattle.type_parser.specs.Definitions.{begins_block_decl, block_decl}
-use Rattle.type_parser.proofs.Begin.{Begins, shrinking, optional_shrinks}
-use Rattle.type_parser.proofs.Definitions.{EndsPart, block_decl_sound, block_decl_begins, block_decl_advances, block_decl_complete}
+use Rattle.type_parser.specs.Definitions.{begins_block_decl}
+use Rattle.type_parser.proofs.Begin.{Begins, optional_shrinks}
+use Rattle.type_parser.proofs.Definitions.{block_decl_begins}
+use Rattle.statement_parser.specs.Routine.{EndsBlockDecls}
+use Rattle.statement_parser.proofs.RoutineForms.{block_decls_lawful}
+use Rattle.statement_parser.proofs.Complete.{block_decls_complete}
 use Rattle.clause_parser.specs.Clause.{begins_label, label}
 use Rattle.clause_parser.specs.Block.{begins_block, block_decls, late_label, block_over}
-use Rattle.clause_parser.proofs.Sound.{label_sound}
-use Rattle.clause_parser.proofs.Begin.{label_begins, label_advances}
-use Rattle.clause_parser.proofs.Complete.{label_complete}
+use Rattle.clause_parser.proofs.ClauseForms.{label_lawful}
 
 -- ---- labels
+
+label_complete : Complete label IsLabel Anything
+label_complete i j l h end = label_lawful.complete i j l h refl
+
+label_begins : Begins begins_label IsLabel
+label_begins i j l h = ap begins_label h.word.kind
 
 -- a label after the declarations, where it may stand
 abbrev IsLate : Option Label → List BlockDecl → Spelling (Option Label)
@@ -33,7 +41,7 @@ IsLate first ds late i j = IsLabelled first ds late × spelling.Optional IsLabel
 late_label_sound : (first : Option Label) (ds : List BlockDecl) → Sound (late_label first ds) (IsLate first ds)
 late_label_sound None [] i j late h = answered (IsLate None []) i j i None late (tt, refl) h
 late_label_sound (Some l) ds i j late h = answered (IsLate (Some l) ds) i j i None late (tt, refl) h
-late_label_sound None (d ∷ ds) i j late h = may_be late (optional_sound label IsLabel label_sound begins_label i j late h)
+late_label_sound None (d ∷ ds) i j late h = may_be late (optional_sound label IsLabel label_lawful.sound begins_label i j late h)
   where
     may_be : (late : Option Label) → spelling.Optional IsLabel late i j → IsLate None (d ∷ ds) late i j
     may_be None h = (tt, h)
@@ -54,52 +62,17 @@ module _ (room : ℕ) where
   abbrev Decl : Spelling BlockDecl
   Decl = IsBlockDecl room
 
-  block_decls_sound : Sound (block_decls room) (Chain Decl)
-  block_decls_sound = repeated_sound (optional begins_block_decl (block_decl room)) Decl (optional_sound (block_decl room) Decl (block_decl_sound room) begins_block_decl)
-
-  -- what may stand after them
-  abbrev EndsDecls : After
-  EndsDecls j = (begins_name (kind j) ≡ false) × (begins_block_decl (kind j) ≡ false)
-
-  no_name : (kind' : Kind) → begins_block_decl kind' ≡ true → begins_name kind' ≡ false
-  no_name k.Const e = refl
-  no_name k.Type e = refl
-  no_name k.Var e = refl
-  no_name _ e = absurd (cc)
-
-  block_decls_complete : Complete (block_decls room) (Chain Decl) EndsDecls
-  unfolding optional
-  block_decls_complete =
-      repeated_complete (optional begins_block_decl (block_decl room)) Decl (block_decl_advances room) (EndsPart begins_name)
-      (λ i j d h end. rw (block_decl_begins room i j d h, block_decl_complete room i j d h end))
-      (λ i j d h. no_name (kind i) (block_decl_begins room i j d h))
-      EndsDecls
-      (λ j e. optional_complete (block_decl room) Decl (EndsPart begins_name) (block_decl_complete room) begins_block_decl (block_decl_begins room) j j None refl e)
-      (λ j e. e.0)
-
   -- ---- where the parts of a block begin
 
-  decl_no_label : (kind' : Kind) → begins_block_decl kind' ≡ true → begins_label kind' ≡ false
-  decl_no_label k.Const e = refl
-  decl_no_label k.Type e = refl
-  decl_no_label k.Var e = refl
-  decl_no_label _ e = absurd (cc)
-
-  decl_begins_block : (kind' : Kind) → begins_block_decl kind' ≡ true → begins_block kind' ≡ true
-  decl_begins_block k.Const e = refl
-  decl_begins_block k.Type e = refl
-  decl_begins_block k.Var e = refl
-  decl_begins_block _ e = absurd (cc)
-
   -- after the declarations comes a label or `begin`
-  after_decls : (late : Option Label) (i j : Input) → spelling.Optional IsLabel late i j → kind j ≡ k.Begin → EndsDecls i
-  after_decls None i j h e = subst EndsDecls (sym h) (ap begins_name e, ap begins_block_decl e)
+  after_decls : (late : Option Label) (i j : Input) → spelling.Optional IsLabel late i j → kind j ≡ k.Begin → EndsBlockDecls i
+  after_decls None i j h e = subst EndsBlockDecls (sym h) (ap begins_name e, ap begins_block_decl e)
   after_decls (Some l) i j h e = (ap begins_name h.word.kind, ap begins_block_decl h.word.kind)
 
   -- after the place of the first label comes no label
   after_first : (first : Option Label) (ds : List BlockDecl) (late : Option Label) (i j m : Input) → IsLabelled first ds late → Chain Decl ds i j → spelling.Optional IsLabel late j m → kind m ≡ k.Begin
       → begins_label (kind i) ≡ false
-  after_first first (d ∷ ds) late i j m labelled are h e = decl_no_label (kind i) (block_decl_begins room i are.0 d are.1)
+  after_first first (d ∷ ds) late i j m labelled are h e = when (begins_label (kind i)) (apart begins_block_decl begins_label refl (kind i) (block_decl_begins room i are.0 d are.1))
   after_first first [] None i j m labelled same h e = ap (λ i. begins_label (kind i)) (same ∙ h) ∙ ap begins_label e
   after_first None [] (Some l) i j m labelled same h e = absurd labelled
   after_first (Some first) [] (Some l) i j m labelled same h e = absurd labelled
@@ -119,8 +92,8 @@ module _ (room : ℕ) where
           after_decls = c;
           after_late = d;
           labelled = l.0;
-          label = optional_sound label IsLabel label_sound begins_label i a first one;
-          decls = block_decls_sound a c ds are;
+          label = optional_sound label IsLabel label_lawful.sound begins_label i a first one;
+          decls = (block_decls_lawful room).sound a c ds are;
           late_label = l.1;
           body = part_sound d e body is;
           span = refl;
@@ -133,7 +106,7 @@ module _ (room : ℕ) where
         rw (
           optional_complete label IsLabel Anything label_complete begins_label label_begins i h.after_label b.label h.label
               (tt, after_first b.label b.decls b.late_label h.after_label h.after_decls h.after_late h.labelled h.decls h.late_label begins),
-          block_decls_complete h.after_label h.after_decls b.decls h.decls (after_decls b.late_label h.after_decls h.after_late h.late_label begins),
+          block_decls_complete room h.after_label h.after_decls b.decls h.decls (after_decls b.late_label h.after_decls h.after_late h.late_label begins),
           late_label_complete b.label b.decls h.after_decls h.after_late b.late_label (h.labelled, h.late_label) begins,
           part_complete h.after_late j b.body h.body tt,
           ← h.span,
@@ -150,7 +123,7 @@ module _ (room : ℕ) where
 
       behind_label : (ds : List BlockDecl) (late : Option Label) → Chain Decl ds h.after_label h.after_decls → spelling.Optional IsLabel late h.after_decls h.after_late → begins_block (kind h.after_label) ≡ true
       behind_label [] late same more = ap (λ i. begins_block (kind i)) same ∙ behind_decls late more
-      behind_label (d ∷ ds) late are more = decl_begins_block (kind h.after_label) (block_decl_begins room h.after_label are.0 d are.1)
+      behind_label (d ∷ ds) late are more = within begins_block_decl begins_block refl (kind h.after_label) (block_decl_begins room h.after_label are.0 d are.1)
 
       go : (first : Option Label) (ds : List BlockDecl) (late : Option Label) → spelling.Optional IsLabel first i h.after_label → Chain Decl ds h.after_label h.after_decls → spelling.Optional IsLabel late h.after_decls h.after_late → begins_block (kind i) ≡ true
       go None ds late same are more = ap (λ i. begins_block (kind i)) same ∙ behind_label ds late are more
@@ -158,8 +131,8 @@ module _ (room : ℕ) where
 
   pub block_advances : Advances (IsStatementPart room) → Advances (IsBlock room)
   block_advances parts i j b h =
-      let one = optional_shrinks IsLabel (shrinking IsLabel label_advances) i h.after_label b.label h.label in
-      let two = chain_shrinks Decl (shrinking Decl (block_decl_advances room)) h.after_label h.after_decls b.decls h.decls in
-      let three = optional_shrinks IsLabel (shrinking IsLabel label_advances) h.after_decls h.after_late b.late_label h.late_label in
+      let one = optional_shrinks IsLabel (shrinks label_lawful.form) i h.after_label b.label h.label in
+      let two = shrinks (block_decls_lawful room).form h.after_label h.after_decls b.decls h.decls in
+      let three = optional_shrinks IsLabel (shrinks label_lawful.form) h.after_decls h.after_late b.late_label h.late_label in
       let four = parts h.after_late j b.body h.body in
       omega arith

@@ -7,7 +7,6 @@ use Rattle.estelle_tree.specs.declared.kind.Kind.{Kind}
 use Rattle.estelle_tree.specs.declared.kind.Kind.TheVariants as k
 use Rattle.estelle_tree.specs.declared.tree.clause.Block.{Block}
 use Rattle.estelle_tree.specs.declared.tree.clause.Clause.{Clause}
-use Rattle.estelle_tree.specs.declared.tree.clause.Clause.TheVariants as a_clause
 use Rattle.estelle_tree.specs.declared.tree.clause.TransBody.{TransBody, out-TransBody, roll-TransBody}
 use Rattle.estelle_tree.specs.declared.tree.clause.TransBody.TheOpen.{TransBody-F, Group-F}
 use Rattle.estelle_tree.specs.declared.tree.clause.TransBody.TheVariants.{outs-Block, outs-Groups, rolls-Block, rolls-Groups}
@@ -21,13 +20,12 @@ use Rattle.token_reader.specs.Reader.{Parser, pure}
 use Rattle.token_reader.specs.Lists.{several}
 use Rattle.token_reader.proofs.Sound.{Sound, through, answered, ok_pair, several_sound}
 use Rattle.token_reader.proofs.Complete.{Anything, Complete, Advances, several_complete}
+use Rattle.syntax_forms.proofs.KindLaws.{when, apart}
 use Rattle.type_parser.proofs.Begin.{Begins}
 use Rattle.clause_parser.specs.Block.{begins_block}
 use Rattle.clause_parser.specs.Clause.{begins_clause, goes_on_clause, clause}
 use Rattle.clause_parser.specs.Group.{OnWay, with_clause, begins_group, unless, groups_over, block_body, body_if, body_over, group_behind, group_over, group_within}
-use Rattle.clause_parser.proofs.Sound.{clause_sound}
-use Rattle.clause_parser.proofs.Begin.{clause_kind, clause_advances, of_clause_begins}
-use Rattle.clause_parser.proofs.Complete.{clause_complete}
+use Rattle.clause_parser.proofs.ClauseForms.{clause_kind, of_clause_begins, clause_lawful}
 use Rattle.clause_parser.proofs.Stops.{several_stops}
 
 -- ---- ways
@@ -78,30 +76,13 @@ Whole G way g i j = G way g i j × EndsGroup way g j
 
 -- no block begins with the word of a clause, and nothing that begins a block or a clause goes on with a clause
 no_block : (c : Clause) → begins_block (of_clause c) ≡ false
-no_block (a_clause.From states span) = refl
-no_block (a_clause.To state span) = refl
-no_block (a_clause.When p n found span) = refl
-no_block (a_clause.Provided e span) = refl
-no_block (a_clause.Priority value span) = refl
-no_block (a_clause.Any found span) = refl
-no_block (a_clause.Delay low high span) = refl
+no_block c = when (begins_block (of_clause c)) (apart begins_clause begins_block refl (of_clause c) (of_clause_begins c))
 
 clause_ends : (c : Clause) → goes_on_clause (of_clause c) ≡ false
-clause_ends (a_clause.From states span) = refl
-clause_ends (a_clause.To state span) = refl
-clause_ends (a_clause.When p n found span) = refl
-clause_ends (a_clause.Provided e span) = refl
-clause_ends (a_clause.Priority value span) = refl
-clause_ends (a_clause.Any found span) = refl
-clause_ends (a_clause.Delay low high span) = refl
+clause_ends c = when (goes_on_clause (of_clause c)) (apart begins_clause goes_on_clause refl (of_clause c) (of_clause_begins c))
 
 block_ends : (kind' : Kind) → begins_block kind' ≡ true → goes_on_clause kind' ≡ false
-block_ends k.NameWord e = refl
-block_ends k.Const e = refl
-block_ends k.Type e = refl
-block_ends k.Var e = refl
-block_ends k.Begin e = refl
-block_ends _ e = absurd (cc)
+block_ends kind' e = when (goes_on_clause kind') (apart begins_block goes_on_clause refl kind' e)
 
 -- Where this many more levels of nesting may open.
 module _ (room : ℕ) where
@@ -241,7 +222,7 @@ module _ (room : ℕ) where
             let f = unless_sound (stands (kind i) way) i m u free in
             through (clause room m) _ _ h (λ c a is h.
             through (body_over block (begins_group (with_clause c (on way))) (inner (with_clause c (on way))) a) _ _ h (λ b d are h.
-            let spelled : IsClause room c i a = subst (λ m. IsClause room c m a) (sym f.1) (clause_sound room m a c is) in
+            let spelled : IsClause room c i a = subst (λ m. IsClause room c m a) (sym f.1) ((clause_lawful room).sound m a c is) in
             let fresh : stands (of_clause c) way ≡ false = sym (ap (λ x. stands x way) (clause_kind room i a c spelled)) ∙ f.0 in
             let inside : IsBody (of_clause c ∷ way) b a d = body_sound (of_clause c ∷ way) a d b (subst (λ w. body_over block (begins_group w) (inner w) a ≡ Ok (b, d)) (on_behind c way) are) in
             let r : Group-F TransBody Group = record { clause = c; body = b; span = between i d } in
@@ -271,7 +252,7 @@ module _ (room : ℕ) where
             let free : stands (kind i) way ≡ false = ap (λ x. stands x way) (clause_kind room i r.mid c r.clause) ∙ r.fresh in
             rw (
               free,
-              clause_complete room i r.mid c r.clause (layer_ends_clause (way_of way g) (out-TransBody (out-Group g).body) r.mid j r.body),
+              (clause_lawful room).complete i r.mid c r.clause (layer_ends_clause (way_of way g) (out-TransBody (out-Group g).body) r.mid j r.body),
               on_behind c way,
               body_complete (way_of way g) r.mid j (out-Group g).body (r.body, h.1) tt,
               ← r.span,
@@ -287,7 +268,7 @@ module _ (room : ℕ) where
     pub within_advances : (n : ℕ) (way : List Kind) → Advances (GroupWithin room n way)
     within_advances zero way i j g h = absurd h
     within_advances (suc n) way i j g h =
-        let one = clause_advances room i h.mid (clause_of g) h.clause in
+        let one = (clause_lawful room).form.advances refl i h.mid (clause_of g) h.clause in
         let more = layer_advances (GroupWithin room n) (within_clausal n) (within_advances n) block_advances (way_of way g) (out-TransBody (out-Group g).body) h.mid j h.body in
         omega arith
 

@@ -1,6 +1,4 @@
-pub mod Sound
-pub mod Begin
-pub mod Complete
+pub mod ClauseForms
 pub mod Stops
 pub mod BlockLaws
 pub mod GroupLaws

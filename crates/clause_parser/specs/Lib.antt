@@ -1,4 +1,5 @@
 pub mod Clause
+pub mod Forms
 pub mod Block
 pub mod Group
 pub mod Way
