@@ -1,7 +1,6 @@
 -- The laws of labels and clauses: each form is read by its parser.
-use Rattle.std.proofs.Common.{◌≡◌, ℕ, Bool, true, false, Option, Ok, Err, sym, refl, ap, subst, inl, inr, ◌⊎◌}
+use Rattle.std.proofs.Common.{◌≡◌, ℕ, true, sym, refl, ap, subst, inl, inr, ◌⊎◌}
 use Rattle.std.specs.Prelude.{not, ◌||◌}
-use Rattle.std.proofs.Math.Path.{fun_ext}
 use Rattle.estelle_tree.specs.declared.kind.Kind.{Kind}
 use Rattle.estelle_tree.specs.declared.kind.Kind.TheVariants as k
 use Rattle.estelle_tree.specs.declared.tree.name.Name.{Name}
@@ -13,13 +12,11 @@ use Rattle.estelle_tree.specs.declared.tree.clause.DelayHigh.TheVariants as a_hi
 use Rattle.estelle_tree.specs.declared.tree.clause.Clause.{Clause}
 use Rattle.estelle_tree.specs.declared.tree.clause.Clause.TheVariants as a_clause
 use Rattle.estelle_tree.specs.Input.{Input, kind, next, start}
-use Rattle.estelle_tree.specs.Spelling.{Behind, Enclosed}
+use Rattle.estelle_tree.specs.Spelling.{Enclosed}
 use Rattle.estelle_tree.specs.Types.{IsNames}
 use Rattle.estelle_tree.specs.Clauses.{IsLabel, IsAnyDom, IsNextState, IsDelayHigh, IsClause, of_clause}
-use Rattle.token_reader.specs.Reader.{Parser, ReadResult, and_then, pure, sees, expect, name, ◌>>◌, take}
-use Rattle.token_reader.specs.Lists.{optional_if, optional, behind, ended}
-use Rattle.token_reader.proofs.Sound.{seen_is}
-use Rattle.token_reader.proofs.Complete.{expect_complete}
+use Rattle.token_reader.specs.Reader.{pure, expect, name}
+use Rattle.token_reader.specs.Lists.{optional, behind, ended}
 use Rattle.syntax_forms.specs.Kinds.{is, of_all}
 use Rattle.syntax_forms.specs.Form as form
 use Rattle.syntax_forms.specs.Form.{◌▸◌, ◌⊕◌, told}
@@ -32,7 +29,6 @@ use Rattle.syntax_forms.proofs.Lawful.{IsRead, IsLawful, Starts}
 use Rattle.syntax_forms.proofs.ToldForms as tell
 use Rattle.syntax_forms.proofs.ToldForms.{IsTold}
 use Rattle.syntax_forms.proofs.Rules as rules
-use Rattle.type_parser.specs.Types.{names}
 use Rattle.type_parser.proofs.TypeForms.{names_lawful, constant_lawful, ordinal_lawful}
 use Rattle.expression_parser.specs.Expression.{expr}
 use Rattle.expression_parser.proofs.FactorForms.{expr_lawful_at}
@@ -41,14 +37,8 @@ use Rattle.statement_parser.specs.Forms.{Word}
 use Rattle.statement_parser.proofs.StatementForms.{alike, regrouped}
 use Rattle.clause_parser.specs.Clause.{begins_params, begins_clause, goes_on_clause, label, any_dom, next_state, params, delay_high, from_clause, to_clause, when_clause, provided_clause, priority_clause, any_clause, delay_clause, clause_by, clause}
 use Rattle.clause_parser.specs.Forms as forms
+use Rattle.clause_parser.proofs.FormLaws.{there, kept, behind_read}
 use Rattle.clause_parser.specs.Forms.{make_from, make_to, make_when, make_provided, make_priority, make_any, make_delay}
-
-there : (word : Kind) (i : Input) → kind i ≡ word → expect word i ≡ Ok (tt, next i)
-there word i e = expect_complete word i (next i) (record { kind = e; next = refl })
-
-kept : {A : Type 0} (o : ReadResult A) → o ≡ and_then o (λ x. pure x)
-kept (Ok p) = refl
-kept (Err e) = refl
 
 -- Label = name NAME ":"
 pub label_lawful : IsLawful forms.label label
@@ -142,36 +132,9 @@ module _ (room : ℕ) where
       same i k.Star e = rw (e, there k.Star i e) refl
       same i x e = rw e refl
 
-  abbrev bound : Parser DelayHigh
-  bound = expect k.Comma >> delay_high room
-
   -- `["," (Expr | "*")]`
   bound_read : IsRead (repeats.may (forms.bound room)) (one (behind k.Comma (delay_high room)))
-  unfolding optional behind sees
-  bound_read = subst (λ (p : Parser (Option DelayHigh)). IsRead (repeats.may (forms.bound room)) (one p)) (fun_ext same) (rules.may (is k.Comma) law refl tells takes refl)
-    where
-      told : IsNode (Behind k.Comma (IsDelayHigh room)) (form.word k.Comma ▸ forms.delay_high room).spells (λ p span. p.1)
-      told = record { opened = λ i m x h. ((tt, x), (h.at, h.mark, h.item), refl); made = λ i m p h. record { at = h.0; mark = h.1; item = h.2 } }
-
-      law : IsLawful (forms.bound room) bound
-      law = rules.made bound told (rules.and (rules.word k.Comma refl) (rules.part delay_high_lawful) refl).rest (λ i. alike (expect k.Comma i) _ _ (λ u a. kept (delay_high room a)))
-
-      tells : (x : Kind) → is k.Comma x ≡ (forms.bound room).first x
-      tells x = by (is k.Comma x)
-        where
-          by : (b : Bool) → b ≡ (b || false)
-          by true = refl
-          by false = refl
-
-      takes : (i : Input) → Starts (forms.bound room) i → (forms.bound room).begins i (next i)
-      takes i s = inr (next i, record { kind = is_it k.Comma (kind i) (within (forms.bound room).first (is k.Comma) refl (kind i) s); next = refl }, delay_high_lawful.form.nothing (next i))
-
-      same : (i : Input) → optional (is k.Comma) bound i ≡ behind k.Comma (delay_high room) i
-      same i = by (sees k.Comma i) refl
-        where
-          by : (b : Bool) → sees k.Comma i ≡ b → optional_if b bound i ≡ optional_if b (take >> delay_high room) i
-          by true e = rw (there k.Comma i (seen_is k.Comma i e)) refl
-          by false e = refl
+  bound_read = behind_read (delay_high room) k.Comma refl (rules.part delay_high_lawful)
 
   -- ---- clauses
 
@@ -181,16 +144,16 @@ module _ (room : ℕ) where
       alike (expect k.Delay i) _ _ (λ u a. alike (expect k.OpenParenthesis a) _ _ (λ v b. alike (expr room b) _ _ (λ low c.
       regrouped (behind k.Comma (delay_high room) c) _ _ _ (λ high d. regrouped (expect k.CloseParenthesis d) _ _ _ (λ w e. refl)))))
 
-  each : (x : Kind) → IsTold x (forms.clause_by room x) (clause_by room x) (begins_clause x)
+  pub clause_told : (x : Kind) → IsTold x (forms.clause_by room x) (clause_by room x) (begins_clause x)
   unfolding from_clause to_clause when_clause provided_clause priority_clause any_clause
-  each k.From = tell.worded k.From make_from refl (rules.part names_lawful).rest from_clause (λ i. refl)
-  each k.To = tell.worded k.To make_to refl (rules.part next_state_lawful).rest to_clause (λ i. refl)
-  each k.When = tell.worded k.When make_when refl (rules.and rules.name (rules.and (rules.word k.Dot refl) (rules.and rules.name params_read refl) refl) refl).rest when_clause (λ i. refl)
-  each k.Provided = tell.worded k.Provided make_provided refl (rules.part (expr_lawful_at room)).rest (provided_clause room) (λ i. refl)
-  each k.Priority = tell.worded k.Priority make_priority refl (rules.part constant_lawful).rest priority_clause (λ i. refl)
-  each k.Any = tell.worded k.Any make_any refl (rules.and (rules.separated k.Semicolon any_dom_lawful refl refl) (rules.word k.Do refl) refl).rest any_clause (λ i. refl)
-  each k.Delay = tell.worded k.Delay make_delay refl (rules.and (rules.word k.OpenParenthesis refl) (rules.and (rules.part (expr_lawful_at room)) (rules.and bound_read (rules.word k.CloseParenthesis refl) refl) refl) refl).rest (delay_clause room) delay_same
-  each x = tell.nowhere x
+  clause_told k.From = tell.worded k.From make_from refl (rules.part names_lawful).rest from_clause (λ i. refl)
+  clause_told k.To = tell.worded k.To make_to refl (rules.part next_state_lawful).rest to_clause (λ i. refl)
+  clause_told k.When = tell.worded k.When make_when refl (rules.and rules.name (rules.and (rules.word k.Dot refl) (rules.and rules.name params_read refl) refl) refl).rest when_clause (λ i. refl)
+  clause_told k.Provided = tell.worded k.Provided make_provided refl (rules.part (expr_lawful_at room)).rest (provided_clause room) (λ i. refl)
+  clause_told k.Priority = tell.worded k.Priority make_priority refl (rules.part constant_lawful).rest priority_clause (λ i. refl)
+  clause_told k.Any = tell.worded k.Any make_any refl (rules.and (rules.separated k.Semicolon any_dom_lawful refl refl) (rules.word k.Do refl) refl).rest any_clause (λ i. refl)
+  clause_told k.Delay = tell.worded k.Delay make_delay refl (rules.and (rules.word k.OpenParenthesis refl) (rules.and (rules.part (expr_lawful_at room)) (rules.and bound_read (rules.word k.CloseParenthesis refl) refl) refl) refl).rest (delay_clause room) delay_same
+  clause_told x = tell.nowhere x
 
   goes : (x : Kind) → of_all (λ y. goes_on_clause y || not ((forms.clause_by room x).on y)) ≡ true
   goes k.From = refl
@@ -234,7 +197,7 @@ module _ (room : ℕ) where
       told_node = record { opened = λ i m c h. (c, opened i m c h, refl); made = λ i m c h. made (kind i) i m c h }
 
       law : IsLawful (told (forms.clause_by room) goes_on_clause) (λ i. clause_by room (kind i) i)
-      law = tell.told_lawful (forms.clause_by room) goes_on_clause (clause_by room) begins_clause each goes refl
+      law = tell.told_lawful (forms.clause_by room) goes_on_clause (clause_by room) begins_clause clause_told goes refl
 
 -- the first word of a clause
 pub clause_kind : (room : ℕ) (i j : Input) (c : Clause) → IsClause room c i j → kind i ≡ of_clause c

@@ -1,6 +1,5 @@
+pub mod FormLaws
 pub mod ClauseForms
-pub mod Stops
-pub mod BlockLaws
-pub mod GroupLaws
+pub mod BlockForms
+pub mod GroupForms
 pub mod WayLaws
-pub mod BodyLaws

@@ -1,27 +1,35 @@
 -- The laws of specifications.
-use Rattle.std.proofs.Common.{◌≡◌, ℕ, zero, suc, Bool, true, false, List, [], ◌∷◌, length, Ok, Err, sym, refl, ap, ◌∙◌, subst, arith}
+use Rattle.std.proofs.Common.{◌≡◌, ℕ, zero, suc, Bool, true, false, List, [], ◌∷◌, length, Ok, Err, sym, refl, ap, ◌∙◌, subst, inl, inr, arith}
 use Rattle.std.specs.Prelude.{◌==◌, if◌then◌else◌}
 use Rattle.std.proofs.lemmas.Bool.{eqb-true}
+use Rattle.estelle_tree.specs.declared.kind.Kind.{Kind}
 use Rattle.estelle_tree.specs.declared.kind.Kind.TheVariants as k
 use Rattle.estelle_tree.specs.declared.token.Placed.{Placed}
 use Rattle.estelle_tree.specs.declared.tree.specification.Spec.{Spec}
-use Rattle.estelle_tree.specs.Input.{Input, input, kind, left, between}
-use Rattle.estelle_tree.specs.Specification.{IsSysAttr, IsSpec}
+use Rattle.estelle_tree.specs.Input.{Input, input, kind, next, left}
+use Rattle.estelle_tree.specs.Specification.{IsSpec}
 use Rattle.estelle_tree.specs.Spells.{max_nesting, Spells}
 use Rattle.token_reader.specs.declared.error.ReadError.{ReadError}
 use Rattle.token_reader.specs.Reader.{ReadResult, pure, refuse, expect, name}
 use Rattle.token_reader.specs.Lists.{optional}
-use Rattle.token_reader.proofs.Sound.{Sound, through, answered, ok_pair, expect_sound, name_sound, optional_sound}
-use Rattle.token_reader.proofs.Complete.{Anything, Complete, expect_complete, name_complete, optional_complete}
-use Rattle.syntax_forms.proofs.KindLaws.{ends_by}
-use Rattle.syntax_forms.proofs.Rules.{begins_with}
-use Rattle.declaration_parser.specs.Attributes.{begins_sys_attr, begins_head, sys_attr, heads}
-use Rattle.declaration_parser.specs.Productions as forms
+use Rattle.token_reader.proofs.Sound.{Sound, through, answered, ok_pair}
+use Rattle.syntax_forms.specs.Form as form
+use Rattle.syntax_forms.specs.Form.{◌▸◌}
+use Rattle.syntax_forms.specs.Repeats as repeats
+use Rattle.syntax_forms.specs.Reading.{one}
+use Rattle.syntax_forms.proofs.NodeForms.{IsNode}
+use Rattle.syntax_forms.proofs.Lawful.{IsRead, IsLawful}
+use Rattle.syntax_forms.proofs.Rules as rules
+use Rattle.statement_parser.proofs.StatementForms.{alike}
+use Rattle.declaration_parser.specs.Attributes.{begins_sys_attr, sys_attr, heads}
+use Rattle.declaration_parser.specs.Productions as declarations
+use Rattle.declaration_parser.proofs.Forms.{agree}
 use Rattle.declaration_parser.proofs.Attributes.{sys_attr_lawful, heads_lawful}
 use Rattle.estelle_parser.specs.Bodies.{parts}
+use Rattle.estelle_parser.specs.Forms as forms
 use Rattle.estelle_parser.specs.Whole.{specification, finish, whole}
 use Rattle.estelle_parser.specs.Answers.{AreTokens}
-use Rattle.estelle_parser.proofs.Bodies.{parts_sound, parts_complete, no_head}
+use Rattle.estelle_parser.proofs.BodyForms.{before_end, near_below, parts_at, parts_at_lawful}
 
 none_left : (n : ℕ) → (n == 0) ≡ true → n ≡ 0
 none_left zero e = refl
@@ -39,49 +47,50 @@ at_end i e = ap (λ tokens. input tokens i.end) (no_tokens i.tokens e)
 apart : (o : ReadResult Spec) (e : ReadError) (s : Spec) (j : Input) → o ≡ Err e → o ≡ Ok (s, j) → ⊥
 apart o e s j refused found = cc
 
-module _ (room : ℕ) where
-  specification_sound : Sound (specification room) (IsSpec room)
-  unfolding specification between
-  specification_sound i j s h =
-      through (expect k.Specification i) _ _ h (λ u a word h.
-      through (name a) _ _ h (λ n b is h.
-      through (optional begins_sys_attr sys_attr b) _ _ h (λ at c may h.
-      through (expect k.Semicolon c) _ _ h (λ v d semicolon h.
-      through (heads d) _ _ h (λ hs e are h.
-      through (parts room e) _ _ h (λ ps f inside h.
-      through (expect k.End f) _ _ h (λ w g ends h.
-      through (expect k.Dot g) _ _ h (λ x m dot h.
-      answered (IsSpec room) i j m (record { name = n; attr = at; heads = hs; parts = ps; span = between i m }) s (record {
-        after_name = b;
-        after_attr = c;
-        after_head = d;
-        after_heads = e;
-        after_parts = f;
-        after_end = g;
-        name = record { at = a; mark = expect_sound k.Specification i a u word; item = name_sound a b n is };
-        attr = optional_sound sys_attr IsSysAttr sys_attr_lawful.sound begins_sys_attr b c at may;
-        semicolon = expect_sound k.Semicolon c d v semicolon;
-        heads = heads_lawful.sound d e hs are;
-        parts = parts_sound room e f ps inside;
-        ends = expect_sound k.End f g w ends;
-        dot = expect_sound k.Dot g m x dot;
-        span = refl;
-      }) h))))))))
+-- `[SysAttr]`
+attr_read : IsRead (repeats.may declarations.sys_attr) (one (optional begins_sys_attr sys_attr))
+attr_read = rules.may begins_sys_attr sys_attr_lawful refl (agree begins_sys_attr declarations.sys_attr.first refl) (λ i s. takes i (kind i) refl s) refl
+  where
+    takes : (i : Input) (x : Kind) → kind i ≡ x → declarations.sys_attr.first x ≡ true → declarations.sys_attr.begins i (next i)
+    takes i k.Systemprocess e s = inl (inr (record { kind = e; next = refl }))
+    takes i k.Systemactivity e s = inr (inr (record { kind = e; next = refl }))
+    takes i _ e s = absurd (cc)
 
-  specification_complete : Complete (specification room) (IsSpec room) Anything
-  unfolding specification between
-  specification_complete i j s h end =
-      rw (
-        expect_complete k.Specification i h.name.at h.name.mark,
-        name_complete h.name.at h.after_name s.name h.name.item tt,
-        optional_complete sys_attr IsSysAttr Anything (λ i j x h end. sys_attr_lawful.complete i j x h refl) begins_sys_attr (begins_with begins_sys_attr sys_attr_lawful.form refl refl) h.after_name h.after_attr s.attr h.attr (tt, ap begins_sys_attr h.semicolon.kind),
-        expect_complete k.Semicolon h.after_attr h.after_head h.semicolon,
-        heads_lawful.complete h.after_head h.after_heads s.heads h.heads (ends_by forms.heads.on begins_head refl (kind h.after_heads) (no_head room s.parts h.after_heads h.after_parts h.parts h.ends.kind)),
-        parts_complete room h.after_heads h.after_parts s.parts h.parts h.ends.kind,
-        expect_complete k.End h.after_parts h.after_end h.ends,
-        expect_complete k.Dot h.after_end j h.dot,
-        ← h.span,
-      )
+module _ (room : ℕ) where
+  -- Spec = specification NAME [SysAttr] ";" {Head} Parts end "."
+  pub specification_lawful : IsLawful (forms.specification room) (specification room)
+  unfolding specification
+  specification_lawful =
+      rules.spanned (specification room) told refl (rules.and (rules.word k.Specification refl) (rules.and rules.name (rules.and attr_read (rules.and (rules.word k.Semicolon refl) (rules.and (rules.part heads_lawful)
+      (rules.and (rules.part (parts_at_lawful (suc room))) (rules.and (rules.word k.End refl) (rules.word k.Dot refl) refl) refl) refl) refl) refl) refl) refl).rest
+      (λ i. alike (expect k.Specification i) _ _ (λ u a. alike (name a) _ _ (λ n b. alike (optional begins_sys_attr sys_attr b) _ _ (λ at c. alike (expect k.Semicolon c) _ _ (λ v d. alike (heads d) _ _ (λ hs e.
+      before_end (parts room e) (parts_at (suc room) e) _ (near_below (suc room) e)))))))
+    where
+      told : IsNode (IsSpec room) (form.word k.Specification ▸ form.name ▸ repeats.may declarations.sys_attr ▸ form.word k.Semicolon ▸ declarations.heads ▸ forms.parts_below (suc room) ▸ form.word k.End ▸ form.word k.Dot).spells
+          (λ p span. record { name = p.1.0; attr = p.1.1.0; heads = p.1.1.1.1.0; parts = p.1.1.1.1.1.0; span = span })
+      told = record {
+        opened = λ i m s h. (
+          (tt, (s.name, (s.attr, (tt, (s.heads, (s.parts, (tt, tt))))))),
+          (h.name.at, h.name.mark, (h.after_name, h.name.item, (h.after_attr, h.attr, (h.after_head, h.semicolon, (h.after_heads, h.heads, (h.after_parts, h.parts, (h.after_end, h.ends, h.dot))))))),
+          ap (λ span. record { name = s.name; attr = s.attr; heads = s.heads; parts = s.parts; span = span }) (sym h.span),
+        );
+        made = λ i m p (a, t, (b, n, (c, at, (d, semicolon, (e, hs, (f, ps, (g, ends, dot))))))). record {
+          after_name = b;
+          after_attr = c;
+          after_head = d;
+          after_heads = e;
+          after_parts = f;
+          after_end = g;
+          name = record { at = a; mark = t; item = n };
+          attr = at;
+          semicolon = semicolon;
+          heads = hs;
+          parts = ps;
+          ends = ends;
+          dot = dot;
+          span = refl;
+        };
+      }
 
   finished : (i j : Input) (u : Unit {0}) → finish i ≡ Ok (u, j) → (left i ≡ 0) × (i ≡ j)
   unfolding finish
@@ -101,11 +110,11 @@ module _ (room : ℕ) where
       through (specification room i) _ _ h (λ t a is h.
       through (finish a) _ _ h (λ u b done h.
       let end = finished a b u done in
-      answered IsWhole i j b t s (subst (λ b. IsWhole t i b) end.1 (specification_sound i a t is, end.0)) h))
+      answered IsWhole i j b t s (subst (λ b. IsWhole t i b) end.1 (specification_lawful.sound i a t is, end.0)) h))
 
   pub whole_complete : (i j : Input) (s : Spec) → IsSpec room s i j → left j ≡ 0 → whole room i ≡ Ok (s, j)
   unfolding whole finish
-  whole_complete i j s h none = rw (specification_complete i j s h tt, none)
+  whole_complete i j s h none = rw (specification_lawful.complete i j s h refl, none)
 
 -- ---- lists of tokens
 

@@ -1,3 +1,4 @@
+pub mod Forms
 pub mod Bodies
 pub mod Whole
 pub mod Answers

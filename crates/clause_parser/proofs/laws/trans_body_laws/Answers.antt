@@ -1,10 +1,10 @@
 use Rattle.std.proofs.Common.{ap, sym, ◌∙◌}
 use Rattle.token_reader.proofs.Sound.{ok_pair}
-use Rattle.clause_parser.proofs.BodyLaws.{trans_body_sound, trans_body_whole, trans_body_ended}
+use Rattle.clause_parser.proofs.GroupForms.{trans_body_lawful, trans_body_whole, trans_body_ended}
 use Rattle.clause_parser.proofs.laws.trans_body_laws.Goals as goal
 
 pub returns-clause-sound : goal.returns-clause-sound
-returns-clause-sound c = trans_body_sound
+returns-clause-sound c room = (trans_body_lawful room).sound
 
 pub returns-clause-whole : goal.returns-clause-whole
 returns-clause-whole c = trans_body_whole
