@@ -28,7 +28,7 @@ pascal_parser not
 pascal_parser begin
 clause_parser trans
 body_table any
-body_walker_program any
+body_program any
 estelle_cli run
 estelle_cli check
 estelle_cli show

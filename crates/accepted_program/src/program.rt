@@ -5,7 +5,7 @@ ghost use Rattle.estelle_model.specs.Subject.{subject};
 ghost use Rattle.estelle_model_legality.specs.Instances.{LeadsToStates};
 
 use accepted_states::accepted_lead_to_states;
-use body_walker_program::Program;
+use body_program::Program;
 use spec_accept::Checked;
 use std::alloc::{AllocError, Global};
 use std::marker::Model;

@@ -35,7 +35,7 @@ use Rattle.estelle_model.specs.Actions.{or_no_module, may_hold, may_begin, begin
 use Rattle.estelle_model.specs.Acts as meaning
 use Rattle.estelle_model.proofs.Alike.{EachAlike}
 use Rattle.estelle_model.proofs.LoopLaws.{AtMost}
-use Rattle.body_walker_actions.specs.Children.{beginning}
+use Rattle.body_actions.specs.Children.{beginning}
 use Rattle.body_machine.specs.declared.item.Item.{Item}
 use Rattle.body_machine.specs.declared.item.Item.TheVariants.{Datum, Spot}
 use Rattle.body_machine.specs.declared.activation.Return.{Return}

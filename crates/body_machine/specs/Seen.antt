@@ -2,9 +2,9 @@
 use Rattle.std.specs.Prelude.{◌≡◌, List, map as each, reverse, Result, Ok, Err}
 use Rattle.body_code.specs.declared.unit.CodeUnit.{CodeUnit}
 use Rattle.estelle_model.specs.Subject.{Subject}
-use Rattle.body_walker_values.specs.declared.stop.Stop.{Stop}
-use Rattle.body_walker_values.specs.declared.stop.Stop.TheVariants as stop
-use Rattle.body_walker_state.specs.Progress.{running}
+use Rattle.body_values.specs.declared.stop.Stop.{Stop}
+use Rattle.body_values.specs.declared.stop.Stop.TheVariants as stop
+use Rattle.body_state.specs.Progress.{running}
 use Rattle.body_machine.specs.declared.numbers.Numbers.{Numbers}
 use Rattle.body_machine.specs.declared.activation.Activation as code
 use Rattle.body_machine.specs.declared.machine.Machine as whole

@@ -24,7 +24,7 @@ use Rattle.estelle_model.specs.Plans.{carry}
 use Rattle.estelle_model.specs.Calls.{max_depth}
 use Rattle.estelle_model.specs.Subject.{Subject, child_of}
 use Rattle.estelle_model.specs.Actions.{begins_child, holds_child}
-use Rattle.body_walker_actions.specs.Children.{beginning}
+use Rattle.body_actions.specs.Children.{beginning}
 use Rattle.body_machine.specs.Machine.{Item, Datum, Spot, Return, ToNone, ToCaller, ToParent, Activation, Machine, Next, Goes, Ends, Faults}
 use Rattle.body_machine.specs.declared.numbers.Numbers.{Numbers}
 use Rattle.body_machine.specs.Rows.{Row, Nullary, OfValue, OfPlace, OfValues, OfBoth, OfMany, Jumps, JumpsWhere, Turns, Calls, Begins, Returns, row}

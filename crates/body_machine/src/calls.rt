@@ -16,7 +16,7 @@ use crate::places::after;
 use crate::stack::Stack;
 use crate::values::stuck;
 use body_code::CodeUnit;
-use body_walker_values::Stop;
+use body_values::Stop;
 use estelle_model::{Environment, Place};
 use estelle_tree::{Items, Path, Sequence};
 use std::alloc::{AllocError, Global};

@@ -1,14 +1,14 @@
 //! The statements of Estelle, by numbers (ISO/IEC 9074).
 
-ghost use Rattle.body_walker_state.specs.Follows.{Follows};
+ghost use Rattle.body_state.specs.Follows.{Follows};
 ghost use Rattle.body_machine.specs.Ends.{end_at, connect_ends, disconnect_ends, attach_end, detach_end, release_in};
 
-use body_code::{Ends, Point};
-use body_walker_actions::{
+use body_actions::{
     attach_points, connect_points, detach_point, disconnect_child, disconnect_point, release_child,
 };
-use body_walker_state::{ModuleBodies, Walk};
-use body_walker_values::Stop;
+use body_code::{Ends, Point};
+use body_state::{ModuleBodies, Walk};
+use body_values::Stop;
 use estelle_model::Environment;
 use estelle_tree::{IpAddr, Path};
 use std::alloc::Global;

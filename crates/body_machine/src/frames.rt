@@ -1,13 +1,13 @@
 //! Frames of units.
 
 ghost use Rattle.pascal_values.specs.declared.value.Value.TheVariants.{Fields};
-ghost use Rattle.body_walker_state.specs.Follows.{Follows};
+ghost use Rattle.body_state.specs.Follows.{Follows};
 ghost use Rattle.body_machine.specs.Steps.{push_frame, drop_frame, deeper_than};
 
 use crate::given::add_blanks;
 use body_code::Local;
-use body_walker_state::Walk;
-use body_walker_values::Stop;
+use body_state::Walk;
+use body_values::Stop;
 use estelle_model::{Routine, Statements};
 use estelle_tree::{Items, SequenceMut, Span, Stmts};
 use pascal_values::{Fault, Value, Values};

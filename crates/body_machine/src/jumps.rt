@@ -9,7 +9,7 @@ ghost use Rattle.body_machine.specs.Seen.{seen, IsNext, Did};
 use crate::item::Item;
 use crate::machine::Machine;
 use crate::values::stuck;
-use body_walker_values::{Stop, bool_of};
+use body_values::{Stop, bool_of};
 
 /// Goes to an address; back only where a unit was taken by `turn` since the last jump back.
 fn go_to(machine: &mut Machine, to: u32) -> Result<(), Stop>

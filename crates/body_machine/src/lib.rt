@@ -1,6 +1,6 @@
 //! The machine that runs the code of bodies: instructions one by one, each unit with a stack of its own.
 //!
-//! It stands on `body_code`, and on the walk of `body_walker_state`; each instruction is made of the steps of which `estelle_model`
+//! It stands on `body_code`, and on the walk of `body_state`; each instruction is made of the steps of which `estelle_model`
 //! makes the meaning of bodies. Calls of a text are units on a list of those that wait, no calls of this program.
 #![tactic(auto)]
 

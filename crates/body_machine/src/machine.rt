@@ -6,7 +6,7 @@ ghost use Rattle.body_machine.specs.Seen.{seen};
 
 use crate::activation::Activation;
 use crate::item::Item;
-use body_walker_state::Walk;
+use body_state::Walk;
 use std::alloc::AllocError;
 
 /// A run of a unit, and of those that it calls, before or after one of its instructions.

@@ -1,12 +1,12 @@
 //! What instructions compute of one value, and of two.
 
 ghost use Rattle.std.specs.Prelude.{◌≡◌};
-ghost use Rattle.body_walker_values.specs.Gives.{Gives};
+ghost use Rattle.body_values.specs.Gives.{Gives};
 ghost use Rattle.body_machine.specs.Operations.{told, unary_value, binary_value};
 ghost use Rattle.body_machine.specs.declared.operators.Unary.TheVariants as Unary;
 ghost use Rattle.body_machine.specs.declared.operators.Binary.TheVariants as Binary;
 
-use body_walker_values::{
+use body_values::{
     Stop, divided, members_from, minus, modulo, negation, one_member, ordinal_of, plus, related,
     required_value, signed, times,
 };

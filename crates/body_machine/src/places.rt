@@ -12,7 +12,7 @@ use crate::item::Item;
 use crate::machine::Machine;
 use crate::values::stuck;
 use body_code::Local;
-use body_walker_values::{Stop, copy_place};
+use body_values::{Stop, copy_place};
 use estelle_model::Place;
 use estelle_tree::{Items, Path, Sequence};
 use std::alloc::Global;

@@ -3,15 +3,15 @@
 ghost use Rattle.std.specs.Prelude.{◌≡◌};
 ghost use Rattle.std.specs.Option.{option_copied};
 ghost use Rattle.pascal_values.specs.declared.fault.Fault.TheVariants.{Unset};
-ghost use Rattle.body_walker_values.specs.declared.stop.Stop.TheVariants as stop;
-ghost use Rattle.body_walker_values.specs.Gives.{Gives};
+ghost use Rattle.body_values.specs.declared.stop.Stop.TheVariants as stop;
+ghost use Rattle.body_values.specs.Gives.{Gives};
 ghost use Rattle.body_machine.specs.Rows.{pushing, computing, combining, loading, extending, indexing, storing, fitting, fit_as};
 ghost use Rattle.body_machine.specs.Seen.{Did};
 
 use crate::item::Item;
 use crate::machine::Machine;
 use crate::operators::{Binary, Unary, binary_value, unary_value};
-use body_walker_values::{Stop, deeper, int_of};
+use body_values::{Stop, deeper, int_of};
 use pascal_values::{Fault, Shape, Value, fits, position};
 use std::alloc::Global;
 

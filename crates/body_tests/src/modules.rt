@@ -1,7 +1,7 @@
 //! What jobs of modules log: the effects of each on the image that the one before left, its fault, and the instances at the end.
 
+use body_state::is_in_order;
 use body_walker::{Program, fire_plain};
-use body_walker_state::is_in_order;
 use estelle_model::{Done, Effect, Image, Interaction, Job, Outcome, Part};
 use estelle_tree::{IpAddr, Items, Path, Sequence, SequenceMut, Word};
 use pascal_values::{Fault, Value, Values};

@@ -1,8 +1,8 @@
 //! What an evaluator of bodies is made of: whether a value fits a type, and variables that are put and loaded.
 
-use body_walker_program::Program;
-use body_walker_state::{View, Walk};
-use body_walker_values::{Stop, fits};
+use body_program::Program;
+use body_state::{View, Walk};
+use body_values::{Stop, fits};
 use estelle_model::{Denoter, Host, Image, Part, Place};
 use estelle_tree::{Items, Path, SequenceMut};
 use pascal_values::{Fault, Value, Values};

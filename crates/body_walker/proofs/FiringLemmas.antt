@@ -21,16 +21,16 @@ use Rattle.estelle_model.specs.Subject.{Subject, meant, meant_with, of_block, be
 use Rattle.estelle_model.specs.Firing.{bare, transition_at}
 use Rattle.estelle_model.specs.Computed.{core_of, log_from, values_of, start_run, IsMadeBy, IsOfTransition, IsComputedOf}
 use Rattle.meaning_table.specs.Known.{Known, meanings_of}
-use Rattle.body_walker_state.specs.declared.bodies.Initialization.{Initialization}
-use Rattle.body_walker_values.specs.declared.stop.Stop.{Stop}
-use Rattle.body_walker_state.specs.Bodies.{initialization_of}
-use Rattle.body_walker_state.specs.Follows.{Leads, carried}
-use Rattle.body_walker_state.specs.InOrder.{InOrder, instance_in}
-use Rattle.body_walker_state.proofs.OrderLemmas.{holds_of}
-use Rattle.body_walker_state.proofs.PartLemmas.{shown}
-use Rattle.body_walker_state.proofs.FollowLemmas.{follows_next, follows_stops_next}
-use Rattle.body_walker_program.specs.Chosen.{chosen_over}
-use Rattle.body_walker_program.specs.Programs.{known_of, block_in}
+use Rattle.body_state.specs.declared.bodies.Initialization.{Initialization}
+use Rattle.body_values.specs.declared.stop.Stop.{Stop}
+use Rattle.body_state.specs.Bodies.{initialization_of}
+use Rattle.body_state.specs.Follows.{Leads, carried}
+use Rattle.body_state.specs.InOrder.{InOrder, instance_in}
+use Rattle.body_state.proofs.OrderLemmas.{holds_of}
+use Rattle.body_state.proofs.PartLemmas.{shown}
+use Rattle.body_state.proofs.FollowLemmas.{follows_next, follows_stops_next}
+use Rattle.body_program.specs.Chosen.{chosen_over}
+use Rattle.body_program.specs.Programs.{known_of, block_in}
 use Rattle.body_walker.specs.Runs.{block_and_state, job_of}
 
 -- ---- a block, and then the state

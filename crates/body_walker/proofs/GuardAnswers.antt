@@ -12,12 +12,12 @@ use Rattle.estelle_model.specs.Transitions.{Choice, Transition}
 use Rattle.estelle_model.specs.Subject.{Subject, meant_with}
 use Rattle.estelle_model.specs.Asked.{IsGuard, guard_for, guard_of_image}
 use Rattle.meaning_table.specs.Known.{Known, meanings_of}
-use Rattle.body_walker_program.specs.Chosen.{chosen_over}
-use Rattle.body_walker_program.specs.Programs.{known_of}
+use Rattle.body_program.specs.Chosen.{chosen_over}
+use Rattle.body_program.specs.Programs.{known_of}
 use Rattle.estelle_model_answers.specs.Laws.{GuardsAreAnswered}
-use Rattle.body_walker_state.specs.InOrder.{InOrder, instance_in}
-use Rattle.body_walker_state.proofs.OrderLemmas.{holds_of}
-use Rattle.body_walker_state.proofs.PartLemmas.{shown}
+use Rattle.body_state.specs.InOrder.{InOrder, instance_in}
+use Rattle.body_state.proofs.OrderLemmas.{holds_of}
+use Rattle.body_state.proofs.PartLemmas.{shown}
 use Rattle.body_walker.specs.Runs.{logged_guard}
 use Rattle.body_walker.proofs.AskedGuards.{guard_answers}
 

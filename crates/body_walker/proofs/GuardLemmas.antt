@@ -17,10 +17,10 @@ use Rattle.estelle_model.specs.Transitions.{Transition, Delay}
 use Rattle.estelle_model.specs.Subject.{Subject, meant_with}
 use Rattle.estelle_model.specs.Acts.{act}
 use Rattle.estelle_model.specs.Clauses.{value_of_expr, provided_step, int_step, between, from_on, high_step, at_once, delay_step, guard_step}
-use Rattle.body_walker_values.specs.declared.stop.Stop.{Stop}
-use Rattle.body_walker_values.specs.Gives.{Gives}
-use Rattle.body_walker_state.specs.Follows.{Leads}
-use Rattle.body_walker_state.proofs.FollowLemmas.{follows_checked, follows_then, follows_stops}
+use Rattle.body_values.specs.declared.stop.Stop.{Stop}
+use Rattle.body_values.specs.Gives.{Gives}
+use Rattle.body_state.specs.Follows.{Leads}
+use Rattle.body_state.proofs.FollowLemmas.{follows_checked, follows_then, follows_stops}
 
 abbrev pub ClauseLeads : Subject → Meanings → Path → List Value → Expr → Running Logged → Result Value Stop → Running Logged → Type 0
 ClauseLeads s known p vs node old r new = Leads (clause_value Logged on_log known (act Logged on_log s known) p vs node) old r new

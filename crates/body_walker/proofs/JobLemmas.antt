@@ -8,7 +8,7 @@ use Rattle.estelle_model.specs.Core.{Instance, Instances}
 use Rattle.estelle_model.specs.Computed.{core_of}
 use Rattle.estelle_model.specs.Jobs.{part_of_entry}
 use Rattle.estelle_model_legality.specs.Jobs.{IsJobOf}
-use Rattle.body_walker_state.specs.InOrder.{InOrder, entries_of}
+use Rattle.body_state.specs.InOrder.{InOrder, entries_of}
 use Rattle.body_walker.specs.Jobs.{JobsMayBeFired}
 
 entries_back : (es : List (Path × Instance)) → entries_of (each part_of_entry es) ≡ es

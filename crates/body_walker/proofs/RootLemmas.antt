@@ -15,8 +15,8 @@ use Rattle.estelle_model.specs.Core.{Instance}
 use Rattle.estelle_model.specs.Jobs.{part_of_entry}
 use Rattle.estelle_model.proofs.Maps.{total}
 use Rattle.estelle_model_legality.specs.Jobs.{image_of}
-use Rattle.body_walker_state.specs.Bodies.{module_body}
-use Rattle.body_walker_state.specs.InOrder.{InOrder}
+use Rattle.body_state.specs.Bodies.{module_body}
+use Rattle.body_state.specs.InOrder.{InOrder}
 use Rattle.body_walker.specs.Roots.{root_part, root_image}
 use Rattle.body_walker.proofs.JobLemmas.{shown_in_order}
 

@@ -3,7 +3,7 @@ use Rattle.std.specs.Prelude.{◌<◌}
 use Rattle.estelle_model.specs.declared.job.Job.{Job}
 use Rattle.estelle_model.specs.Subject.{Subject}
 use Rattle.estelle_model_legality.specs.Jobs.{IsJob}
-use Rattle.body_walker_state.specs.InOrder.{InOrder}
+use Rattle.body_state.specs.InOrder.{InOrder}
 
 -- a firing asks of a job only that its parts stand in path order
 abbrev pub MayBeFired : Job → Type 0

@@ -4,7 +4,7 @@ use Rattle.pascal_values.specs.Shapes.{blank_of}
 use Rattle.estelle_model.specs.declared.image.Part.{Part}
 use Rattle.estelle_model.specs.declared.image.Image.{Image}
 use Rattle.estelle_model.specs.Types.{shape_of}
-use Rattle.body_walker_state.specs.declared.bodies.ModuleBody.{ModuleBody}
+use Rattle.body_state.specs.declared.bodies.ModuleBody.{ModuleBody}
 
 -- in its variables nothing is set, and its module variables are empty
 abbrev pub root_part : ModuleBody → Part

@@ -17,7 +17,7 @@ use Rattle.estelle_model.specs.Transitions.{Transition}
 use Rattle.estelle_model.specs.Subject.{Subject}
 use Rattle.estelle_model.specs.Actions.{enters_state}
 use Rattle.estelle_model.specs.Acts.{act}
-use Rattle.body_walker_state.specs.Follows.{carried}
+use Rattle.body_state.specs.Follows.{carried}
 
 -- the block, and then the instance enters a state, if one is said
 abbrev pub block_and_state : Subject → Meanings → Path → Routine → List Value → Option ℕ → Do Logged

@@ -9,17 +9,17 @@ ghost use Rattle.estelle_model.specs.Subject.{meant, no_statements, initializati
 ghost use Rattle.estelle_model.specs.Firing.{bare};
 ghost use Rattle.estelle_model.specs.Computed.{core_of, log_from, values_of, start_run, IsMadeBy, IsOfTransition, IsComputedOf};
 ghost use Rattle.meaning_table.specs.Known.{meanings_of};
-ghost use Rattle.body_walker_state.specs.Bodies.{initialization_of};
-ghost use Rattle.body_walker_state.specs.Progress.{Progress, running};
-ghost use Rattle.body_walker_state.specs.Follows.{Follows};
-ghost use Rattle.body_walker_state.specs.InOrder.{InOrder, instance_in};
+ghost use Rattle.body_state.specs.Bodies.{initialization_of};
+ghost use Rattle.body_state.specs.Progress.{Progress, running};
+ghost use Rattle.body_state.specs.Follows.{Follows};
+ghost use Rattle.body_state.specs.InOrder.{InOrder, instance_in};
 ghost use Rattle.body_walker.specs.Runs.{block_and_state, job_of};
 
 use crate::root::root_image;
+use body_program::{Program, with_choices};
+use body_state::{Initialization, ModuleBodies, Walk, part_at};
+use body_values::Stop;
 use body_walker_blocks::block;
-use body_walker_program::{Program, with_choices};
-use body_walker_state::{Initialization, ModuleBodies, Walk, part_at};
-use body_walker_values::Stop;
 use estelle_model::{Image, Interaction, Outcome, Part, Routine, Statements};
 use estelle_tree::{Items, Path, SequenceMut, Span, Stmts};
 use meaning_table::Table;

@@ -10,12 +10,12 @@ ghost use Rattle.estelle_model.specs.Subject.{Subject, meant_with};
 ghost use Rattle.estelle_model.specs.Clauses as clauses;
 ghost use Rattle.estelle_model.specs.Expressions.{bool_step};
 ghost use Rattle.meaning_table.specs.Known.{meanings_of};
-ghost use Rattle.body_walker_values.specs.Gives.{Gives};
-ghost use Rattle.body_walker_state.specs.Follows.{Follows};
+ghost use Rattle.body_values.specs.Gives.{Gives};
+ghost use Rattle.body_state.specs.Follows.{Follows};
 
+use body_state::{ModuleBodies, Walk};
+use body_values::{Stop, bool_of, copy_values, int_of};
 use body_walker_blocks::clause;
-use body_walker_state::{ModuleBodies, Walk};
-use body_walker_values::{Stop, bool_of, copy_values, int_of};
 use estelle_model::Guard;
 use estelle_tree::{DelayHigh, Expr, Path};
 use flat_transitions::{Delay, Transition};

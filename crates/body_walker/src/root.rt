@@ -4,11 +4,11 @@ ghost use Rattle.std.specs.Prelude.{◌≡◌, None, replicate, option_map, IfOk
 ghost use Rattle.estelle_model.specs.Subject.{body};
 ghost use Rattle.estelle_model.specs.Firing.{bare};
 ghost use Rattle.estelle_model_legality.specs.Jobs.{image_of};
-ghost use Rattle.body_walker_state.specs.Bodies.{module_body};
+ghost use Rattle.body_state.specs.Bodies.{module_body};
 ghost use Rattle.body_walker.specs.Roots.{root_part, root_image};
 
-use body_walker_state::{ModuleBodies, ModuleBody};
-use body_walker_values::add_blanks;
+use body_state::{ModuleBodies, ModuleBody};
+use body_values::add_blanks;
 use estelle_model::{Image, Part};
 use estelle_tree::{Items, Path, SequenceMut};
 use pascal_values::Values;

@@ -10,7 +10,7 @@ ghost use Rattle.estelle_model.specs.Asked as asked;
 ghost use Rattle.body_walker.specs.Settled as spec;
 
 use crate::guards::at_once;
-use body_walker_program::Program;
+use body_program::Program;
 use estelle_model::{Guard, Interaction, Part};
 use estelle_model_answers::guards_are_answered;
 use estelle_tree::Sequence;

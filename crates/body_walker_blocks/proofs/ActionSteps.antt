@@ -20,7 +20,7 @@ use Rattle.estelle_model.specs.Actions as estelle
 use Rattle.estelle_model.specs.Statements.{Output}
 use Rattle.estelle_model.specs.Acts as acts
 use Rattle.estelle_model.specs.Acts.{act}
-use Rattle.body_walker_state.specs.Follows.{carried}
+use Rattle.body_state.specs.Follows.{carried}
 use Rattle.estelle_model.specs.Definitions.{types_received}
 use Rattle.body_walker_blocks.specs.Scopes.{Scoped, meanings}
 use Rattle.body_walker_blocks.specs.Points.{ip_at}

@@ -42,8 +42,8 @@ use Rattle.estelle_model.specs.Expressions.{Operand, Access, computed, give_all,
 use Rattle.estelle_model.specs.Calls as calls
 use Rattle.estelle_model.specs.Calls.{nested, max_depth, enter, leave}
 use Rattle.estelle_model.proofs.ExpressionEquations.{expr_at, expr_opened, simple_opened, term_opened}
-use Rattle.body_walker_values.specs.declared.stop.Stop.{Stop}
-use Rattle.body_walker_state.specs.Follows.{Leads}
+use Rattle.body_values.specs.declared.stop.Stop.{Stop}
+use Rattle.body_state.specs.Follows.{Leads}
 use Rattle.body_walker_blocks.specs.Scopes.{Scoped, meanings}
 use Rattle.body_walker_blocks.specs.Located.{Located}
 use Rattle.body_walker_blocks.specs.Operands.{fitted, variable_in, variable_in_expr, variable_of_simple, variable_in_simple, variable_of_term, variable_in_term, variable_of_factor, variable_at, with_value, with_reference}

@@ -4,8 +4,8 @@ use Rattle.std.proofs.Math.ListN.{drop_of_length-le}
 use Rattle.std.proofs.Math.Seq.{drop-cons}
 use Rattle.estelle_model.specs.States.{Logged}
 use Rattle.estelle_model.specs.Steps.{Running, Step, and_then, ◌>>=◌, pure}
-use Rattle.body_walker_values.specs.declared.stop.Stop.{Stop}
-use Rattle.body_walker_state.specs.Follows.{Leads}
+use Rattle.body_values.specs.declared.stop.Stop.{Stop}
+use Rattle.body_state.specs.Follows.{Leads}
 use Rattle.body_walker_blocks.proofs.Followed.{follows_outcome, follows_stops}
 use Rattle.body_walker_blocks.proofs.Plans.{Last, Runs}
 

@@ -14,8 +14,8 @@ use Rattle.estelle_model.specs.Bodies.{BodyAlone, bodies}
 use Rattle.estelle_model.specs.Subject.{Subject}
 use Rattle.estelle_model.specs.Names.{Declared, required, or_other, at_place, declaration_of, required_meaning, meaning_at}
 use Rattle.body_walker_blocks.specs.Scopes.{Scoped}
-use Rattle.body_walker_state.specs.declared.bodies.ModuleBody.{ModuleBody}
-use Rattle.body_walker_state.specs.Bodies.{module_body, block_of, bodies_from, module_bodies}
+use Rattle.body_state.specs.declared.bodies.ModuleBody.{ModuleBody}
+use Rattle.body_state.specs.Bodies.{module_body, block_of, bodies_from, module_bodies}
 use Rattle.body_walker_blocks.specs.Walked.{IsKnown, IsBody}
 use Rattle.body_walker_blocks.proofs.Weights.{total, of_stmts}
 

@@ -2,10 +2,10 @@
 use Rattle.std.proofs.Common.{◌≡◌, ◌∙◌, refl, sym, ap, subst, Result, Ok, Err}
 use Rattle.pascal_values.specs.declared.fault.Fault.{Fault}
 use Rattle.estelle_model.specs.Steps.{Running, StepResult, Step, and_then, ◌>>=◌, pure, checked_at, checked}
-use Rattle.body_walker_values.specs.declared.stop.Stop.{Stop}
-use Rattle.body_walker_values.specs.declared.stop.Stop.TheVariants as stop
-use Rattle.body_walker_values.specs.Gives.{Gives}
-use Rattle.body_walker_state.specs.Follows.{Leads}
+use Rattle.body_values.specs.declared.stop.Stop.{Stop}
+use Rattle.body_values.specs.declared.stop.Stop.TheVariants as stop
+use Rattle.body_values.specs.Gives.{Gives}
+use Rattle.body_state.specs.Follows.{Leads}
 
 -- ---- the laws of steps
 

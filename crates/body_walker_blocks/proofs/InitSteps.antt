@@ -28,16 +28,16 @@ use Rattle.estelle_model.specs.Actions as estelle
 use Rattle.estelle_model.specs.Acts as acts
 use Rattle.estelle_model.specs.Actions.{empty_in, has_header, may_hold, or_no_module}
 use Rattle.estelle_model.proofs.StatementEquations.{stmts_opened}
-use Rattle.body_walker_state.specs.declared.bodies.ModuleBody.{ModuleBody}
-use Rattle.body_walker_state.specs.declared.bodies.Initialization.{Initialization}
-use Rattle.body_walker_values.specs.declared.stop.Stop.{Stop}
-use Rattle.body_walker_values.specs.declared.stop.Stop.TheVariants as stop
-use Rattle.body_walker_values.specs.Gives.{Gives}
-use Rattle.body_walker_state.specs.Bodies.{module_body, initialization_of, block_by, block_of, state_of, state_after}
-use Rattle.body_walker_state.specs.Progress.{Progress, running}
-use Rattle.body_walker_state.specs.Follows.{Follows, Leads, carried}
-use Rattle.body_walker_actions.specs.Children.{beginning, begins_child}
-use Rattle.body_walker_actions.proofs.ChildLemmas.{tests_ok}
+use Rattle.body_state.specs.declared.bodies.ModuleBody.{ModuleBody}
+use Rattle.body_state.specs.declared.bodies.Initialization.{Initialization}
+use Rattle.body_values.specs.declared.stop.Stop.{Stop}
+use Rattle.body_values.specs.declared.stop.Stop.TheVariants as stop
+use Rattle.body_values.specs.Gives.{Gives}
+use Rattle.body_state.specs.Bodies.{module_body, initialization_of, block_by, block_of, state_of, state_after}
+use Rattle.body_state.specs.Progress.{Progress, running}
+use Rattle.body_state.specs.Follows.{Follows, Leads, carried}
+use Rattle.body_actions.specs.Children.{beginning, begins_child}
+use Rattle.body_actions.proofs.ChildLemmas.{tests_ok}
 use Rattle.body_walker_blocks.specs.Scopes.{Scoped, meanings}
 use Rattle.body_walker_blocks.specs.Walked.{actions, acting, entering, calling, stmts, within, create, initialize}
 use Rattle.body_walker_blocks.proofs.Plans.{Plan, First, Last, Finish, Refuse, run, Is, Runs}

@@ -27,8 +27,8 @@ use Rattle.estelle_model.proofs.UnitsOfBlocks.{ActsNever, EntersNever, expr_neve
 use Rattle.estelle_model.proofs.BlocksKept.{call_by_kept, nested_kept}
 use Rattle.estelle_model.proofs.AlikeFirings.{log_is_faithful}
 use Rattle.estelle_model.proofs.UnitsOfActions.{act_never}
-use Rattle.body_walker_values.specs.declared.stop.Stop.{Stop}
-use Rattle.body_walker_state.specs.Follows.{Leads}
+use Rattle.body_values.specs.declared.stop.Stop.{Stop}
+use Rattle.body_state.specs.Follows.{Leads}
 use Rattle.body_walker_blocks.specs.Scopes.{Scoped, meanings}
 use Rattle.body_walker_blocks.specs.Turns.{beginning, following}
 use Rattle.body_walker_blocks.specs.Walked.{actions, acting, entering, calling, expr, condition, stmt, stmts, while_loop, repeat_loop, count_loop}

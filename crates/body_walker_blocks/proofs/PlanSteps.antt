@@ -12,10 +12,10 @@ use Rattle.estelle_model.specs.Places.{child_at, child_step}
 use Rattle.estelle_model.specs.Subject.{Subject}
 use Rattle.estelle_model.specs.Actions.{child_in}
 use Rattle.estelle_model.proofs.Carried.{carry_then}
-use Rattle.body_walker_values.specs.declared.stop.Stop.{Stop}
-use Rattle.body_walker_values.specs.declared.stop.Stop.TheVariants as stop
-use Rattle.body_walker_state.specs.Progress.{Progress, running}
-use Rattle.body_walker_state.specs.Follows.{Follows, carried}
+use Rattle.body_values.specs.declared.stop.Stop.{Stop}
+use Rattle.body_values.specs.declared.stop.Stop.TheVariants as stop
+use Rattle.body_state.specs.Progress.{Progress, running}
+use Rattle.body_state.specs.Follows.{Follows, carried}
 
 -- the one, and then the other with its value
 abbrev pub follow : {A B : Type 0} → Plan A → (A → Plan B) → Plan B

@@ -5,10 +5,10 @@ use Rattle.std.proofs.lemmas.Result.{err_from_is_err_and}
 use Rattle.pascal_values.specs.declared.fault.Fault.{Fault}
 use Rattle.estelle_model.specs.States.{Logged}
 use Rattle.estelle_model.specs.Steps.{Running, Step, ◌>>=◌, pure, fail, checked_at, checked}
-use Rattle.body_walker_values.specs.declared.stop.Stop.{Stop}
-use Rattle.body_walker_values.specs.declared.stop.Stop.TheVariants as stop
-use Rattle.body_walker_values.specs.Gives.{Gives}
-use Rattle.body_walker_state.specs.Follows.{Leads}
+use Rattle.body_values.specs.declared.stop.Stop.{Stop}
+use Rattle.body_values.specs.declared.stop.Stop.TheVariants as stop
+use Rattle.body_values.specs.Gives.{Gives}
+use Rattle.body_state.specs.Follows.{Leads}
 use Rattle.body_walker_blocks.proofs.Followed.{follows_as, follows_then, follows_stops, follows_checked, follows_given, follows_refused}
 
 pub data Plan (B : Type 0) : Type 1 where

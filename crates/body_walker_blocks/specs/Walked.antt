@@ -34,9 +34,9 @@ use Rattle.estelle_model.specs.States.{Logged, on_log}
 use Rattle.estelle_model.specs.Steps.{Step, Do, ◌>>=◌, ◌>>◌, pure, fail}
 use Rattle.estelle_model.specs.Places.{put, store_ordinal, child_step}
 use Rattle.estelle_model.specs.Subject.{body, child_of}
-use Rattle.body_walker_state.specs.declared.bodies.ModuleBody.{ModuleBody}
-use Rattle.body_walker_state.specs.Bodies.{module_body, block_of}
-use Rattle.body_walker_state.specs.Follows.{carried}
+use Rattle.body_state.specs.declared.bodies.ModuleBody.{ModuleBody}
+use Rattle.body_state.specs.Bodies.{module_body, block_of}
+use Rattle.body_state.specs.Follows.{carried}
 use Rattle.estelle_model.specs.Expressions as spec
 use Rattle.estelle_model.specs.Expressions.{Operand, Access, Selecting, Call, bool_step, ordinal_step, give_all, no_arguments}
 use Rattle.estelle_model.specs.Loops as loops

@@ -4,13 +4,13 @@ ghost use Rattle.estelle_model.specs.States.{Logged, on_log};
 ghost use Rattle.estelle_model.specs.Acts.{act};
 ghost use Rattle.estelle_model.specs.Blocks.{block_step, clause_value};
 ghost use Rattle.meaning_table.specs.Known.{meanings_of};
-ghost use Rattle.body_walker_state.specs.Follows.{Follows};
+ghost use Rattle.body_state.specs.Follows.{Follows};
 
 use crate::calls::within;
 use crate::expressions::expr;
 use crate::scope::Scope;
-use body_walker_state::{ModuleBodies, Walk};
-use body_walker_values::Stop;
+use body_state::{ModuleBodies, Walk};
+use body_values::Stop;
 use estelle_model::{Environment, Routine};
 use estelle_tree::{Expr, Items, Path};
 use meaning_table::Table;

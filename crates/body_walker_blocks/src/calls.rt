@@ -1,7 +1,7 @@
 //! Names in expressions, and calls of routines (ISO 7185, 6.6 and 6.7.3).
 
 ghost use Rattle.estelle_model.specs.declared.meaning.Passing.TheVariants.{ByValue};
-ghost use Rattle.body_walker_state.specs.Follows.{Follows};
+ghost use Rattle.body_state.specs.Follows.{Follows};
 ghost use Rattle.body_walker_blocks.specs.Walked as walked;
 ghost use Rattle.body_walker_blocks.specs.Walked.{IsKnown};
 
@@ -11,8 +11,8 @@ use crate::operands::{fitted, variable_in, with_reference, with_value};
 use crate::scope::Scope;
 use crate::statements::stmts;
 use crate::variables::accessed;
-use body_walker_state::Walk;
-use body_walker_values::{Stop, required_value, set_value};
+use body_state::Walk;
+use body_values::{Stop, required_value, set_value};
 use estelle_model::{ActualParameters, Environment, Meaning, Passing, Routine, Type};
 use estelle_tree::{Expr, Items, Name, Selector, Sequence, SequenceMut};
 use pascal_values::{Fault, Value, Values, copy};

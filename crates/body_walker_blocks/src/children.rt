@@ -1,15 +1,15 @@
 //! New children (ISO/IEC 9074: init).
 
-ghost use Rattle.body_walker_state.specs.Follows.{Follows};
+ghost use Rattle.body_state.specs.Follows.{Follows};
 ghost use Rattle.body_walker_blocks.specs.Walked as walked;
 ghost use Rattle.body_walker_blocks.specs.Walked.{IsBody};
 
 use crate::calls::{MAX_DEPTH, value_arguments, within};
 use crate::labels::exprs_of;
 use crate::scope::Scope;
-use body_walker_actions::{begin_child, hold_child, may_begin};
-use body_walker_state::{ModuleBody, Walk};
-use body_walker_values::Stop;
+use body_actions::{begin_child, hold_child, may_begin};
+use body_state::{ModuleBody, Walk};
+use body_values::Stop;
 use estelle_model::{Environment, Meaning};
 use estelle_tree::{Args, Items, Name, SequenceMut};
 use pascal_values::{Fault, Values};

@@ -1,13 +1,13 @@
 //! Expressions (ISO 7185, 6.7).
 
-ghost use Rattle.body_walker_state.specs.Follows.{Follows};
+ghost use Rattle.body_state.specs.Follows.{Follows};
 ghost use Rattle.body_walker_blocks.specs.Walked as walked;
 
 use crate::calls::{designated, valued};
 use crate::operands::{decides_product, decides_sum, product, sum, with_members, with_sign};
 use crate::scope::Scope;
-use body_walker_state::Walk;
-use body_walker_values::{Stop, bool_of, members_from, negation, one_member, ordinal_of, related};
+use body_state::Walk;
+use body_values::{Stop, bool_of, members_from, negation, one_member, ordinal_of, related};
 use estelle_model::Environment;
 use estelle_tree::{Adding, Elem, Expr, Factor, Multiplying, Sequence, SequenceMut, Simple, Term};
 use pascal_values::{Members, Value};

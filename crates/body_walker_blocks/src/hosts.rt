@@ -10,7 +10,7 @@ ghost use Rattle.body_walker_blocks.specs.Hosts as spec;
 
 use crate::places::behind_beginning;
 use crate::scope::Scope;
-use body_walker_values::{field_of, item_of, required_host};
+use body_values::{field_of, item_of, required_host};
 use estelle_model::{Denoter, Host, Meaning, Type, host_of};
 use estelle_tree::{Adding, Expr, Factor, Multiplying, Name, Selector, Sequence, Simple, Term};
 

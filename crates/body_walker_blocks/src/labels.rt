@@ -3,12 +3,12 @@
 ghost use Rattle.std.specs.Prelude.{◌≡◌, IfOk};
 ghost use Rattle.std.specs.Option.{option_copied};
 ghost use Rattle.body_walker_blocks.specs.Scopes.{meanings};
-ghost use Rattle.body_walker_values.specs.Gives.{Gives};
+ghost use Rattle.body_values.specs.Gives.{Gives};
 ghost use Rattle.estelle_model.specs.Statements.{is_labelled};
 ghost use Rattle.body_walker_blocks.specs.Labels as spec;
 
 use crate::scope::Scope;
-use body_walker_values::{Stop, ordinal_of, signed};
+use body_values::{Stop, ordinal_of, signed};
 use estelle_model::Meaning;
 use estelle_tree::{Args, Case, Const, Expr, Name, Sequence, Sign, Stmt};
 use pascal_values::{Fault, Value};

@@ -1,15 +1,15 @@
 //! The statements of Estelle that evaluate nothing (ISO/IEC 9074: connect, disconnect, attach, detach, release).
 
-ghost use Rattle.body_walker_state.specs.Follows.{Follows};
+ghost use Rattle.body_state.specs.Follows.{Follows};
 ghost use Rattle.body_walker_blocks.specs.Walked as walked;
 
 use crate::points::{ip_named, own_ip, part_of_child};
 use crate::scope::Scope;
-use body_walker_actions::{
+use body_actions::{
     attach_points, connect_points, detach_point, disconnect_child, disconnect_point, release_child,
 };
-use body_walker_state::Walk;
-use body_walker_values::Stop;
+use body_state::Walk;
+use body_values::Stop;
 use estelle_model::{Environment, Meaning};
 use estelle_tree::{Ip, Name};
 use pascal_values::Fault;

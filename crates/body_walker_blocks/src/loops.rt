@@ -1,7 +1,7 @@
 //! Loops: each turn takes a unit (ISO 7185, 6.8.3.7 to 6.8.3.9).
 
 ghost use Rattle.std.specs.Prelude.{◌≡◌};
-ghost use Rattle.body_walker_state.specs.Follows.{Follows};
+ghost use Rattle.body_state.specs.Follows.{Follows};
 ghost use Rattle.body_walker_blocks.specs.Walked as walked;
 ghost use Rattle.body_walker_blocks.specs.Turns as turns;
 
@@ -10,8 +10,8 @@ use crate::places::is_variable;
 use crate::scope::Scope;
 use crate::statements::{stmt, stmts};
 use crate::variables::accessed;
-use body_walker_state::Walk;
-use body_walker_values::Stop;
+use body_state::Walk;
+use body_values::Stop;
 use estelle_model::{Denoter, Environment, Place};
 use estelle_tree::{Direction, Expr, Name, Stmt, Stmts};
 use pascal_values::{Fault, Value};

@@ -2,10 +2,10 @@
 
 ghost use Rattle.std.specs.Prelude.{◌≡◌};
 ghost use Rattle.std.specs.Option.{option_copied};
-ghost use Rattle.body_walker_values.specs.Gives.{Gives};
+ghost use Rattle.body_values.specs.Gives.{Gives};
 ghost use Rattle.body_walker_blocks.specs.Operands as spec;
 
-use body_walker_values::{Stop, bool_of, divided, fits, minus, modulo, plus, signed, times};
+use body_values::{Stop, bool_of, divided, fits, minus, modulo, plus, signed, times};
 use estelle_model::{ActualParameters, Place, Type};
 use estelle_tree::{Adding, Expr, Factor, Multiplying, Sequence, Sign, Simple, Term, Variable};
 use pascal_values::{Members, Value, unite};

@@ -1,15 +1,15 @@
 //! Outputs (ISO/IEC 9074: output).
 
-ghost use Rattle.body_walker_state.specs.Follows.{Follows};
+ghost use Rattle.body_state.specs.Follows.{Follows};
 ghost use Rattle.body_walker_blocks.specs.Walked as walked;
 
 use crate::calls::value_arguments;
 use crate::labels::exprs_of;
 use crate::points::own_ip;
 use crate::scope::Scope;
-use body_walker_actions::{output_at, types_received};
-use body_walker_state::Walk;
-use body_walker_values::Stop;
+use body_actions::{output_at, types_received};
+use body_state::Walk;
+use body_values::Stop;
 use estelle_model::Environment;
 use estelle_tree::{Args, Name};
 use std::alloc::Global;

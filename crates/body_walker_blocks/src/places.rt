@@ -1,14 +1,14 @@
 //! Where variable accesses begin, and their components.
 
 ghost use Rattle.std.specs.Prelude.{◌≡◌, IfOk};
-ghost use Rattle.body_walker_values.specs.Gives.{Gives};
-ghost use Rattle.body_walker_state.specs.Follows.{Follows};
+ghost use Rattle.body_values.specs.Gives.{Gives};
+ghost use Rattle.body_state.specs.Follows.{Follows};
 ghost use Rattle.body_walker_blocks.specs.Accesses as spec;
 
 use crate::reached::Reached;
 use crate::scope::Scope;
-use body_walker_state::Walk;
-use body_walker_values::{Stop, bounds_of, copy_place, deeper, field_of, item_of};
+use body_state::Walk;
+use body_values::{Stop, bounds_of, copy_place, deeper, field_of, item_of};
 use estelle_model::{Environment, Meaning, Passing, Place, Routine, Type};
 use estelle_tree::{Items, Path, Selector, Sequence};
 use pascal_values::{Fault, position};

@@ -1,15 +1,15 @@
 //! Interaction points by their names.
 
 ghost use Rattle.estelle_model.specs.Actions as actions;
-ghost use Rattle.body_walker_values.specs.Gives.{Gives};
-ghost use Rattle.body_walker_state.specs.Follows.{Follows, carried};
+ghost use Rattle.body_values.specs.Gives.{Gives};
+ghost use Rattle.body_state.specs.Follows.{Follows, carried};
 ghost use Rattle.body_walker_blocks.specs.Points.{ip_at};
 ghost use Rattle.body_walker_blocks.specs.Scopes.{meanings};
 ghost use Rattle.body_walker_blocks.specs.Walked as walked;
 
 use crate::scope::Scope;
-use body_walker_state::Walk;
-use body_walker_values::Stop;
+use body_state::Walk;
+use body_values::Stop;
 use estelle_model::{Environment, Meaning};
 use estelle_tree::{IpAddr, Name, Path};
 use pascal_values::Fault;

@@ -3,7 +3,7 @@
 ghost use Rattle.std.specs.Prelude.{◌≡◌};
 ghost use Rattle.body_walker_blocks.specs.Scopes.{meanings};
 
-use body_walker_state::ModuleBodies;
+use body_state::ModuleBodies;
 use estelle_model::Meaning;
 use estelle_tree::Name;
 use meaning_table::Table;

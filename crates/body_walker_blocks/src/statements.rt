@@ -1,6 +1,6 @@
 //! Statements (ISO 7185, 6.8).
 
-ghost use Rattle.body_walker_state.specs.Follows.{Follows};
+ghost use Rattle.body_state.specs.Follows.{Follows};
 ghost use Rattle.body_walker_blocks.specs.Walked as walked;
 
 use crate::calls::invoke;
@@ -12,8 +12,8 @@ use crate::loops::{count, repeat_loop, while_loop};
 use crate::output::output;
 use crate::scope::Scope;
 use crate::variables::target;
-use body_walker_state::Walk;
-use body_walker_values::Stop;
+use body_state::Walk;
+use body_values::Stop;
 use estelle_model::{Environment, Meaning};
 use estelle_tree::{Args, Case, Expr, Name, Sequence, Stmt, Stmts, Variable};
 use pascal_values::Fault;

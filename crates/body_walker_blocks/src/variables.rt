@@ -1,14 +1,14 @@
 //! Variable accesses (ISO 7185, 6.5): their indices are evaluated from left to right.
 
-ghost use Rattle.body_walker_state.specs.Follows.{Follows};
+ghost use Rattle.body_state.specs.Follows.{Follows};
 ghost use Rattle.body_walker_blocks.specs.Walked as walked;
 
 use crate::expressions::ordinal;
 use crate::places::{begun, behind_beginning, field, item, result_of};
 use crate::reached::Reached;
 use crate::scope::Scope;
-use body_walker_state::Walk;
-use body_walker_values::Stop;
+use body_state::Walk;
+use body_values::Stop;
 use estelle_model::{Environment, Meaning};
 use estelle_tree::{Expr, Selector, Sequence, Variable};
 use std::alloc::Global;

@@ -5,7 +5,7 @@ ghost use Rattle.std.specs.List.{list_any};
 ghost use Rattle.estelle_model.specs.Subject.{transitions, transition};
 ghost use Rattle.estelle_model.specs.Delays as delays;
 
-use body_walker_program::Program;
+use body_program::Program;
 use std::alloc::AllocError;
 
 /// Whether a transition of a body has a delay.

@@ -3,7 +3,7 @@
 ghost use Rattle.situation_images.specs.Putting.{MayBePut, IsPutIn};
 ghost use Rattle.situation.specs.Putting.{led_to};
 
-use body_walker_program::Program;
+use body_program::Program;
 use effect_log::{Notes, Shared};
 use estelle_model::Done;
 use run_history::History;

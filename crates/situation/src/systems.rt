@@ -9,7 +9,7 @@ ghost use Rattle.effect_log.specs.Standing.{Stands};
 ghost use Rattle.situation_steps.specs.Systems.{systems_of, first_kept, after_firing, after_wait, NoneIsDue};
 ghost use Rattle.situation.specs.Systems.{is_system_body, kept_part, IsFirstOne};
 
-use body_walker_program::Program;
+use body_program::Program;
 use effect_log::Shared;
 use estelle_model::{Attribute, Part};
 use estelle_tree::Path;

@@ -26,9 +26,9 @@ use Rattle.estelle_model.specs.Queues.{common_at}
 use Rattle.estelle_model.specs.Jobs.{part_of_entry}
 use Rattle.estelle_model.proofs.Maps.{total}
 use Rattle.estelle_model.proofs.PrivateParts.{same_path, body_of}
-use Rattle.body_walker_state.specs.declared.bodies.ModuleBody.{ModuleBody}
-use Rattle.body_walker_state.specs.Bodies.{module_body}
-use Rattle.body_walker_state.proofs.StoreLemmas.{points_more}
+use Rattle.body_state.specs.declared.bodies.ModuleBody.{ModuleBody}
+use Rattle.body_state.specs.Bodies.{module_body}
+use Rattle.body_state.proofs.StoreLemmas.{points_more}
 use Rattle.body_walker.specs.Roots.{root_part}
 use Rattle.body_walker.proofs.RootLemmas.{part_is}
 use Rattle.effect_log.specs.declared.shared.Shared.{Shared}

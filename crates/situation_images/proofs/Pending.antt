@@ -15,7 +15,7 @@ use Rattle.estelle_model.specs.Jobs.{part_of_entry, found_by, received_by}
 use Rattle.estelle_model.specs.Asked.{head_of}
 use Rattle.estelle_model_legality.specs.Situations.{IsLegal}
 use Rattle.estelle_model_legality.specs.Jobs.{item_of}
-use Rattle.body_walker_state.specs.InOrder.{InOrder}
+use Rattle.body_state.specs.InOrder.{InOrder}
 use Rattle.body_walker.proofs.JobLemmas.{shown_in_order}
 use Rattle.effect_log.specs.Standing.{kept_of}
 use Rattle.situation_images.specs.Instances.{IsTreeOf, IsOfBody, parts_of}

@@ -1,6 +1,6 @@
 -- A private part as it is read.
 use Rattle.estelle_model.specs.declared.image.Image.{Image}
-use Rattle.body_walker_state.specs.InOrder.{InOrder, parts_behind}
+use Rattle.body_state.specs.InOrder.{InOrder, parts_behind}
 use Rattle.situation_images.specs.declared.images.Private.TheInside.{Inside}
 
 -- the image of the instances to which references lead, and of these links

@@ -10,8 +10,8 @@ ghost use Rattle.body_walker.specs.Roots.{root_part};
 ghost use Rattle.situation_images.specs.Instances.{IsTreeOf};
 ghost use Rattle.situation_images.specs.Starts.{root_points};
 
+use body_program::Program;
 use body_walker::root_part;
-use body_walker_program::Program;
 use effect_log::Shared;
 use estelle_model::{Interaction, Part};
 use estelle_tree::{IpAddr, Path};

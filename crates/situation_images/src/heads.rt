@@ -14,8 +14,8 @@ ghost use Rattle.estelle_model_legality.specs.Situations.{IsLegal};
 ghost use Rattle.effect_log.specs.Standing.{Stands};
 ghost use Rattle.situation_images.specs.Instances.{IsOfBody};
 
-use body_walker_program::Program;
-use body_walker_values::copy_values;
+use body_program::Program;
+use body_values::copy_values;
 use effect_log::Shared;
 use estelle_model::Interaction;
 use estelle_tree::{IpAddr, Path};

@@ -6,12 +6,12 @@ ghost use Rattle.estelle_model.specs.Situation.{Situation};
 ghost use Rattle.estelle_model.specs.Jobs as jobs;
 ghost use Rattle.estelle_model_legality.specs.Choices.{AreTree};
 ghost use Rattle.estelle_model_legality.specs.Jobs as legal;
-ghost use Rattle.body_walker_state.specs.InOrder.{parts_behind, InOrder};
+ghost use Rattle.body_state.specs.InOrder.{parts_behind, InOrder};
 ghost use Rattle.effect_log.specs.Standing.{Stands};
 ghost use Rattle.situation_images.specs.Instances.{IsTreeOf, instances_in, parts_of};
 
-use body_walker_program::Program;
-use body_walker_state::{View, copy_parts};
+use body_program::Program;
+use body_state::{View, copy_parts};
 use effect_log::Shared;
 use estelle_model::{Image, Part};
 use estelle_tree::{IpAddr, Items, Link, LinkKind, Path};

@@ -4,13 +4,13 @@ ghost use Rattle.std.specs.Prelude.{◌≡◌, ℕ, IfOk, Contains};
 ghost use Rattle.estelle_model.specs.Situation.{Situation};
 ghost use Rattle.estelle_model_legality.specs.Jobs as legal;
 ghost use Rattle.estelle_model_legality.specs.Situations.{IsLegal};
-ghost use Rattle.body_walker_state.specs.InOrder.{InOrder};
+ghost use Rattle.body_state.specs.InOrder.{InOrder};
 ghost use Rattle.effect_log.specs.Standing.{Stands};
 
 use crate::heads::copied_head;
 use crate::images::image_of;
+use body_program::Program;
 use body_walker::root_image;
-use body_walker_program::Program;
 use effect_log::Shared;
 use estelle_model::{Interaction, Job, Pair};
 use estelle_tree::Path;

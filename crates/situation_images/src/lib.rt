@@ -2,7 +2,7 @@
 //! that a transition finds at its queue, and the job of a pending firing, which has such an image; and what a firing did, put into
 //! that state in the situation that a run so far leads to.
 //!
-//! It stands on `effect_log`, whose `Stands` says for which situation the shared state stands, and on `body_walker_program`
+//! It stands on `effect_log`, whose `Stands` says for which situation the shared state stands, and on `body_program`
 //! for what bodies declare. An image is a copy: it takes the time of the instances at and below its own and of all links, and
 //! the memory of those instances and of the links that they made. What is read where it is takes a reference in place of each instance.
 #![tactic(auto)]

@@ -3,7 +3,7 @@
 ghost use Rattle.estelle_model.specs.Firing.{bare};
 ghost use Rattle.situation_images.specs.Putting.{MayBePut, IsPutIn};
 
-use body_walker_program::Program;
+use body_program::Program;
 use effect_log::{Disciplines, Notes, Shared, apply};
 use estelle_model::Done;
 

@@ -19,8 +19,8 @@ ghost use Rattle.transition_select.specs.Countings.{AreCountablesOf};
 ghost use Rattle.situation_offers.specs.Guards as spec;
 ghost use Rattle.situation_offers.specs.Asked.{IsShown, MayBeAsked, IsAt, IsImageOf, IsAnswer, AreAll, IsCount, IsCountingOf, IsOffering};
 
+use body_program::Program;
 use body_walker::{guard_plain, settled};
-use body_walker_program::Program;
 use delay_timers::Timers;
 use effect_log::Shared;
 use estelle_model::{Attribute, Guard, Interaction, Part};

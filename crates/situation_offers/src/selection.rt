@@ -14,7 +14,7 @@ ghost use Rattle.situation_offers.specs.declared.selection.SelectFault.TheVarian
 ghost use Rattle.situation_offers.specs.Selections.{IsViewOf, IsSelection, IsRefusal, LeavesChooser, EnablesSome, SomeIsEnabled};
 
 use crate::guards::{Offering, ask, guard_of};
-use body_walker_program::Program;
+use body_program::Program;
 use delay_timers::Timers;
 use effect_log::Shared;
 use estelle_model::{Guard, Pair, Part};

@@ -3,7 +3,7 @@
 ghost use Rattle.estelle_model.specs.Runs.{situation_at};
 ghost use Rattle.situation_images.specs.Putting.{MayBePut, IsPutIn};
 
-use body_walker_program::Program;
+use body_program::Program;
 use effect_log::{Notes, Shared};
 use estelle_model::{Done, Event};
 use situation_images::{RunSoFar, put_firing};

@@ -7,7 +7,7 @@ ghost use Rattle.estelle_model.specs.Attributes.{attribute, attribute_at, is_sys
 ghost use Rattle.estelle_model_legality.specs.Situations.{IsLegal};
 ghost use Rattle.effect_log.specs.Standing.{Stands};
 
-use body_walker_program::Program;
+use body_program::Program;
 use effect_log::Shared;
 use estelle_model::Attribute;
 use estelle_tree::Path;

@@ -27,14 +27,14 @@ use Rattle.estelle_model.specs.Definitions.{types_received}
 use Rattle.estelle_model.specs.Operators.{one_member, members_from, required_value}
 use Rattle.estelle_model.specs.States.{Logged, on_log}
 use Rattle.estelle_model.specs.Places.{load, store, store_ordinal}
-use Rattle.body_walker_state.specs.declared.bodies.Initialization.{Initialization}
-use Rattle.body_walker_values.specs.declared.stop.Stop.TheVariants as stop
-use Rattle.body_walker_state.specs.Bodies.{module_body, block_by}
-use Rattle.body_walker_actions.specs.Children.{beginning}
-use Rattle.body_walker_values.specs.Gives.{Gives}
-use Rattle.body_walker_state.specs.Progress.{running}
-use Rattle.body_walker_state.specs.Follows.{Follows}
-use Rattle.body_walker_state.proofs.BodyLemmas.{known_body}
+use Rattle.body_state.specs.declared.bodies.Initialization.{Initialization}
+use Rattle.body_values.specs.declared.stop.Stop.TheVariants as stop
+use Rattle.body_state.specs.Bodies.{module_body, block_by}
+use Rattle.body_actions.specs.Children.{beginning}
+use Rattle.body_values.specs.Gives.{Gives}
+use Rattle.body_state.specs.Progress.{running}
+use Rattle.body_state.specs.Follows.{Follows}
+use Rattle.body_state.proofs.BodyLemmas.{known_body}
 use Rattle.body_walker_blocks.specs.Scopes.{meanings}
 use Rattle.body_walker_blocks.specs.Located.{Located}
 use Rattle.body_walker_blocks.specs.Operands.{with_reference}

@@ -1,7 +1,7 @@
 use Rattle.std.proofs.Common.{◌+◌, map}
 use Rattle.estelle_model.specs.declared.meaning.Passing.TheVariants.{ByValue}
-use Rattle.body_walker_state.specs.Bodies.{block_of}
-use Rattle.body_walker_state.specs.Progress.{running}
+use Rattle.body_state.specs.Bodies.{block_of}
+use Rattle.body_state.specs.Progress.{running}
 use Rattle.body_walker_blocks.specs.Walked as walked
 use Rattle.body_walker_blocks.proofs.Weights.{total, of_factor, of_selector, of_elem, of_expr, of_simple, of_term, of_variable, of_arguments, of_stmt, of_case, of_stmts}
 use Rattle.body_walker_blocks.proofs.Depths.{of_calls}

@@ -2,7 +2,7 @@ use Rattle.std.proofs.Common.{ap, ◌∙◌, arith, List}
 use Rattle.std.specs.Prelude.{option_map}
 use Rattle.estelle_model.specs.declared.image.Part.{Part}
 use Rattle.estelle_model.specs.Core.{Instance}
-use Rattle.body_walker_state.specs.InOrder.{instance_in}
+use Rattle.body_state.specs.InOrder.{instance_in}
 use Rattle.body_walker.proofs.FiringLemmas.{computed, none_computed}
 use Rattle.body_walker.proofs.firing.compute.Goals as goal
 

@@ -1,6 +1,6 @@
 use Rattle.meaning_table.specs.Known.{meanings_of}
 use Rattle.body_walker.proofs.FiringLemmas.{run_ok, run_err}
-use Rattle.body_walker_state.specs.Progress.{running}
+use Rattle.body_state.specs.Progress.{running}
 use Rattle.body_walker.proofs.firing.run.Goals as goal
 
 pub returns-in-Ok : goal.returns-in-Ok

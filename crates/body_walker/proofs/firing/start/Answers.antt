@@ -1,7 +1,7 @@
 use Rattle.std.proofs.Common.{◌∙◌, ap}
 use Rattle.std.specs.Prelude.{option_map}
 use Rattle.estelle_model.specs.Subject.{Subject, initialization}
-use Rattle.body_walker_state.specs.Bodies.{initialization_of}
+use Rattle.body_state.specs.Bodies.{initialization_of}
 use Rattle.body_walker.proofs.FiringLemmas.{begun_some, started}
 use Rattle.body_walker.proofs.firing.start.Goals as goal
 

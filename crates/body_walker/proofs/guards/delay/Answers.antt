@@ -2,7 +2,7 @@ use Rattle.std.proofs.Common.{◌≡◌, ap, rules, to_z, of_z, w64}
 use Rattle.std.proofs.lemmas.Int.{to_z-of_z}
 use Rattle.std.specs.Option.{option_copied}
 use Rattle.body_walker.proofs.GuardLemmas.{delay_none, delay_timed, delay_ok, delay_err}
-use Rattle.body_walker_state.specs.Progress.{running}
+use Rattle.body_state.specs.Progress.{running}
 use Rattle.body_walker.proofs.guards.delay.Goals as goal
 
 pub returns-in-None : goal.returns-in-None

@@ -1,6 +1,6 @@
 use Rattle.std.specs.Option.{option_copied}
 use Rattle.body_walker.proofs.GuardLemmas.{guard_true, guard_false, guard_err}
-use Rattle.body_walker_state.specs.Progress.{running}
+use Rattle.body_state.specs.Progress.{running}
 use Rattle.body_walker.proofs.guards.guard.Goals as goal
 
 pub returns-else-not-holds : goal.returns-else-not-holds

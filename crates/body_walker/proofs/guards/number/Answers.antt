@@ -1,5 +1,5 @@
 use Rattle.body_walker.proofs.GuardLemmas.{number_ok, number_err}
-use Rattle.body_walker_state.specs.Progress.{running}
+use Rattle.body_state.specs.Progress.{running}
 use Rattle.body_walker.proofs.guards.number.Goals as goal
 
 pub returns-in-Ok : goal.returns-in-Ok

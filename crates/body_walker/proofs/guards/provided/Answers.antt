@@ -2,7 +2,7 @@ use Rattle.std.proofs.Common.{sym, ap, subst}
 use Rattle.std.specs.Option.{option_copied}
 use Rattle.estelle_model.specs.States.{Logged, on_log}
 use Rattle.estelle_model.specs.Clauses.{provided_step}
-use Rattle.body_walker_state.specs.Follows.{Follows}
+use Rattle.body_state.specs.Follows.{Follows}
 use Rattle.body_walker.proofs.guards.provided.Goals as goal
 
 pub returns-in-Some : goal.returns-in-Some

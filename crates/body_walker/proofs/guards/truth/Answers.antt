@@ -1,5 +1,5 @@
 use Rattle.body_walker.proofs.GuardLemmas.{truth_ok, truth_err}
-use Rattle.body_walker_state.specs.Progress.{running}
+use Rattle.body_state.specs.Progress.{running}
 use Rattle.body_walker.proofs.guards.truth.Goals as goal
 
 pub returns-in-Ok : goal.returns-in-Ok

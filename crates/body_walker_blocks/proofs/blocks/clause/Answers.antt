@@ -2,7 +2,7 @@ use Rattle.std.proofs.Common.{sym, ap, Ok}
 use Rattle.pascal_values.specs.declared.value.Value.{Value}
 use Rattle.estelle_model.specs.States.{Logged}
 use Rattle.estelle_model.specs.Steps.{StepResult}
-use Rattle.body_walker_state.specs.Progress.{Progress, running}
+use Rattle.body_state.specs.Progress.{Progress, running}
 use Rattle.body_walker_blocks.proofs.Plans.{then, stops, comes, ends, exits}
 use Rattle.body_walker_blocks.proofs.BlockSteps.{clause_steps}
 use Rattle.body_walker_blocks.proofs.blocks.clause.Goals as goal

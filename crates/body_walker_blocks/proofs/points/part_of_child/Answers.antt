@@ -1,6 +1,6 @@
 use Rattle.std.proofs.Common.{subst}
 use Rattle.estelle_model.specs.declared.meaning.Meaning.{Meaning}
-use Rattle.body_walker_values.specs.Gives.{Gives}
+use Rattle.body_values.specs.Gives.{Gives}
 use Rattle.body_walker_blocks.specs.Points.{ip_at}
 use Rattle.body_walker_blocks.proofs.Plans.{then, gives, leaves}
 use Rattle.body_walker_blocks.proofs.ActionSteps.{part_steps}

@@ -3,7 +3,7 @@ use Rattle.std.specs.List.{list_any, range_with_len}
 use Rattle.std.specs.Prelude.{is_some}
 use Rattle.estelle_model.specs.Bodies.{bodies}
 use Rattle.estelle_model.specs.Subject.{body}
-use Rattle.body_walker_state.specs.Bodies.{module_body}
+use Rattle.body_state.specs.Bodies.{module_body}
 use Rattle.situation.proofs.Delayed.{body_delays, there_is, is_numbered, is_behind, found_here, one_more, none_of_fewer}
 use Rattle.situation.proofs.delays.has_delays.Goals as goal
 

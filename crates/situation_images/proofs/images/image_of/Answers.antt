@@ -1,6 +1,6 @@
 use Rattle.std.proofs.Common.{◌∙◌, sym, ap, subst, List}
 use Rattle.estelle_model.specs.declared.image.Part.{Part}
-use Rattle.body_walker_state.specs.InOrder.{InOrder, parts_behind}
+use Rattle.body_state.specs.InOrder.{InOrder, parts_behind}
 use Rattle.situation_images.proofs.Pending.{in_order}
 use Rattle.situation_images.proofs.Reading.{image_is}
 use Rattle.situation_images.proofs.images.image_of.Goals as goal

@@ -1,6 +1,0 @@
-use Rattle.std.proofs.Common.{◌≡◌, take}
-use Rattle.body_walker_program.specs.Chosen.{chosen_over}
-use Rattle.body_walker_program.proofs.choices.with_choices.Given as goal
-
-abbrev pub invariant-loop-choice : goal.invariant-loop-choice
-invariant-loop-choice l = l.over ≡ chosen_over l.table (take l.choice-index l.chosen)

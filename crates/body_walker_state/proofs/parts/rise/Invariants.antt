@@ -1,6 +1,0 @@
-use Rattle.std.specs.List.{AllAdjacentBelow}
-use Rattle.body_walker_state.proofs.OrderLemmas.{IsBelow}
-use Rattle.body_walker_state.proofs.parts.rise.Given as goal
-
-abbrev pub invariant-loop-i : goal.invariant-loop-i
-invariant-loop-i l = AllAdjacentBelow IsBelow l.parts l.i

@@ -1,8 +1,0 @@
-use Rattle.std.proofs.Common.{ap, ◌∙◌, ◌∷◌}
-use Rattle.pascal_values.specs.Values.{changed_at, with_part}
-use Rattle.body_walker_state.proofs.WalkLemmas.{put_in_after}
-use Rattle.body_walker_state.proofs.walk.Walk.put.Goals as goal
-
-pub returns-in-In : goal.returns-in-In
-returns-in-In c = put_in_after c.self.inside c.args.self.now c.self.view_is _ c.args.place.now c.in-In.frame c.in-In.variable c.in-In.way c.args.value c.in-In.is
-    (c.put_in_frame.ensures ∙ ap (λ way. changed_at c.self.inside.frames.items c.in-In.frame (λ v. with_part v (c.in-In.variable ∷ way) c.args.value)) c.as_slice-in-In.ensures)
