@@ -4,8 +4,6 @@ use Rattle.std.specs.Prelude.{◌&&◌, slice_get, slice_index_or}
 use Rattle.std.specs.Result.{IsErrAnd}
 use Rattle.std.proofs.lemmas.Result.{err_from_is_err_and}
 use Rattle.std.specs.FinMap as map
-use Rattle.pascal_values.specs.declared.fault.Fault.{Fault}
-use Rattle.pascal_values.specs.declared.fault.Fault.TheVariants.{Unset}
 use Rattle.pascal_values.specs.declared.value.Value.{Value}
 use Rattle.pascal_values.specs.Shapes.{blank_of}
 use Rattle.estelle_tree.specs.Paths.{Path, child, last_of}
@@ -16,6 +14,7 @@ use Rattle.estelle_model.specs.Belonging.{are_values_of}
 use Rattle.estelle_model.specs.Core.{Instance}
 use Rattle.estelle_model.specs.Effects.{Create, Remove, Hold, changed, changed_in}
 use Rattle.estelle_model.specs.States.{Logged, on_log}
+use Rattle.estelle_model.specs.Stops as model
 use Rattle.estelle_model.specs.Steps.{StepResult, Step, and_then, pure, checked_at}
 use Rattle.estelle_model.specs.Operators.{◌>>>◌}
 use Rattle.estelle_model.specs.Bodies.{BodyAlone}
@@ -51,6 +50,7 @@ last_at (k ∷ (n ∷ p)) (suc i) e = last_at (n ∷ p) i (omega (arith, e))
 pub follows_carried : {A B : Type 0} (p : Plan A) (f : A → Plan B) (w n : Progress) (r : Result B Stop) → Leads (λ s. and_then (carried p s) (λ a. carried (f a))) (running w) r (running n) → Follows (carried (p >>= f)) w r n
 follows_carried p f w n (Ok b) h = carry_then Logged on_log p f (running w) ∙ h
 follows_carried p f w n (Err (stop.Fault e)) h = carry_then Logged on_log p f (running w) ∙ h
+follows_carried p f w n (Err stop.Broken) h = carry_then Logged on_log p f (running w) ∙ h
 follows_carried p f w n (Err stop.Memory) h = tt
 
 -- ---- the values of new instances
@@ -107,17 +107,17 @@ module _ (s : Subject) where
   tests_ok m k values None e = absurd (cc)
   tests_ok m k values (Some i) e = (i, refl, by (may_hold s i.body m k && are_values_of (child_of s k).parameters values) e)
     where
-      by : (b : Bool) → ◌≡◌ {A = Result (Unit {0}) Fault} (cond b (Ok tt) (Err Unset)) (Ok tt) → b ≡ true
+      by : (b : Bool) → ◌≡◌ {A = Result (Unit {0}) model.Stop} (cond b (Ok tt) (Err model.Broken)) (Ok tt) → b ≡ true
       by true e = refl
       by false e = absurd (cc)
 
   -- ---- the child is made
 
   module _ (p : Path) (m : ℕ) (i new : Instance) (w : Progress) where
-    abbrev begins_by : Result (Unit {0}) Fault → Step Logged Path
+    abbrev begins_by : Result (Unit {0}) model.Stop → Step Logged Path
     begins_by e = λ x. and_then (and_then (checked_at e x) (λ u. carried (makes (Create p (suc i.births) new)))) (λ u. pure (child p (suc i.births)))
 
-    by_number : (e : Result (Unit {0}) Fault) (birth : ℕ) (n : Progress) → (e >>> λ ok. Ok (i.births + 1)) ≡ Ok birth → n ≡ after (Create p birth new) w → begins_by e (running w) ≡ Ok (child p birth, running n)
+    by_number : (e : Result (Unit {0}) model.Stop) (birth : ℕ) (n : Progress) → (e >>> λ ok. Ok (i.births + 1)) ≡ Ok birth → n ≡ after (Create p birth new) w → begins_by e (running w) ≡ Ok (child p birth, running n)
     by_number (Ok u) birth n e makes =
         let same : i.births + 1 ≡ birth = cc in
         let next : suc i.births ≡ birth = omega (arith, same) in

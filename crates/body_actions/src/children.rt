@@ -147,7 +147,7 @@ pub fn may_begin(
             {
                 Ok(())
             } else {
-                Err(Stop::Fault(Fault::Unset))
+                Err(Stop::Broken)
             }
         }
     }

@@ -25,7 +25,7 @@ pub fn connect_points(
     ensures { Follows (carried (actions.connect_points bodies.now here.now.path first second)) walk.old result walk.new }
 {
     if !may_connect(walk, bodies, &here.path, &first, &second) {
-        return Err(Stop::Fault(Fault::Unset));
+        return Err(Stop::Broken);
     }
     if are_bound(walk, &first, &second) {
         return Err(Stop::Fault(Fault::LinkTaken));
@@ -52,7 +52,7 @@ pub fn disconnect_point(
     ensures { Follows (carried (actions.disconnect_point bodies.now here.now.path a)) walk.old result walk.new }
 {
     if !connectable_at(&here.path, &a, point(walk, bodies, &a)) {
-        return Err(Stop::Fault(Fault::Unset));
+        return Err(Stop::Broken);
     }
     if !is_connected(&a, walk.links()) {
         return Err(Stop::Fault(Fault::LinkAbsent));
@@ -72,7 +72,7 @@ pub fn attach_points(
     ensures { Follows (carried (actions.attach_points bodies.now upper lower)) walk.old result walk.new }
 {
     if !may_attach(walk, bodies, &upper, &lower) {
-        return Err(Stop::Fault(Fault::Unset));
+        return Err(Stop::Broken);
     }
     if are_taken(walk, &upper, &lower) {
         return Err(Stop::Fault(Fault::LinkTaken));
@@ -98,7 +98,7 @@ pub fn detach_point(
     ensures { Follows (carried (actions.detach_point bodies.now upper)) walk.old result walk.new }
 {
     if !external_at(point(walk, bodies, &upper)) {
-        return Err(Stop::Fault(Fault::Unset));
+        return Err(Stop::Broken);
     }
     if !is_upper(&upper, walk.links()) {
         return Err(Stop::Fault(Fault::LinkAbsent));

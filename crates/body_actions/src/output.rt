@@ -5,14 +5,15 @@ ghost use Rattle.estelle_model.specs.Belonging.{are_values_of};
 ghost use Rattle.estelle_model.specs.InteractionPoints.{point};
 ghost use Rattle.estelle_model.specs.Actions as actions;
 ghost use Rattle.estelle_model.specs.Definitions.{types_received};
+ghost use Rattle.estelle_model.specs.declared.meaning.Meaning.TheVariants.{Interaction};
 ghost use Rattle.body_state.specs.Follows.{Follows, carried};
 
 use crate::points::{is_sent_at, point};
 use body_state::{LogEntry, ModuleBodies, Walk};
 use body_values::{Stop, are_values_of};
-use estelle_model::{Meaning, Type};
-use estelle_tree::{IpAddr, Name, Sequence, Word};
-use pascal_values::{Fault, Values};
+use estelle_model::{InteractionKind, Meaning, Type};
+use estelle_tree::{IpAddr, Sequence, Word};
+use pascal_values::Values;
 use std::alloc::Global;
 
 /// The types of the parameters of an interaction.
@@ -29,36 +30,36 @@ fn may_output(
     bodies: &ModuleBodies,
     walk: &Walk,
     word: &Word,
-    meaning: &Meaning,
+    kind: &InteractionKind,
     values: &Values,
     a: &IpAddr,
 ) -> bool
-    ensures { result ≡ (actions.is_sent_at (point bodies.now walk.now.instances a.now) word.now meaning.now && are_values_of (types_received meaning.now) values.now) }
+    ensures { result ≡ (actions.is_sent_at (point bodies.now walk.now.instances a.now) word.now (Interaction kind.now) && are_values_of (types_received (Interaction kind.now)) values.now) }
 {
-    is_sent_at(point(walk, bodies, a), word, meaning)
-        && are_values_of(types_received(meaning), values.items())
+    is_sent_at(point(walk, bodies, a), word, kind)
+        && are_values_of(kind.parameters.as_slice(), values.items())
 }
 
-/// An output of an interaction at an interaction point, with values of its parameters.
+/// An output of an interaction at an interaction point, by the words of both, with values of its parameters.
 pub fn output_at(
     alloc: Global,
     bodies: &ModuleBodies,
     walk: &mut Walk,
-    ip: &Name,
-    interaction: &Name,
-    meaning: &Meaning,
+    ip: &Word,
+    word: &Word,
+    kind: &InteractionKind,
     values: Values,
     a: IpAddr,
 ) -> Result<(), Stop>
-    ensures { Follows (carried (actions.output_at bodies.now ip.now.word interaction.now.word meaning.now values a)) walk.old result walk.new }
+    ensures { Follows (carried (actions.output_at bodies.now ip.now word.now (Interaction kind.now) values a)) walk.old result walk.new }
 {
-    if !may_output(bodies, walk, &interaction.word, meaning, &values, &a) {
-        return Err(Stop::Fault(Fault::Unset));
+    if !may_output(bodies, walk, word, kind, &values, &a) {
+        return Err(Stop::Broken);
     }
     let made = LogEntry::Output {
         from: a,
-        ip: ip.word.copy(alloc)?,
-        name: interaction.word.copy(alloc)?,
+        ip: ip.copy(alloc)?,
+        name: word.copy(alloc)?,
         values,
     };
     walk.make(alloc, made)?;

@@ -3,10 +3,11 @@
 ghost use Rattle.std.specs.Prelude.{◌≡◌, slice_get, Some};
 ghost use Rattle.std.specs.Option.{option_copied};
 ghost use Rattle.estelle_model.specs.InteractionPoints as spec;
+ghost use Rattle.estelle_model.specs.declared.meaning.Meaning.TheVariants.{Interaction};
 ghost use Rattle.estelle_model.specs.Actions.{is_sent_at};
 
 use body_state::{ModuleBodies, Walk, is_same_path};
-use estelle_model::{InteractionKind, InteractionPoint, Meaning, Role, Senders};
+use estelle_model::{InteractionKind, InteractionPoint, Role, Senders};
 use estelle_tree::{IpAddr, Path, Word};
 
 /// An interaction point as it is declared, if it is there.
@@ -56,15 +57,17 @@ fn sends(point: &InteractionPoint, kind: &InteractionKind) -> bool
     point.channel == kind.channel && may_send(point.role, kind.senders)
 }
 
-/// Whether what a name means is declared with this word, and may be sent at the interaction point.
-pub(crate) fn is_sent_at(point: Option<&InteractionPoint>, word: &Word, meaning: &Meaning) -> bool
-    ensures { result ≡ is_sent_at (option_copied point.entry) word.now meaning.now }
+/// Whether an interaction is declared with this word, and may be sent at the interaction point.
+pub(crate) fn is_sent_at(
+    point: Option<&InteractionPoint>,
+    word: &Word,
+    kind: &InteractionKind,
+) -> bool
+    ensures { result ≡ is_sent_at (option_copied point.entry) word.now (Interaction kind.now) }
 {
-    match (point, meaning) {
-        (Some(point), Meaning::Interaction(kind)) => {
-            kind.word.items() == word.items() && sends(point, kind)
-        }
-        _ => false,
+    match point {
+        Some(point) => kind.word.items() == word.items() && sends(point, kind),
+        None => false,
     }
 }
 

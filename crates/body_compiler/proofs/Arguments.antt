@@ -1,15 +1,13 @@
 -- Arguments of a call: what they are compiled to leaves what is given for each parameter, the last on top.
 use Rattle.std.proofs.Common.{◌≡◌, ◌∙◌, refl, sym, ap, ℕ, Bool, List, [], ◌∷◌, ◌++◌, length, append_assoc, append-nil, Result, Ok, Err, Option, Some, None, arith}
-use Rattle.pascal_values.specs.declared.fault.Fault.{Fault}
-use Rattle.pascal_values.specs.declared.fault.Fault.TheVariants.{Unset}
 use Rattle.pascal_values.specs.declared.value.Value.{Value}
-use Rattle.pascal_values.specs.Shapes.{fit_of}
 use Rattle.estelle_tree.specs.declared.tree.name.Name.{Name}
 use Rattle.body_code.specs.declared.instr.Instr.TheVariants as op
 use Rattle.estelle_model.specs.declared.denoter.Denoter.{Denoter}
-use Rattle.estelle_model.specs.Types.{shape_of}
+use Rattle.estelle_model.specs.Types.{shape_of, assignable}
+use Rattle.estelle_model.specs.Stops.{Stop, stopping}
 use Rattle.estelle_model.specs.States.{Logged, on_log}
-use Rattle.estelle_model.specs.Steps.{Running, StepResult, Step, and_then, ◌>>=◌, ◌>>◌, pure, fail, checked, checked_at}
+use Rattle.estelle_model.specs.Steps.{Running, StepResult, Step, and_then, ◌>>=◌, ◌>>◌, pure, breaks, checked, checked_at}
 use Rattle.estelle_model.specs.declared.meaning.Passing.{Passing}
 use Rattle.estelle_model.specs.declared.meaning.Passing.TheVariants.{ByValue, ByPlace}
 use Rattle.estelle_model.specs.declared.meaning.Routine.{Routine}
@@ -71,15 +69,15 @@ actual = with_given no_arguments
 
 -- a value that fits
 abbrev fitted : Denoter → Step Logged Value → Step Logged Value
-fitted t x = x >>= λ v. checked (fit_of (shape_of t) v) >>= λ ok. pure v
+fitted t x = x >>= λ v. checked (stopping (assignable (shape_of t) v)) >>= λ ok. pure v
 
 -- arguments from left to right
 abbrev given_steps : (ps : List Passing) → List (model.Operand Logged) → Step Logged (Given ps)
 given_steps [] [] = pure tt
-given_steps [] (e ∷ es) = fail Unset
+given_steps [] (e ∷ es) = breaks
 given_steps (ByValue t ∷ ps) (e ∷ es) = fitted t e.value >>= λ v. given_steps ps es >>= λ a. pure (v, a)
 given_steps (ByPlace ∷ ps) (e ∷ es) = place_of_operand e.place >>= λ p. given_steps ps es >>= λ a. pure (p, a)
-given_steps (p ∷ ps) [] = fail Unset
+given_steps (p ∷ ps) [] = breaks
 
 then_pure : {A B D : Type 0} (o : StepResult Logged A) (f : A → B) (k : B → Step Logged D) → and_then (and_then o (λ a. pure (f a))) k ≡ and_then o (λ a. k (f a))
 then_pure (Ok x) f k = refl
@@ -100,14 +98,14 @@ given_is (ByValue t ∷ ps) (e ∷ es) g r = of_value (λ h q. given_is ps es h 
     more v q (Ok x) = ap (λ vs. Ok (record { values = vs; references = g.references ++ places_of ps x.0 }, x.1)) (sym (append_assoc g.values (v ∷ []) (values_of ps x.0)))
     more v q (Err f) = refl
 
-    of_fit : Rest → (v : Value) (q : Running Logged) (o : Result (Unit {0}) Fault) → and_then (and_then (and_then (checked_at o q) (λ ok. pure v)) (λ w. given_steps ps es >>= λ a. pure (w, a))) (λ a. pure (with_given g (ByValue t ∷ ps) a))
+    of_fit : Rest → (v : Value) (q : Running Logged) (o : Result (Unit {0}) Stop) → and_then (and_then (and_then (checked_at o q) (λ ok. pure v)) (λ w. given_steps ps es >>= λ a. pure (w, a))) (λ a. pure (with_given g (ByValue t ∷ ps) a))
         ≡ and_then (and_then (checked_at o q) (λ ok. pure (record g { values = g.values ++ v ∷ [] }))) (λ h. give_all ps es h)
     of_fit rest v q (Ok done) = more v q (given_steps ps es q) ∙ rest (record g { values = g.values ++ v ∷ [] }) q
     of_fit rest v q (Err f) = refl
 
-    of_value : Rest → (o : StepResult Logged Value) → and_then (and_then (and_then o (λ v. checked (fit_of (shape_of t) v) >>= λ ok. pure v)) (λ w. given_steps ps es >>= λ a. pure (w, a))) (λ a. pure (with_given g (ByValue t ∷ ps) a))
-        ≡ and_then (and_then o (λ v. checked (fit_of (shape_of t) v) >>= λ ok. pure (record g { values = g.values ++ v ∷ [] }))) (λ h. give_all ps es h)
-    of_value rest (Ok x) = of_fit rest x.0 x.1 (fit_of (shape_of t) x.0)
+    of_value : Rest → (o : StepResult Logged Value) → and_then (and_then (and_then o (λ v. checked (stopping (assignable (shape_of t) v)) >>= λ ok. pure v)) (λ w. given_steps ps es >>= λ a. pure (w, a))) (λ a. pure (with_given g (ByValue t ∷ ps) a))
+        ≡ and_then (and_then o (λ v. checked (stopping (assignable (shape_of t) v)) >>= λ ok. pure (record g { values = g.values ++ v ∷ [] }))) (λ h. give_all ps es h)
+    of_value rest (Ok x) = of_fit rest x.0 x.1 (stopping (assignable (shape_of t) x.0))
     of_value rest (Err f) = refl
 given_is (ByPlace ∷ ps) (e ∷ es) g r = of_place (λ h q. given_is ps es h q) (place_of_operand e.place r)
   where
@@ -146,12 +144,12 @@ last_regrouped {A} {B} {D} {E} (Ok x) f g h = by (f x.0 x.1)
     by (Err e) = refl
 
 module _ (c : Site) (scope : Scope) (within : IsScope c scope) where
-  fit_does : (k : ℕ) (t : Denoter) → shape_numbered c.numbers k ≡ Some (shape_of t) → (v : Value) → Does c (one (op.Fit k)) (datum v) (checked (fit_of (shape_of t) v) >>= λ ok. pure v) datum
+  fit_does : (k : ℕ) (t : Denoter) → shape_numbered c.numbers k ≡ Some (shape_of t) → (v : Value) → Does c (one (op.Fit k)) (datum v) (checked (stopping (assignable (shape_of t) v)) >>= λ ok. pure v) datum
   unfolding row
-  fit_does k t is v = instr_does c (op.Fit k) (datum v) (checked (fit_of (shape_of t) v) >>= λ ok. pure v) datum
-      (λ at turned old r below same. by at turned old r below same (fit_of (shape_of t) v) (ap (λ o. goes_on ((checked (fit_as o v) >> leaves (Datum v)) (full c old r)) below (machine c at (Datum v ∷ below) turned (full c old r))) is))
+  fit_does k t is v = instr_does c (op.Fit k) (datum v) (checked (stopping (assignable (shape_of t) v)) >>= λ ok. pure v) datum
+      (λ at turned old r below same. by at turned old r below same (stopping (assignable (shape_of t) v)) (ap (λ o. goes_on ((checked (fit_as o v) >> leaves (Datum v)) (full c old r)) below (machine c at (Datum v ∷ below) turned (full c old r))) is))
     where
-      by : (at : ℕ) (turned : Bool) (old : List Value) (r : Running Logged) (below : List Item) → outline r.frames ≡ c.counts → (o : Result (Unit {0}) Fault)
+      by : (at : ℕ) (turned : Bool) (old : List Value) (r : Running Logged) (below : List Item) → outline r.frames ≡ c.counts → (o : Result (Unit {0}) Stop)
           → result c (op.Fit k) (Datum v ∷ below) at turned old r ≡ goes_on ((checked o >> leaves (Datum v)) (full c old r)) below (machine c at (Datum v ∷ below) turned (full c old r))
           → Does1 c (op.Fit k) (datum v) datum at turned old r below ((checked o >>= λ ok. pure v) r)
       by at turned old r below same (Err e) h = h
@@ -159,11 +157,11 @@ module _ (c : Site) (scope : Scope) (within : IsScope c scope) where
 
   fitted_does : (t : Denoter) (x : Step Logged Value) (p : Piece) (more : List Item) → AreNamed c more → Does c p [] x datum → Does c (p ⨾ by_number (scope.number (shape_of t)) (λ n. one (op.Fit n))) more (fitted t x) (λ v. Datum v ∷ more)
   fitted_does t x p more named h = under_does c (p ⨾ by_number (scope.number (shape_of t)) (λ n. one (op.Fit n))) [] more (fitted t x) datum named
-      (then_does c p (by_number (scope.number (shape_of t)) (λ n. one (op.Fit n))) [] x (λ v. checked (fit_of (shape_of t) v) >>= λ ok. pure v) datum datum h
-      (λ v none. by_number_does c (scope.number (shape_of t)) (λ n. one (op.Fit n)) (datum v) (checked (fit_of (shape_of t) v) >>= λ ok. pure v) datum (λ k is. fit_does k t (within.number (shape_of t) k is) v)))
+      (then_does c p (by_number (scope.number (shape_of t)) (λ n. one (op.Fit n))) [] x (λ v. checked (stopping (assignable (shape_of t) v)) >>= λ ok. pure v) datum datum h
+      (λ v none. by_number_does c (scope.number (shape_of t)) (λ n. one (op.Fit n)) (datum v) (checked (stopping (assignable (shape_of t) v)) >>= λ ok. pure v) datum (λ k is. fit_does k t (within.number (shape_of t) k is) v)))
 
   placed_does : (o : Option (Step Logged Place)) (o' : Option Piece) (more : List Item) → AreNamed c more → MaybeAlike (λ p q. Does c q [] p spot) o o' → Does c (code.place_of_operand scope o') more (place_of_operand o) (λ p. Spot p ∷ more)
-  placed_does None None more named h = refused_does c more (fail Unset) (λ p. Spot p ∷ more)
+  placed_does None None more named h = refused_does c more breaks (λ p. Spot p ∷ more)
   placed_does None (Some q) more named h = absurd h
   placed_does (Some p) None more named h = absurd h
   placed_does (Some p) (Some q) more named h = under_does c q [] more p spot named h
@@ -172,9 +170,9 @@ module _ (c : Site) (scope : Scope) (within : IsScope c scope) where
   given_does [] [] [] more named h = none_does c more (tt {0}) (λ a. more) refl named
   given_does ps [] (f ∷ fs) more named h = absurd h
   given_does ps (e ∷ es) [] more named h = absurd h
-  given_does [] (e ∷ es) (f ∷ fs) more named h = refused_does c {A = Given []} more (fail Unset) (λ a. more)
-  given_does (ByValue t ∷ ps) [] [] more named h = refused_does c more (fail Unset) (λ a. stack_of (ByValue t ∷ ps) a more)
-  given_does (ByPlace ∷ ps) [] [] more named h = refused_does c more (fail Unset) (λ a. stack_of (ByPlace ∷ ps) a more)
+  given_does [] (e ∷ es) (f ∷ fs) more named h = refused_does c {A = Given []} more breaks (λ a. more)
+  given_does (ByValue t ∷ ps) [] [] more named h = refused_does c more breaks (λ a. stack_of (ByValue t ∷ ps) a more)
+  given_does (ByPlace ∷ ps) [] [] more named h = refused_does c more breaks (λ a. stack_of (ByPlace ∷ ps) a more)
   given_does (ByValue t ∷ ps) (e ∷ es) (f ∷ fs) more named h = then_does c (code.give scope (ByValue t) f) (code.give_all scope ps fs) more (fitted t e.value) (λ v. given_steps ps es >>= λ a. pure (v, a)) (λ v. Datum v ∷ more) (λ a. stack_of (ByValue t ∷ ps) a more)
       (fitted_does t e.value f.value more named h.0.value)
       (λ v all. mapped_does c (code.give_all scope ps fs) (Datum v ∷ more) (given_steps ps es) (λ a. (v, a)) (λ a. stack_of (ByValue t ∷ ps) a more) (given_does ps es fs (Datum v ∷ more) all h.1))

@@ -1,9 +1,9 @@
 -- Steps that see no frames: what they do is the same over any, which stay as they are.
 use Rattle.std.proofs.Common.{◌≡◌, ◌∙◌, refl, sym, ap, subst, ℕ, ◌-◌, ◌≤◌, Bool, true, false, cond, List, Result, Ok, Err, arith}
 use Rattle.std.specs.Prelude.{nat_lt}
-use Rattle.pascal_values.specs.declared.fault.Fault.{Fault}
 use Rattle.pascal_values.specs.declared.fault.Fault.TheVariants.{StepLimit}
 use Rattle.pascal_values.specs.declared.value.Value.{Value}
+use Rattle.estelle_model.specs.Stops.{Stop, Faults}
 use Rattle.estelle_model.specs.States.{Logged, on_log}
 use Rattle.estelle_model.specs.Steps.{Running, StepResult, Step, and_then, pure, checked_at, spend}
 use Rattle.estelle_model.specs.Plans.{Plan, Done, Fails, Reads, Spends, Makes, Keeps, carry}
@@ -42,7 +42,7 @@ unfolding spend
 spend_blind = record { same = λ F r. same F r (nat_lt 0 r.left); fewer = λ r. fewer r (nat_lt 0 r.left) }
   where
     spent : Bool → Running Logged → StepResult Logged (Unit {0})
-    spent b r = cond b (Ok (tt, record r { left = r.left - 1 })) (Err (StepLimit, r.left))
+    spent b r = cond b (Ok (tt, record r { left = r.left - 1 })) (Err (Faults StepLimit, r.left))
 
     same : (F : List Value) (r : Running Logged) (b : Bool) → spent b (framed F r) ≡ reframed F (spent b r)
     same F r true = refl
@@ -60,7 +60,7 @@ less_still n k (Err e) h l = tt
 pub carry_blind : {B : Type 0} (p : Plan B) → IsBlind (carry Logged on_log p)
 carry_blind p = record { same = λ F r. same p F r; fewer = λ r. fewer p r }
   where
-    read : {A B : Type 0} (F : List Value) (r : Running Logged) (k : A → Plan B) (o : Result A Fault) → ((a : A) → carry Logged on_log (k a) (framed F r) ≡ reframed F (carry Logged on_log (k a) r))
+    read : {A B : Type 0} (F : List Value) (r : Running Logged) (k : A → Plan B) (o : Result A Stop) → ((a : A) → carry Logged on_log (k a) (framed F r) ≡ reframed F (carry Logged on_log (k a) r))
         → and_then (checked_at o (framed F r)) (λ a. carry Logged on_log (k a)) ≡ reframed F (and_then (checked_at o r) (λ a. carry Logged on_log (k a)))
     read F r k (Ok a) h = h a
     read F r k (Err e) h = refl
@@ -78,7 +78,7 @@ carry_blind p = record { same = λ F r. same p F r; fewer = λ r. fewer p r }
     same (Makes e p) F r = same p F (record r { state = on_log.does e r.state })
     same (Keeps q change p) F r = same p F (record r { state = on_log.keeps q change r.state })
 
-    reading : {A B : Type 0} (r : Running Logged) (k : A → Plan B) (o : Result A Fault) → ((a : A) → AtMost r.left (carry Logged on_log (k a) r)) → AtMost r.left (and_then (checked_at o r) (λ a. carry Logged on_log (k a)))
+    reading : {A B : Type 0} (r : Running Logged) (k : A → Plan B) (o : Result A Stop) → ((a : A) → AtMost r.left (carry Logged on_log (k a) r)) → AtMost r.left (and_then (checked_at o r) (λ a. carry Logged on_log (k a)))
     reading r k (Ok a) h = h a
     reading r k (Err e) h = tt
 

@@ -19,14 +19,15 @@ use Rattle.estelle_model.specs.Expressions as model
 use Rattle.estelle_model.specs.Expressions.{Call}
 use Rattle.estelle_model.specs.Statements.{stmts}
 use Rattle.estelle_model.specs.Calls.{call_by, leave, frame_of, max_depth}
-use Rattle.estelle_model.specs.Blocks.{fresh, enter_values, leave_values, from_block, block_step, clause_value}
+use Rattle.estelle_model.specs.Blocks.{fresh, enter_values, leave_values, with_values, from_block, block_step, clause_value}
 use Rattle.body_machine.specs.declared.item.Item.{Item}
 use Rattle.body_machine.specs.declared.item.Item.TheVariants.{Datum}
 use Rattle.body_machine.specs.declared.activation.Return.TheVariants.{ToNone}
 use Rattle.body_machine.specs.Machine.{Machine, Goes, Ends}
 use Rattle.body_machine.specs.declared.numbers.Numbers.{Numbers}
 use Rattle.body_machine.specs.Numbers.{slot, reference_number}
-use Rattle.body_machine.specs.Steps.{frame_with, Comes}
+use Rattle.body_machine.specs.Frames.{frame_with}
+use Rattle.body_machine.specs.Steps.{Comes}
 use Rattle.body_compiler.specs.Pieces.{Piece}
 use Rattle.body_compiler.specs.ExpressionCode as code
 use Rattle.body_compiler.specs.ExpressionCode.{Scope}
@@ -65,7 +66,7 @@ outermost s n units body unit path base number count = record {
 }
 
 module _ (s : Subject) (n : Numbers) (units : List CodeUnit) (known : Known) (is_code : IsCode s n units known) (body : ℕ) (unit : CodeUnit) (path : Path) (values : List Value) where
-  -- what is come to: the end with what is left, or the fault
+  -- what is come to: the end with what is left, or what stops it
   abbrev pub ComesTo : Machine → {A : Type 0} → (A → List Item) → StepResult Logged A → Type 0
   ComesTo start left o = laws.ComesTo s n units start left o
 
@@ -232,7 +233,7 @@ module _ (s : Subject) (n : Numbers) (units : List CodeUnit) (known : Known) (is
 
   -- the unit of one expression comes to its value
   pub value_does : (received : List Denoter) (e : Expr) → IsClause known body received (e ∷ []) unit → length values ≡ length received → (state : Logged) (budget : ℕ)
-      → ComesTo (started body unit path state budget values) datum (clause_value Logged on_log known.meant (Act known s) path values e (fresh state budget))
+      → ComesTo (started body unit path state budget values) datum (with_values values (clause_value Logged on_log known.meant (Act known s) path e) (fresh state budget))
   unfolding clause_value
   value_does received e made fits state budget = by (value_of_expr e (record { state = state; frames = pascal.Fields values ∷ []; left = budget })) (clause_does received (e ∷ []) made fits state budget)
     where

@@ -1,8 +1,6 @@
 -- Calls and initializations: by induction over how many more may be nested, the statements of every unit do what they mean.
-use Rattle.std.proofs.Common.{◌≡◌, ◌∙◌, refl, sym, ap, subst, ℕ, zero, suc, ◌+◌, ◌≤◌, ◌<◌, Bool, true, false, cond, List, [], ◌∷◌, ◌++◌, length, map, length-append, Ok, Err, Option, Some, None, arith}
-use Rattle.std.specs.Prelude.{◌&&◌, slice_get, option_map, option_and_then, unwrap_or}
-use Rattle.std.specs.FinMap as finite
-use Rattle.pascal_values.specs.declared.fault.Fault.TheVariants.{Unset}
+use Rattle.std.proofs.Common.{◌≡◌, ◌∙◌, refl, sym, ap, subst, ℕ, zero, suc, ◌+◌, ◌≤◌, ◌<◌, Bool, List, [], ◌∷◌, ◌++◌, length, map, length-append, Ok, Err, Option, Some, None, arith}
+use Rattle.std.specs.Prelude.{slice_get, option_map, option_and_then, unwrap_or}
 use Rattle.pascal_values.specs.declared.value.Value.{Value}
 use Rattle.estelle_tree.specs.declared.tree.name.Name.{Name}
 use Rattle.estelle_tree.specs.declared.tree.specification.Init as tree
@@ -14,7 +12,7 @@ use Rattle.body_code.specs.Units.{unit_of}
 use Rattle.estelle_model.specs.declared.denoter.Denoter.{Denoter}
 use Rattle.estelle_model.specs.Core.{Instance}
 use Rattle.estelle_model.specs.States.{Logged, on_log}
-use Rattle.estelle_model.specs.Steps.{Running, StepResult, Step, Do, and_then, ◌>>=◌, ◌>>◌, pure, fail, checked_at}
+use Rattle.estelle_model.specs.Steps.{Running, StepResult, Step, Do, and_then, ◌>>=◌, ◌>>◌, pure, breaks}
 use Rattle.estelle_model.specs.Plans.{carry}
 use Rattle.estelle_model.specs.declared.meaning.Passing.{Passing}
 use Rattle.estelle_model.specs.declared.meaning.Passing.TheVariants.{ByValue, ByPlace}
@@ -30,20 +28,20 @@ use Rattle.estelle_model.specs.Expressions as model
 use Rattle.estelle_model.specs.Expressions.{no_arguments, give_all}
 use Rattle.estelle_model.specs.Statements.{Acts, Init, stmts}
 use Rattle.estelle_model.specs.Calls.{Enters, call_by, max_depth, nested}
-use Rattle.estelle_model.specs.Belonging.{are_values_of}
-use Rattle.estelle_model.specs.Actions.{or_no_module, may_hold, may_begin, begins_child, holds_child}
+use Rattle.estelle_model.specs.Actions.{may_begin, begins_child, holds_child}
 use Rattle.estelle_model.specs.Acts as meaning
 use Rattle.estelle_model.proofs.Alike.{EachAlike}
 use Rattle.estelle_model.proofs.LoopLaws.{AtMost}
-use Rattle.body_actions.specs.Children.{beginning}
+use Rattle.body_actions.specs.Children as children
 use Rattle.body_machine.specs.declared.item.Item.{Item}
 use Rattle.body_machine.specs.declared.item.Item.TheVariants.{Datum, Spot}
 use Rattle.body_machine.specs.declared.activation.Return.{Return}
 use Rattle.body_machine.specs.declared.activation.Return.TheVariants.{ToCaller, ToParent}
-use Rattle.body_machine.specs.Machine.{Activation, Machine, Next, Goes, Faults}
+use Rattle.body_machine.specs.Machine.{Activation, Machine, Next, Goes, Stops}
 use Rattle.body_machine.specs.Numbers.{slot, reference_number}
 use Rattle.body_machine.specs.Rows.{row}
-use Rattle.body_machine.specs.Steps.{given_to, nothing_given, deeper_than, frame_with, push_frame, begun, enter, call_unit, call_with, call_given, init_tested, init_unit, init_with, held, Comes}
+use Rattle.body_machine.specs.Frames.{deeper_than, frame_with, push_frame}
+use Rattle.body_machine.specs.Steps.{given_to, nothing_given, begun, enter, call_unit, call_with, call_given, initialize, init_unit, init_with, held, Comes}
 use Rattle.body_compiler.specs.Pieces.{one}
 use Rattle.body_compiler.specs.ExpressionCode as code
 use Rattle.body_compiler.specs.StatementCode as compiled
@@ -240,8 +238,8 @@ module _ (known : Known) (n : ℕ) (deeper : Deeper known n) (c : Site) (placed 
   init_runs m k types r unit made found a fine at free turned old s below stands low room same =
       allowed (may s) (frames_kept may (carry_blind (may_begin c.subject p m k values)) s) ((carry_blind (may_begin c.subject p m k values)).fewer s)
       (step_at c at (op.Init m k (length types)) [] items turned (full c old s) _ stands
-      (ap (λ o. init_with c.subject c.numbers c.code m k o start) (values_taken types a below) ∙ ap (λ o. init_unit c.subject c.numbers c.code m k o values below start) found
-      ∙ begun_is (finite.get s.state.image.instances p) ∙ ap begun_at ((carry_blind (may_begin c.subject p m k values)).same F s)))
+      (ap (λ o. init_with c.subject c.numbers c.code m k (unit_of c.code k entry.Initialize) o start) (values_taken types a below) ∙ ap (λ o. init_unit c.subject c.numbers c.code m k o values below start) found
+      ∙ begun_is (may (full c old s)) ∙ ap begun_at ((carry_blind (may_begin c.subject p m k values)).same F s)))
     where
       values : List Value
       values = values_of (map ByValue types) a
@@ -267,17 +265,24 @@ module _ (known : Known) (n : ℕ) (deeper : Deeper known n) (c : Site) (placed 
       -- what the instruction comes to where the child may begin
       begun_at : StepResult Logged Instance → Next
       begun_at (Ok z) = entered z.0 z.1
-      begun_at (Err e) = Faults e.0 e.1
+      begun_at (Err e) = Stops e.0 e.1
 
-      -- whether the module variable may hold such a child
-      tested : (i : Instance) (b : Bool) → init_tested c.subject c.numbers c.code m k unit values (cond b (Ok (tt {0})) (Err Unset)) (Some i) below start ≡ begun_at (and_then (checked_at (cond b (Ok (tt {0})) (Err Unset)) (full c old s)) (λ allowed. pure i))
-      tested i true = refl
-      tested i false = refl
+      -- the child is made, and its unit is entered
+      making : Instance → Step Logged Path
+      making i = children.begins_child c.subject p m i ((child_of c.subject k).with_parameters values)
 
-      begun_is : (o : Option Instance) → init_tested c.subject c.numbers c.code m k unit values (beginning c.subject m k values o) o below start
-          ≡ begun_at (and_then (checked_at (or_no_module o) (full c old s)) (λ i. λ q. and_then (checked_at (cond (may_hold c.subject i.body m k && are_values_of (child_of c.subject k).parameters values) (Ok (tt {0})) (Err Unset)) q) (λ allowed. pure i)))
-      begun_is None = refl
-      begun_is (Some i) = tested i (may_hold c.subject i.body m k && are_values_of (child_of c.subject k).parameters values)
+      entered_is : (i : Instance) (o : StepResult Logged (Unit {0})) → initialize c.subject c.numbers c.code m k unit (and_then o (λ done. making i)) below start
+          ≡ enter (and_then (and_then o (λ done. begins_with m k values i)) (λ done. push_frame (frame_with unit.locals 0 []))) (begun k unit (path_of i) (suc c.here.frame) [] (return i)) below start
+      entered_is i (Err e) = refl
+      entered_is i (Ok y) = made_is (begins_with m k values i y.1)
+        where
+          made_is : (o : StepResult Logged (Unit {0})) → initialize c.subject c.numbers c.code m k unit (and_then o (λ done. pure (path_of i))) below start ≡ enter (and_then o (λ done. push_frame (frame_with unit.locals 0 []))) (begun k unit (path_of i) (suc c.here.frame) [] (return i)) below start
+          made_is (Ok z) = refl
+          made_is (Err e) = refl
+
+      begun_is : (o : StepResult Logged Instance) → initialize c.subject c.numbers c.code m k unit (and_then o (λ i. deeper_than c.here.frame >> making i)) below start ≡ begun_at o
+      begun_is (Ok z) = entered_is z.0 (deeper_than c.here.frame z.1)
+      begun_is (Err e) = refl
 
       -- behind its initialization
       holding : (i : Instance) (y : Running Logged) → outline y.frames ≡ c.counts → (units : ℕ) → y.left ≤ units → units ≤ s.left → (o : StepResult Logged (Unit {0})) → KeepsFrames y.frames o → AtMost y.left o
@@ -327,7 +332,7 @@ module _ (known : Known) (n : ℕ) (deeper : Deeper known n) (c : Site) (placed 
 
       by : (y z : Meaning) → Does c (compiled.init (within known body r) y z fs) [] (meaning.init_of Logged on_log c.subject known.meant N p y z es) no_item
       by (Module m) (Body k) = with_types m k (known.parameters k) refl
-      by y z = refused_does c [] (fail Unset) no_item
+      by y z = refused_does c [] breaks no_item
 
   statements_at : (r : Routine) → IsScope c (within known c.body r)
       → Does c (compiled.stmts (within known c.body r) r.body) [] (stmts Logged on_log known.meant (Act known c.subject N) (call_by N c.here.path) c.here r.body) no_item

@@ -2,18 +2,18 @@
 use Rattle.std.proofs.Common.{◌≡◌, ◌∙◌, refl, ap, subst, ℕ, zero, suc, ◌+◌, ◌≤◌, ◌<◌, Bool, true, false, cond, List, [], ◌∷◌, ◌++◌, length, length-append, Result, Ok, Err, arith}
 use Rattle.std.specs.Prelude.{◌-◌, nat_lt, slice_get}
 use Rattle.std.proofs.lemmas.Bool.{le-leb, lt-leb, le-ltb, ltb-true, ltb-false}
-use Rattle.pascal_values.specs.declared.fault.Fault.{Fault}
 use Rattle.pascal_values.specs.declared.fault.Fault.TheVariants.{StepLimit}
 use Rattle.pascal_values.specs.declared.value.Value.{Value}
 use Rattle.body_code.specs.declared.instr.Instr.{Instr}
 use Rattle.body_code.specs.declared.instr.Instr.TheVariants as op
 use Rattle.estelle_model.specs.Operators.{bool_of}
 use Rattle.estelle_model.specs.Loops.{while_turns, repeat_turns, while_loop, repeat_loop}
+use Rattle.estelle_model.specs.Stops.{Stop, Faults}
 use Rattle.estelle_model.specs.States.{Logged}
 use Rattle.estelle_model.specs.Steps.{Running, StepResult, Step, Do, and_then, ◌>>=◌, ◌>>◌, pure, fail, checked, checked_at, spend}
 use Rattle.body_machine.specs.declared.item.Item.{Item}
 use Rattle.body_machine.specs.declared.item.Item.TheVariants.{Datum}
-use Rattle.body_machine.specs.Machine.{Machine, Next, Goes, Faults}
+use Rattle.body_machine.specs.Machine.{Machine, Next, Goes, Stops}
 use Rattle.body_machine.specs.Rows.{row}
 use Rattle.body_machine.specs.Steps.{jump_back, decide, turn, Comes}
 use Rattle.body_compiler.specs.Pieces.{Piece, ◌⨾◌, fork, loop, repeat}
@@ -37,10 +37,10 @@ module _ (c : Site) where
       (ap (λ b. cond b (jump_back to stack (machine c at stack true r)) (Goes (machine c to stack true r))) (le-leb to at less))
 
   -- where the truth value is false the jump is made
-  abbrev pub Decided : (at to : ℕ) (below : List Item) (turned : Bool) (r : Running Logged) → Machine → Result Bool Fault → Type 0
+  abbrev pub Decided : (at to : ℕ) (below : List Item) (turned : Bool) (r : Running Logged) → Machine → Result Bool Stop → Type 0
   Decided at to below turned r start (Ok true) = C (Goes start) (Goes (machine c (at + 1) below turned r))
   Decided at to below turned r start (Ok false) = C (Goes start) (Goes (machine c to below turned r))
-  Decided at to below turned r start (Err e) = C (Goes start) (Faults e r.left)
+  Decided at to below turned r start (Err e) = C (Goes start) (Stops e r.left)
 
   pub decides : (at to : ℕ) (more : List Instr) (v : Value) (below : List Item) (turned : Bool) (r : Running Logged) → StandsAt c at (op.Jfalse to ∷ more) → at < to → Decided at to below turned r (machine c at (Datum v ∷ below) turned r) (bool_of v)
   unfolding row
@@ -49,7 +49,7 @@ module _ (c : Site) where
       start : Machine
       start = machine c at (Datum v ∷ below) turned r
 
-      by : (o : Result Bool Fault) → C (Goes start) (decide o false to below start) → Decided at to below turned r start o
+      by : (o : Result Bool Stop) → C (Goes start) (decide o false to below start) → Decided at to below turned r start o
       by (Ok true) h = subst (λ k. C (Goes start) (Goes (machine c k below turned r))) (let e : suc at ≡ at + 1 = omega arith in e) h
       by (Ok false) h = subst (λ b. C (Goes start) (cond b (jump_back to below start) (Goes (machine c to below turned r)))) (lt-leb to at less) h
       by (Err e) h = h
@@ -99,7 +99,7 @@ module _ (c : Site) where
       over : StandsAt c (at + 1 + length P) (op.Jump end ∷ Q)
       over = stands_second c (at + 1) P (op.Jump end ∷ Q) rest
 
-      by : (o : Result Bool Fault) → Decided at (at + 1 + length P + 1) below turned (full c old r) start o → Leads c start (at + length (op.Jfalse (at + 1 + length P + 1) ∷ (P ++ (op.Jump end ∷ Q)))) free old r.left below left (and_then (checked_at o r) (λ b. cond b first second))
+      by : (o : Result Bool Stop) → Decided at (at + 1 + length P + 1) below turned (full c old r) start o → Leads c start (at + length (op.Jfalse (at + 1 + length P + 1) ∷ (P ++ (op.Jump end ∷ Q)))) free old r.left below left (and_then (checked_at o r) (λ b. cond b first second))
       by (Err e) h = h
       by (Ok true) h = moved c start end _ free old r.left below left (first r) whole
           (from start _ end free old r.left below left (first r) h
@@ -118,7 +118,7 @@ module _ (c : Site) where
 
   abbrev pub Turned : (at : ℕ) (stack : List Item) (turned : Bool) (own : List Value) (r : Running Logged) → StepResult Logged (Unit {0}) → Type 0
   Turned at stack turned own r (Ok x) = C (Goes (machine c at stack turned (full c own r))) (Goes (machine c (at + 1) stack true (full c own x.1))) × (outline x.1.frames ≡ outline r.frames) × (suc x.1.left ≡ r.left)
-  Turned at stack turned own r (Err e) = C (Goes (machine c at stack turned (full c own r))) (Faults e.0 e.1) × (r.left ≡ 0)
+  Turned at stack turned own r (Err e) = C (Goes (machine c at stack turned (full c own r))) (Stops e.0 e.1) × (r.left ≡ 0)
 
   pub turns : (at : ℕ) (more : List Instr) (stack : List Item) (turned : Bool) (own : List Value) (r : Running Logged) → StandsAt c at (op.Turn ∷ more) → Turned at stack turned own r (spend r)
   unfolding row spend
@@ -128,15 +128,15 @@ module _ (c : Site) where
       start = machine c at stack turned (full c own r)
 
       spent : Bool → Running Logged → StepResult Logged (Unit {0})
-      spent b q = cond b (Ok (tt, record q { left = q.left - 1 })) (Err (StepLimit, q.left))
+      spent b q = cond b (Ok (tt, record q { left = q.left - 1 })) (Err (Faults StepLimit, q.left))
 
       by : (b : Bool) → nat_lt 0 r.left ≡ b → C (Goes start) (turn (spent b (full c own r)) start) → Turned at stack turned own r (spent b r)
       by true e h = (subst (λ k. C (Goes start) (Goes (machine c k stack true (full c own (record r { left = r.left - 1 }))))) (let f : suc at ≡ at + 1 = omega arith in f) h, refl, let less : 0 < r.left = ltb-true 0 r.left e in omega (arith, less))
       by false e h = (h, let none : r.left ≤ 0 = ltb-false 0 r.left e in omega (arith, none))
 
-  no_unit : (r : Running Logged) → r.left ≤ 0 → spend r ≡ Err (StepLimit, r.left)
+  no_unit : (r : Running Logged) → r.left ≤ 0 → spend r ≡ Err (Faults StepLimit, r.left)
   unfolding spend
-  no_unit r h = ap (λ t. cond t (Ok (tt {0}, record r { left = r.left - 1 })) (Err (StepLimit, r.left))) (le-ltb 0 r.left h)
+  no_unit r h = ap (λ t. cond t (Ok (tt {0}, record r { left = r.left - 1 })) (Err (Faults StepLimit, r.left))) (le-ltb 0 r.left h)
 
   pub loop_does : (p q : Piece) (x : Step Logged Value) (b : Do Logged) → Does c p [] x (λ v. Datum v ∷ []) → Does c q [] b (λ done. []) → Does c (loop p q) [] (while_loop (x >>= λ v. checked (bool_of v)) b) (λ done. [])
   unfolding while_loop
@@ -210,7 +210,7 @@ module _ (c : Site) where
       decided : (k : ℕ) (more : Do Logged) (start' : Machine) (u : Running Logged) (own : List Value) → u.left ≤ r.left → ((i : ℕ) → c.base + i < free → slice_get own i ≡ slice_get old i) → length own ≡ length old → outline u.frames ≡ c.counts
           → (turned : Bool) (mid : Machine) → C (Goes start') (Goes mid)
           → (C (Goes mid) (Goes (machine c (at + 1 + length B + length P + 1) below turned (full c own u))) → Leads c start' end free old r.left below (λ done. []) (more u))
-          → (o : Result Bool Fault) → Decided (at + 1 + length B + length P) end below turned (full c own u) mid o → Leads c start' end free old r.left below (λ done. []) (and_then (checked_at o u) (λ again. cond again more (pure tt)))
+          → (o : Result Bool Stop) → Decided (at + 1 + length B + length P) end below turned (full c own u) mid o → Leads c start' end free old r.left below (λ done. []) (and_then (checked_at o u) (λ again. cond again more (pure tt)))
       decided k more start' u own fewer kept long same turned mid h go (Err e) d = comes_then c.subject c.numbers c.code _ _ _ h d
       decided k more start' u own fewer kept long same turned mid h go (Ok false) d = record { own = own; turned = turned; comes = comes_then c.subject c.numbers c.code _ _ _ h d; kept = kept; long = long; same = same; fewer = fewer; named = tt }
       decided k more start' u own fewer kept long same turned mid h go (Ok true) d = go d
@@ -240,10 +240,10 @@ module _ (c : Site) where
   -- ---- `repeat`
 
   -- where the truth value is true the jump is made
-  abbrev Ended : (at to : ℕ) (below : List Item) (turned : Bool) (r : Running Logged) → Machine → Result Bool Fault → Type 0
+  abbrev Ended : (at to : ℕ) (below : List Item) (turned : Bool) (r : Running Logged) → Machine → Result Bool Stop → Type 0
   Ended at to below turned r start (Ok true) = C (Goes start) (Goes (machine c to below turned r))
   Ended at to below turned r start (Ok false) = C (Goes start) (Goes (machine c (at + 1) below turned r))
-  Ended at to below turned r start (Err e) = C (Goes start) (Faults e r.left)
+  Ended at to below turned r start (Err e) = C (Goes start) (Stops e r.left)
 
   ends_at : (at to : ℕ) (more : List Instr) (v : Value) (below : List Item) (turned : Bool) (r : Running Logged) → StandsAt c at (op.Jtrue to ∷ more) → at < to → Ended at to below turned r (machine c at (Datum v ∷ below) turned r) (bool_of v)
   unfolding row
@@ -252,7 +252,7 @@ module _ (c : Site) where
       start : Machine
       start = machine c at (Datum v ∷ below) turned r
 
-      by : (o : Result Bool Fault) → C (Goes start) (decide o true to below start) → Ended at to below turned r start o
+      by : (o : Result Bool Stop) → C (Goes start) (decide o true to below start) → Ended at to below turned r start o
       by (Ok false) h = subst (λ k. C (Goes start) (Goes (machine c k below turned r))) (let e : suc at ≡ at + 1 = omega arith in e) h
       by (Ok true) h = subst (λ b. C (Goes start) (cond b (jump_back to below start) (Goes (machine c to below turned r)))) (lt-leb to at less) h
       by (Err e) h = h
@@ -260,7 +260,7 @@ module _ (c : Site) where
   -- the unit before an entry is taken, and then the entry is come to
   abbrev Entered : (start : Machine) (entry : ℕ) (below : List Item) (own : List Value) (u : Running Logged) → StepResult Logged (Unit {0}) → Type 0
   Entered start entry below own u (Ok y) = ((turned : Bool) × C (Goes start) (Goes (machine c entry below turned (full c own y.1)))) × (outline y.1.frames ≡ outline u.frames) × (suc y.1.left ≡ u.left)
-  Entered start entry below own u (Err e) = C (Goes start) (Faults e.0 e.1)
+  Entered start entry below own u (Err e) = C (Goes start) (Stops e.0 e.1)
 
   -- two steps, and a third one behind them
   regrouped : {A B D : Type 0} (o : StepResult Logged A) (f : A → Step Logged B) (g : B → Step Logged D) → and_then (and_then o f) g ≡ and_then o (λ a. f a >>= g)
@@ -320,7 +320,7 @@ module _ (c : Site) where
 
       -- behind the truth value
       decided : (k : ℕ) → Round k → (start' : Machine) (u : Running Logged) (own : List Value) → u.left ≤ k → u.left ≤ r.left → ((i : ℕ) → c.base + i < free → slice_get own i ≡ slice_get old i) → length own ≡ length old → outline u.frames ≡ c.counts
-          → (turned : Bool) (mid : Machine) → C (Goes start') (Goes mid) → (o : Result Bool Fault) → Ended (at + 1 + length P) end below turned (full c own u) mid o
+          → (turned : Bool) (mid : Machine) → C (Goes start') (Goes mid) → (o : Result Bool Stop) → Ended (at + 1 + length P) end below turned (full c own u) mid o
           → Leads c start' end free old r.left below (λ done. []) (and_then (checked_at o u) (λ done. cond done (pure tt) (repeat_turns k b test)))
       decided k round start' u own few fewer kept long same turned mid h (Err e) d = comes_then c.subject c.numbers c.code _ _ _ h d
       decided k round start' u own few fewer kept long same turned mid h (Ok true) d = record { own = own; turned = turned; comes = comes_then c.subject c.numbers c.code _ _ _ h d; kept = kept; long = long; same = same; fewer = fewer; named = tt }

@@ -1,10 +1,10 @@
 -- Code does what a step says: laws on one instruction, and on one piece behind another.
 use Rattle.std.proofs.Common.{◌≡◌, ◌∙◌, refl, sym, ap, subst, ℕ, zero, suc, ◌+◌, ◌≤◌, ◌<◌, Bool, true, false, List, [], ◌∷◌, ◌++◌, length, append_assoc, length-append, Ok, Err, Option, Some, arith}
 use Rattle.std.specs.Prelude.{slice_get, IsTrue, ◌&&◌}
-use Rattle.pascal_values.specs.declared.fault.Fault.{Fault}
 use Rattle.pascal_values.specs.declared.value.Value.{Value}
 use Rattle.body_code.specs.declared.instr.Instr.{Instr}
 use Rattle.body_code.specs.declared.unit.CodeUnit.{CodeUnit}
+use Rattle.estelle_model.specs.Stops.{Stop}
 use Rattle.estelle_model.specs.States.{Logged}
 use Rattle.estelle_model.specs.Steps.{Running, StepResult, Step, and_then, ◌>>=◌, pure}
 use Rattle.estelle_model.specs.declared.place.Environment.{Environment}
@@ -12,7 +12,7 @@ use Rattle.estelle_model.specs.Subject.{Subject}
 use Rattle.body_machine.specs.declared.item.Item.{Item}
 use Rattle.body_machine.specs.declared.item.Item.TheVariants.{Datum, Spot}
 use Rattle.body_machine.specs.declared.activation.Return.{Return}
-use Rattle.body_machine.specs.Machine.{Activation, Machine, Next, Goes, Ends, Faults}
+use Rattle.body_machine.specs.Machine.{Activation, Machine, Next, Goes, Ends, Stops}
 use Rattle.body_machine.specs.declared.numbers.Numbers.{Numbers}
 use Rattle.body_machine.specs.Rows.{row}
 use Rattle.body_machine.specs.Steps.{next, act, by_row, run, Comes}
@@ -22,9 +22,9 @@ use Rattle.body_compiler.proofs.Frames.{joined, outline, IsNamed}
 -- ---- what the machine comes to
 
 module _ (s : Subject) (n : Numbers) (code : List CodeUnit) where
-  faults_stay : (k : ℕ) (f : Fault) (left : ℕ) → run s n code k (Faults f left) ≡ Faults f left
-  faults_stay zero f left = refl
-  faults_stay (suc k) f left = refl
+  stops_stay : (k : ℕ) (f : Stop) (left : ℕ) → run s n code k (Stops f left) ≡ Stops f left
+  stops_stay zero f left = refl
+  stops_stay (suc k) f left = refl
 
   ends_stay : (k : ℕ) (items : List Item) (r : Running Logged) → run s n code k (Ends items r) ≡ Ends items r
   ends_stay zero items r = refl
@@ -34,7 +34,7 @@ module _ (s : Subject) (n : Numbers) (code : List CodeUnit) where
   run_more zero j x = ap (λ i. run s n code i x) (let e : zero + j ≡ j = omega arith in e)
   run_more (suc k) j (Goes m) = ap (λ i. run s n code i (Goes m)) (let e : suc k + j ≡ suc (k + j) = omega arith in e) ∙ run_more k j (next s n code m)
   run_more (suc k) j (Ends items r) = ends_stay (suc k + j) items r ∙ sym (ends_stay j items r)
-  run_more (suc k) j (Faults f left) = faults_stay (suc k + j) f left ∙ sym (faults_stay j f left)
+  run_more (suc k) j (Stops f left) = stops_stay (suc k + j) f left ∙ sym (stops_stay j f left)
 
   pub comes_then : (x y z : Next) → Comes s n code x y → Comes s n code y z → Comes s n code x z
   comes_then x y z h k = (h.0 + k.0, run_more h.0 k.0 x ∙ ap (run s n code k.0) h.1 ∙ k.1)
@@ -98,7 +98,7 @@ module _ (c : Site) where
 
   abbrev pub Leads : (start : Machine) (at free : ℕ) (old : List Value) (units : ℕ) (below : List Item) {A : Type 0} (left : A → List Item) → StepResult Logged A → Type 0
   Leads start at free old units below left (Ok r) = Arrives start at free old units (left r.0) below r.1
-  Leads start at free old units below left (Err e) = Comes c.subject c.numbers c.code (Goes start) (Faults e.0 e.1)
+  Leads start at free old units below left (Err e) = Comes c.subject c.numbers c.code (Goes start) (Stops e.0 e.1)
 
   -- the code has its temporaries
   abbrev pub HasRoom : (free : ℕ) → Piece → List Value → Type 0
@@ -230,14 +230,14 @@ module _ (c : Site) where
       (by_row c.subject c.numbers c.code (row c.subject c.numbers (machine at (taken ++ below) turned (full old r)).active i) (taken ++ below) (machine at (taken ++ below) turned (full old r)) ≡ Goes (machine (suc at) (left x.0 ++ below) turned (full old x.1)))
       × (outline x.1.frames ≡ c.counts) × (x.1.left ≤ r.left) × AreNamed (left x.0)
   Does1 i taken left at turned old r below (Err e) =
-      by_row c.subject c.numbers c.code (row c.subject c.numbers (machine at (taken ++ below) turned (full old r)).active i) (taken ++ below) (machine at (taken ++ below) turned (full old r)) ≡ Faults e.0 e.1
+      by_row c.subject c.numbers c.code (row c.subject c.numbers (machine at (taken ++ below) turned (full old r)).active i) (taken ++ below) (machine at (taken ++ below) turned (full old r)) ≡ Stops e.0 e.1
 
   pub instr_does : (i : Instr) (taken : List Item) {A : Type 0} (step : Step Logged A) (left : A → List Item)
       → ((at : ℕ) (turned : Bool) (old : List Value) (r : Running Logged) (below : List Item) → outline r.frames ≡ c.counts → Does1 i taken left at turned old r below (step r)) → Does (one i) taken step left
   instr_does i taken {A} step left h fine at free turned old r below stands low room same = by (step r) (h at turned old r below same)
     where
       by : (o : StepResult Logged A) → Does1 i taken left at turned old r below o → Leads (machine at (taken ++ below) turned (full old r)) (at + 1) free old r.left below left o
-      by (Err e) h = step_at at i [] (taken ++ below) turned (full old r) (Faults e.0 e.1) stands h
+      by (Err e) h = step_at at i [] (taken ++ below) turned (full old r) (Stops e.0 e.1) stands h
       by (Ok x) h = record {
         own = old;
         turned = turned;

@@ -1,8 +1,6 @@
 -- What an expression is compiled to does what the expression means.
 use Rattle.std.proofs.Common.{◌≡◌, ◌∙◌, refl, ap, subst, ℕ, Bool, true, false, cond, List, [], ◌∷◌, ◌++◌, ℤ, Result, Ok, Err, Option, Some, None}
 use Rattle.std.specs.Prelude.{slice_get}
-use Rattle.pascal_values.specs.declared.fault.Fault.{Fault}
-use Rattle.pascal_values.specs.declared.fault.Fault.TheVariants.{Unset}
 use Rattle.pascal_values.specs.declared.value.Value.{Value}
 use Rattle.pascal_values.specs.declared.value.Value.TheVariants as pascal
 use Rattle.pascal_values.specs.declared.value.Value.TheVariants.{outs-Int, outs-Set}
@@ -32,12 +30,14 @@ use Rattle.body_code.specs.declared.instr.Instr.TheVariants as op
 use Rattle.estelle_tree.specs.declared.required.Required.{Required}
 use Rattle.estelle_tree.specs.declared.required.Required.TheVariants as required
 use Rattle.estelle_model.specs.declared.denoter.Host.{Host}
-use Rattle.estelle_model.specs.declared.denoter.Denoter.{Denoter}
-use Rattle.estelle_model.specs.Types.{ordinal_at, ordinal_of, host_of, item_of, field_of, bounds_of}
-use Rattle.estelle_model.specs.Operators.{◌>>>◌, int_at, set_at, by_kind, an_int, one_member, members_from, plus, minus, times, divided, modulo, signed, negation, related, required_value, required_host, bool_of}
+use Rattle.estelle_model.specs.declared.denoter.Denoter.{Denoter, out-Denoter}
+use Rattle.estelle_model.specs.declared.denoter.Denoter.TheOpen.{Denoter-F}
+use Rattle.estelle_model.specs.Types.{ordinal_at, ordinal_of, host_of, item_of, field_of, place_at, item_place}
+use Rattle.estelle_model.specs.Operators.{◌>>>◌, int_at, set_at, by_kind, one_member, members_from, plus, minus, times, divided, modulo, signed, negation, related, required_value, required_host, bool_of}
+use Rattle.estelle_model.specs.Stops.{Stop, stopping}
 use Rattle.estelle_model.specs.States.{Logged, on_log}
 use Rattle.estelle_tree.specs.Paths.{Path}
-use Rattle.estelle_model.specs.Steps.{Running, StepResult, Step, and_then, ◌>>=◌, pure, fail, checked, checked_at}
+use Rattle.estelle_model.specs.Steps.{Running, StepResult, Step, and_then, ◌>>=◌, pure, breaks, checked, checked_at}
 use Rattle.estelle_model.specs.declared.meaning.Meaning.{Meaning}
 use Rattle.estelle_model.specs.declared.meaning.Meaning.TheVariants.{Constant, Own, Exported, Local, Var, Field, Called, RequiredFunction, Module}
 use Rattle.estelle_model.specs.declared.place.Place.{Place}
@@ -87,21 +87,21 @@ module _ (c : Site) (scope : Scope) (within : IsScope c scope) (call : Call Logg
       (value_does c (op.Exp m i) [] of_child spot (λ r p found. (named (child_at c.here.path m r.state.image) p found, tt))
       (λ at turned old r below same. ap (λ j. goes_on (and_then (checked_at (child_at c.here.path m r.state.image) (full c old r)) (by_export j)) below (machine c at below turned (full c old r))) (within.export m k i is) ∙ ap (λ o. goes_on o below (machine c at below turned (full c old r))) (one_by_one old r (child_at c.here.path m r.state.image)))))
     where
-      placed : Result Path Fault → Result Place Fault
+      placed : Result Path Stop → Result Place Stop
       placed o = o >>> λ p. Ok (Of p k [])
 
-      of_child : Running Logged → Result Place Fault
+      of_child : Running Logged → Result Place Stop
       of_child r = placed (child_at c.here.path m r.state.image)
 
-      by : (r : Running Logged) (o : Result Path Fault) → checked_at (placed o) r ≡ and_then (checked_at o r) (λ p. pure (Of p k []))
+      by : (r : Running Logged) (o : Result Path Stop) → checked_at (placed o) r ≡ and_then (checked_at o r) (λ p. pure (Of p k []))
       by r (Ok p) = refl
       by r (Err e) = refl
 
-      named : (o : Result Path Fault) (p : Place) → placed o ≡ Ok p → IsNamed c.counts p
+      named : (o : Result Path Stop) (p : Place) → placed o ≡ Ok p → IsNamed c.counts p
       named (Ok q) p e = subst (IsNamed c.counts) (let is : Of q k [] ≡ p = cc in is) tt
       named (Err f) p e = absurd (cc)
 
-      one_by_one : (old : List Value) (r : Running Logged) (o : Result Path Fault) → and_then (checked_at o (full c old r)) (λ p. leaves (Spot (Of p k []))) ≡ and_then (checked_at (placed o) (full c old r)) (λ p. pure (spot p))
+      one_by_one : (old : List Value) (r : Running Logged) (o : Result Path Stop) → and_then (checked_at o (full c old r)) (λ p. leaves (Spot (Of p k []))) ≡ and_then (checked_at (placed o) (full c old r)) (λ p. pure (spot p))
       one_by_one old r (Ok p) = refl
       one_by_one old r (Err e) = refl
 
@@ -121,51 +121,49 @@ module _ (c : Site) (scope : Scope) (within : IsScope c scope) (call : Call Logg
   unfolding row required_value
   ord_does v = value_does c op.Ord (datum v) (λ r. ordinal_of v) int_item (λ r i is. tt) (λ at turned old r below same. by at turned old r below (ordinal_of v))
     where
-      by : (at : ℕ) (turned : Bool) (old : List Value) (r : Running Logged) (below : List Item) (o : Result ℤ Fault) → goes_on (gives (an_int o) (full c old r)) below (machine c at (Datum v ∷ below) turned (full c old r)) ≡ goes_on (and_then (checked_at o (full c old r)) (λ i. pure (int_item i))) below (machine c at (Datum v ∷ below) turned (full c old r))
+      by : (at : ℕ) (turned : Bool) (old : List Value) (r : Running Logged) (below : List Item) (o : Result ℤ Stop) → goes_on (gives (o >>> λ i. Ok (pascal.Int i)) (full c old r)) below (machine c at (Datum v ∷ below) turned (full c old r)) ≡ goes_on (and_then (checked_at o (full c old r)) (λ i. pure (int_item i))) below (machine c at (Datum v ∷ below) turned (full c old r))
       by at turned old r below (Ok i) = refl
       by at turned old r below (Err e) = refl
 
-  index_instr : (low high i : ℤ) (p : Place) → IsNamed c.counts p → Does c (one (op.Index low high)) (Datum (pascal.Int i) ∷ spot p) (checked (place_of low high i) >>= λ k. pure (deeper p k)) spot
+  index_instr : (low high i : ℤ) (p : Place) → IsNamed c.counts p → Does c (one (op.Index low high)) (Datum (pascal.Int i) ∷ spot p) (checked (stopping (place_of low high i)) >>= λ k. pure (deeper p k)) spot
   unfolding row
-  index_instr low high i p named = as_does c (one (op.Index low high)) (Datum (pascal.Int i) ∷ spot p) (λ r. checked_at placed r) (checked (place_of low high i) >>= λ k. pure (deeper p k)) spot (λ r. by r (place_of low high i))
-      (value_does c (op.Index low high) (Datum (pascal.Int i) ∷ spot p) (λ r. placed) spot (λ r q is. (inside (place_of low high i) q is, tt))
-      (λ at turned old r below same. ap (λ (o : Value-F Value). goes_on (and_then (checked_at (int_at o) (full c old r)) (λ j. checked (place_of low high j) >>= λ k. leaves (Spot (deeper p k)))) below (machine c at (Datum (pascal.Int i) ∷ (Spot p ∷ below)) turned (full c old r))) (outs-Int i)
-      ∙ ap (λ o. goes_on o below (machine c at (Datum (pascal.Int i) ∷ (Spot p ∷ below)) turned (full c old r))) (one_by_one old r (place_of low high i))))
+  index_instr low high i p named = as_does c (one (op.Index low high)) (Datum (pascal.Int i) ∷ spot p) (λ r. checked_at placed r) (checked (stopping (place_of low high i)) >>= λ k. pure (deeper p k)) spot (λ r. by r (stopping (place_of low high i)))
+      (value_does c (op.Index low high) (Datum (pascal.Int i) ∷ spot p) (λ r. placed) spot (λ r q is. (inside (stopping (place_of low high i)) q is, tt))
+      (λ at turned old r below same. ap (λ (o : Value-F Value). goes_on (and_then (checked_at (int_at o) (full c old r)) (λ j. checked (stopping (place_of low high j)) >>= λ k. leaves (Spot (deeper p k)))) below (machine c at (Datum (pascal.Int i) ∷ (Spot p ∷ below)) turned (full c old r))) (outs-Int i)
+      ∙ ap (λ o. goes_on o below (machine c at (Datum (pascal.Int i) ∷ (Spot p ∷ below)) turned (full c old r))) (one_by_one old r (stopping (place_of low high i)))))
     where
-      made : Result ℕ Fault → Result Place Fault
+      made : Result ℕ Stop → Result Place Stop
       made o = o >>> λ k. Ok (deeper p k)
 
-      placed : Result Place Fault
-      placed = made (place_of low high i)
+      placed : Result Place Stop
+      placed = made (stopping (place_of low high i))
 
-      by : (r : Running Logged) (o : Result ℕ Fault) → checked_at (made o) r ≡ and_then (checked_at o r) (λ k. pure (deeper p k))
+      by : (r : Running Logged) (o : Result ℕ Stop) → checked_at (made o) r ≡ and_then (checked_at o r) (λ k. pure (deeper p k))
       by r (Ok k) = refl
       by r (Err e) = refl
 
-      inside : (o : Result ℕ Fault) (q : Place) → made o ≡ Ok q → IsNamed c.counts q
+      inside : (o : Result ℕ Stop) (q : Place) → made o ≡ Ok q → IsNamed c.counts q
       inside (Ok k) q e = subst (IsNamed c.counts) (let is : deeper p k ≡ q = cc in is) (named_deeper k p named)
       inside (Err f) q e = absurd (cc)
 
-      one_by_one : (old : List Value) (r : Running Logged) (o : Result ℕ Fault) → and_then (checked_at o (full c old r)) (λ k. leaves (Spot (deeper p k))) ≡ and_then (checked_at (made o) (full c old r)) (λ q. pure (spot q))
+      one_by_one : (old : List Value) (r : Running Logged) (o : Result ℕ Stop) → and_then (checked_at o (full c old r)) (λ k. leaves (Spot (deeper p k))) ≡ and_then (checked_at (made o) (full c old r)) (λ q. pure (spot q))
       one_by_one old r (Ok k) = refl
       one_by_one old r (Err e) = refl
 
+  item_does : (o : Denoter-F Denoter) (i : ℤ) (p : Place) → IsNamed c.counts p → Does c (code.item_code o) (Datum (pascal.Int i) ∷ spot p) (checked (place_at o i) >>= λ k. pure (deeper p k)) spot
+  item_does (Denoter-F.Array low high item) i p named = index_instr low high i p named
+  item_does _ i p named = refused_does c (Datum (pascal.Int i) ∷ spot p) breaks spot
+
   index_does : (a : model.Access Logged) (b : code.Access) (e : model.Operand Logged) (f : code.Operand) → AccessDoes c a b → OperandDoes c e f
-      → AccessDoes c (record { denoter = item_of a.denoter; place = index_step Logged on_log scope.meant call c.here a e }) (record { denoter = item_of b.denoter; place = b.place ⨾ (f.value ⨾ one op.Ord) ⨾ one (op.Index (bounds_of b.denoter).0 (bounds_of b.denoter).1) })
+      → AccessDoes c (record { denoter = item_of a.denoter; place = index_step Logged on_log scope.meant call c.here a e }) (record { denoter = item_of b.denoter; place = b.place ⨾ (f.value ⨾ one op.Ord) ⨾ code.item_code (out-Denoter b.denoter) })
   index_does a b e f h k = record {
     denoter = ap item_of h.denoter;
-    place = subst (λ (d : Denoter). Does c (b.place ⨾ (f.value ⨾ one op.Ord) ⨾ one (op.Index (bounds_of d).0 (bounds_of d).1)) [] (index_step Logged on_log scope.meant call c.here a e) spot) h.denoter
-        (then_does c b.place ((f.value ⨾ one op.Ord) ⨾ one (op.Index low high)) [] a.place (λ p. ordinal_step e.value >>= λ i. checked (place_of low high i) >>= λ j. pure (deeper p j)) spot spot h.place
-        (λ p named. then_does c (f.value ⨾ one op.Ord) (one (op.Index low high)) (spot p) (ordinal_step e.value) (λ i. checked (place_of low high i) >>= λ j. pure (deeper p j)) (λ i. Datum (pascal.Int i) ∷ spot p) spot
+    place = subst (λ (d : Denoter). Does c (b.place ⨾ (f.value ⨾ one op.Ord) ⨾ code.item_code (out-Denoter d)) [] (index_step Logged on_log scope.meant call c.here a e) spot) h.denoter
+        (then_does c b.place ((f.value ⨾ one op.Ord) ⨾ code.item_code (out-Denoter a.denoter)) [] a.place (λ p. ordinal_step e.value >>= λ i. checked (item_place a.denoter i) >>= λ j. pure (deeper p j)) spot spot h.place
+        (λ p named. then_does c (f.value ⨾ one op.Ord) (code.item_code (out-Denoter a.denoter)) (spot p) (ordinal_step e.value) (λ i. checked (item_place a.denoter i) >>= λ j. pure (deeper p j)) (λ i. Datum (pascal.Int i) ∷ spot p) spot
         (under_does c (f.value ⨾ one op.Ord) [] (spot p) (ordinal_step e.value) int_item named (then_does c f.value (one op.Ord) [] e.value (λ v. checked (ordinal_of v)) datum int_item k.value (λ v none. ord_does v)))
-        (λ i inside. index_instr low high i p named.0)));
+        (λ i inside. item_does (out-Denoter a.denoter) i p named.0)));
   }
-    where
-      low : ℤ
-      low = (bounds_of a.denoter).0
-
-      high : ℤ
-      high = (bounds_of a.denoter).1
 
   indexed_does : (es : List (model.Operand Logged)) (fs : List code.Operand) (a : model.Access Logged) (b : code.Access) → EachAlike (OperandDoes c) es fs → AccessDoes c a b → AccessDoes c (model.indexed Logged on_log scope.meant call c.here es a) (code.indexed scope fs b)
   indexed_does [] [] a b h k = k
@@ -175,7 +173,7 @@ module _ (c : Site) (scope : Scope) (within : IsScope c scope) (call : Call Logg
 
   fielded_does : (x : Meaning) (a : model.Access Logged) (b : code.Access) → AccessDoes c a b → AccessDoes c (model.fielded Logged on_log scope.meant call c.here x a) (code.fielded scope x b)
   fielded_does (Field k) a b h = record { denoter = ap (λ (d : Denoter). field_of d k) h.denoter; place = then_does c b.place (one (op.Field k)) [] a.place (λ p. pure (deeper p k)) spot spot h.place (λ p named. field_does k p named.0) }
-  fielded_does _ a b h = record { denoter = h.denoter; place = refused_does c [] a.place spot }
+  fielded_does _ a b h = record { denoter = h.denoter; place = refused_does c [] (a.place >>= λ p. breaks) spot }
 
   selected_does : (xs : List (model.Selecting Logged)) (ys : List code.Selecting) (a : model.Access Logged) (b : code.Access) → EachAlike (SelectingDoes c) xs ys → AccessDoes c a b → AccessDoes c (model.selected Logged on_log scope.meant call c.here xs a) (code.selected scope ys b)
   selected_does [] [] a b h k = k
@@ -208,7 +206,7 @@ module _ (c : Site) (scope : Scope) (within : IsScope c scope) (call : Call Logg
   -- ---- names and operators
 
   of_access_does : (o : Option (model.Access Logged)) (o' : Option code.Access) → MaybeAlike (AccessDoes c) o o' → OperandDoes c (model.of_access Logged on_log scope.meant call c.here o) (code.of_access scope o')
-  of_access_does None None h = computed_does c _ _ refused (refused_does c [] (fail Unset) datum)
+  of_access_does None None h = computed_does c _ _ refused (refused_does c [] breaks datum)
   of_access_does None (Some b) h = absurd h
   of_access_does (Some a) None h = absurd h
   of_access_does (Some a) (Some b) h = record { value = then_does c b.place (one op.Load) [] a.place (λ p. load Logged on_log p) spot datum h.place (λ p named. load_does c p named.0); host = ap host_of h.denoter; place = h.place }
@@ -249,14 +247,14 @@ module _ (c : Site) (scope : Scope) (within : IsScope c scope) (call : Call Logg
   designated_does z (RequiredFunction f) is es fs h = required_does f es fs h
     where
       required_does : (f : Required) (es : List (model.Operand Logged)) (fs : List code.Operand) → EachAlike (OperandDoes c) es fs → OperandDoes c (model.required_of Logged on_log scope.meant call c.here f es) (code.required_of scope f fs)
-      required_does f [] [] h = unknown_does _ (fail Unset)
+      required_does f [] [] h = unknown_does _ breaks
       required_does f [] (b ∷ bs) h = absurd h
       required_does f (a ∷ xs) [] h = absurd h
       required_does f (a ∷ []) (b ∷ []) h = record { value = computed_by f a b h.0; host = ap (λ (g : Host). required_host f g) h.0.host; place = tt }
       required_does f (a ∷ []) (b ∷ (d ∷ bs)) h = absurd h.1
       required_does f (a ∷ (d ∷ xs)) (b ∷ []) h = absurd h.1
-      required_does f (a ∷ (d ∷ xs)) (b ∷ (g ∷ bs)) h = unknown_does _ (fail Unset)
-  designated_does z _ is es fs h = unknown_does _ (fail Unset)
+      required_does f (a ∷ (d ∷ xs)) (b ∷ (g ∷ bs)) h = unknown_does _ breaks
+  designated_does z _ is es fs h = unknown_does _ breaks
 
   -- ---- truth values
 
@@ -265,7 +263,7 @@ module _ (c : Site) (scope : Scope) (within : IsScope c scope) (call : Call Logg
   truth_does q y h = as_does c (code.truth q) [] (y >>= λ v. checked (bool_of v) >>= λ b. cond b (pure (pascal.Bool true)) (pure (pascal.Bool false))) (bool_step y >>= λ b. pure (pascal.Bool b)) datum (λ r. by (y r))
       (then_does c q (fork (one (op.Push (pascal.Bool true))) (one (op.Push (pascal.Bool false)))) [] y _ datum datum h (λ v none. fork_does c (one (op.Push (pascal.Bool true))) (one (op.Push (pascal.Bool false))) v (pure (pascal.Bool true)) (pure (pascal.Bool false)) datum (push_does c (pascal.Bool true)) (push_does c (pascal.Bool false))))
     where
-      at_bool : (r : Running Logged) (o : Result Bool Fault) → and_then (checked_at o r) (λ b. cond b (pure (pascal.Bool true)) (pure (pascal.Bool false))) ≡ and_then (checked_at o r) (λ b. pure (pascal.Bool b))
+      at_bool : (r : Running Logged) (o : Result Bool Stop) → and_then (checked_at o r) (λ b. cond b (pure (pascal.Bool true)) (pure (pascal.Bool false))) ≡ and_then (checked_at o r) (λ b. pure (pascal.Bool b))
       at_bool r (Ok true) = refl
       at_bool r (Ok false) = refl
       at_bool r (Err e) = refl
@@ -311,25 +309,25 @@ module _ (c : Site) (scope : Scope) (within : IsScope c scope) (call : Call Logg
   abbrev MemberDoes : Step Logged (List ℕ) → Piece → Type 0
   MemberDoes x p = Does c p [] x set_item
 
-  made_does : (i : Instr) (taken : List Item) (o : Result (List ℕ) Fault) → ((at : ℕ) (turned : Bool) (old : List Value) (r : Running Logged) (below : List Item) → result c i (taken ++ below) at turned old r ≡ goes_on (gives (a_set o) (full c old r)) below (machine c at (taken ++ below) turned (full c old r)))
+  made_does : (i : Instr) (taken : List Item) (o : Result (List ℕ) Stop) → ((at : ℕ) (turned : Bool) (old : List Value) (r : Running Logged) (below : List Item) → result c i (taken ++ below) at turned old r ≡ goes_on (gives (a_set o) (full c old r)) below (machine c at (taken ++ below) turned (full c old r)))
       → Does c (one i) taken (checked o) set_item
   made_does i taken o h = value_does c i taken (λ r. o) set_item (λ r ns is. tt) (λ at turned old r below same. h at turned old r below ∙ by at turned old r below o)
     where
-      by : (at : ℕ) (turned : Bool) (old : List Value) (r : Running Logged) (below : List Item) (o : Result (List ℕ) Fault) → goes_on (gives (a_set o) (full c old r)) below (machine c at (taken ++ below) turned (full c old r)) ≡ goes_on (and_then (checked_at o (full c old r)) (λ ns. pure (set_item ns))) below (machine c at (taken ++ below) turned (full c old r))
+      by : (at : ℕ) (turned : Bool) (old : List Value) (r : Running Logged) (below : List Item) (o : Result (List ℕ) Stop) → goes_on (gives (a_set o) (full c old r)) below (machine c at (taken ++ below) turned (full c old r)) ≡ goes_on (and_then (checked_at o (full c old r)) (λ ns. pure (set_item ns))) below (machine c at (taken ++ below) turned (full c old r))
       by at turned old r below (Ok ns) = refl
       by at turned old r below (Err e) = refl
 
   one_step : (v : Value) (r : Running Logged) → checked_at (ordinal_of v >>> one_member) r ≡ and_then (checked_at (ordinal_of v) r) (λ n. checked (one_member n))
   one_step v r = by (ordinal_of v)
     where
-      by : (o : Result ℤ Fault) → checked_at (o >>> one_member) r ≡ and_then (checked_at o r) (λ n. checked (one_member n))
+      by : (o : Result ℤ Stop) → checked_at (o >>> one_member) r ≡ and_then (checked_at o r) (λ n. checked (one_member n))
       by (Ok n) = refl
       by (Err e) = refl
 
   span_step : (i : ℤ) (w : Value) (r : Running Logged) → checked_at (ordinal_of w >>> members_from i) r ≡ and_then (checked_at (ordinal_of w) r) (λ j. checked (members_from i j))
   span_step i w r = by (ordinal_of w)
     where
-      by : (o : Result ℤ Fault) → checked_at (o >>> members_from i) r ≡ and_then (checked_at o r) (λ j. checked (members_from i j))
+      by : (o : Result ℤ Stop) → checked_at (o >>> members_from i) r ≡ and_then (checked_at o r) (λ j. checked (members_from i j))
       by (Ok j) = refl
       by (Err e) = refl
 
@@ -408,7 +406,7 @@ module _ (c : Site) (scope : Scope) (within : IsScope c scope) (call : Call Logg
   unfolding row
   with_sign_does None e f h = h
   with_sign_does (Some sign.Minus) e f h = computed_does c _ _ _ (of_does c op.Neg (signed sign.Minus) (λ a. refl) f.value e.value h.value)
-  with_sign_does (Some sign.Plus) e f h = computed_does c _ _ _ (then_does c f.value refused [] e.value (λ v. checked (signed sign.Plus v)) datum datum h.value (λ v none. refused_does c (datum v) (checked (signed sign.Plus v)) datum))
+  with_sign_does (Some sign.Plus) e f h = computed_does c _ _ _ (refused_does c [] e.value datum)
 
   -- ---- trees
 

@@ -22,7 +22,8 @@ use Rattle.estelle_model.specs.Calls.{blank, frame_of}
 use Rattle.body_machine.specs.declared.item.Item.{Item}
 use Rattle.body_machine.specs.declared.item.Item.TheVariants.{Datum, Spot}
 use Rattle.body_machine.specs.Numbers.{variables_in, slot, reference_number}
-use Rattle.body_machine.specs.Steps.{taken_from, given_one, given_to, blanks_of, frame_with}
+use Rattle.body_machine.specs.Frames.{blanks_of, frame_with}
+use Rattle.body_machine.specs.Steps.{taken_from, given_one, given_to}
 use Rattle.body_code.specs.declared.unit.Heading.{Heading}
 use Rattle.body_compiler.specs.Pieces.{Piece}
 use Rattle.body_compiler.specs.UnitCode.{local_of, reference_of, variable, own_shapes, AreParameters, IsMadeOf, made_of}

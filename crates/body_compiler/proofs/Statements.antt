@@ -1,6 +1,5 @@
 -- What a statement is compiled to does what the statement means.
 use Rattle.std.proofs.Common.{◌≡◌, refl, subst, List, [], ◌∷◌, Option, Some, None}
-use Rattle.pascal_values.specs.declared.fault.Fault.TheVariants.{Unset}
 use Rattle.pascal_values.specs.declared.value.Value.{Value}
 use Rattle.estelle_tree.specs.declared.tree.name.Name.{Name}
 use Rattle.estelle_tree.specs.declared.tree.expression.Expr.{Expr}
@@ -15,7 +14,7 @@ use Rattle.body_code.specs.declared.instr.Instr.TheVariants as op
 use Rattle.estelle_model.specs.declared.denoter.Denoter.{Denoter}
 use Rattle.estelle_model.specs.Types.{shape_of}
 use Rattle.estelle_model.specs.States.{Logged, on_log}
-use Rattle.estelle_model.specs.Steps.{Step, Do, ◌>>=◌, fail, all}
+use Rattle.estelle_model.specs.Steps.{Step, Do, ◌>>=◌, breaks, all}
 use Rattle.estelle_model.specs.declared.meaning.Routine.{Routine}
 use Rattle.estelle_model.specs.declared.meaning.Meaning.{Meaning}
 use Rattle.estelle_model.specs.declared.meaning.Meaning.TheVariants.{Called}
@@ -54,7 +53,7 @@ module _ (c : Site) (scope : Scope) (within : IsScope c scope) (act : Acts Logge
   stored_does d p v named = by_number_does c (scope.number (shape_of d)) (λ n. one (op.Store n)) (Datum v ∷ spot p) (store Logged on_log d p v) no_item (λ n is. store_does c n d (within.number (shape_of d) n is) p v named)
 
   assign_to_does : (o : Option (model.Access Logged)) (o' : Option code.Access) (x : Step Logged Value) (f : code.Operand) → MaybeAlike (AccessDoes c) o o' → Does c f.value [] x datum → StatementDoes (meaning.assign_to Logged on_log scope.meant act call c.here o x) (compiled.assign_to scope o' f)
-  assign_to_does None None x f h k = refused_does c [] (fail Unset) no_item
+  assign_to_does None None x f h k = refused_does c [] breaks no_item
   assign_to_does None (Some b) x f h k = absurd h
   assign_to_does (Some a) None x f h k = absurd h
   assign_to_does (Some a) (Some b) x f h k = subst (λ (d : Denoter). StatementDoes (meaning.assign_to Logged on_log scope.meant act call c.here (Some a) x) (b.place ⨾ f.value ⨾ compiled.store_into scope d)) h.denoter
@@ -92,7 +91,7 @@ module _ (c : Site) (scope : Scope) (within : IsScope c scope) (act : Acts Logge
 
   invoke_does : (x : Name) (m : Meaning) → scope.meant x ≡ m → (es : Option Args) → StatementDoes (meaning.invoke_of Logged on_log scope.meant act call c.here m (meaning.arguments Logged on_log scope.meant act call c.here es)) (compiled.invoke_of scope x m (compiled.arguments scope es))
   invoke_does x (Called r) is es = invoked_does c scope within call calls x r is _ _ (arguments_does es)
-  invoke_does x _ is es = refused_does c [] (fail Unset) no_item
+  invoke_does x _ is es = refused_does c [] breaks no_item
 
   all_does : (xs : List (Do Logged)) (ps : List Piece) → EachAlike StatementDoes xs ps → StatementDoes (all xs) (compiled.all scope ps)
   all_does [] [] h = none_does c [] tt no_item refl tt

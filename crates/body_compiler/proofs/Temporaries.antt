@@ -1,14 +1,14 @@
 -- Temporaries of a unit: how they are read and set, which `for` and `case` will need.
 use Rattle.std.proofs.Common.{◌≡◌, ◌∙◌, refl, sym, ap, subst, ℕ, zero, suc, ◌+◌, ◌-◌, ◌≤◌, ◌<◌, Bool, List, [], ◌∷◌, ◌++◌, length, map, length-append, Result, Ok, Err, Some, arith}
 use Rattle.std.specs.Prelude.{IsTrue, slice_get, slice_set}
-use Rattle.pascal_values.specs.declared.fault.Fault.{Fault}
 use Rattle.pascal_values.specs.declared.value.Value.{Value}
 use Rattle.pascal_values.specs.declared.value.Shape.{Shape}
-use Rattle.pascal_values.specs.Shapes.{fit_of}
 use Rattle.estelle_tree.specs.Paths.{Path}
 use Rattle.body_code.specs.declared.unit.CodeUnit.{CodeUnit}
 use Rattle.body_code.specs.declared.instr.Instr.{Instr}
 use Rattle.body_code.specs.declared.instr.Instr.TheVariants as op
+use Rattle.estelle_model.specs.Stops.{Stop, stopping}
+use Rattle.estelle_model.specs.Types.{assignable}
 use Rattle.estelle_model.specs.States.{Logged, on_log}
 use Rattle.estelle_model.specs.Steps.{Running, StepResult, Step, and_then, ◌>>=◌, ◌>>◌, pure, checked, checked_at}
 use Rattle.estelle_model.specs.declared.meaning.Routine.{Routine}
@@ -19,9 +19,9 @@ use Rattle.estelle_model.specs.Places.{set_value, load, put}
 use Rattle.body_machine.specs.declared.item.Item.{Item}
 use Rattle.body_machine.specs.declared.item.Item.TheVariants.{Datum, Spot}
 use Rattle.body_machine.specs.declared.activation.Return.{Return}
-use Rattle.body_machine.specs.Machine.{Machine, Next, Goes, Faults}
+use Rattle.body_machine.specs.Machine.{Machine, Next, Goes, Stops}
 use Rattle.body_machine.specs.Numbers.{shape_numbered, slot}
-use Rattle.body_machine.specs.Rows.{row, leaves, nothing, fit_as}
+use Rattle.body_machine.specs.Rows.{row, leaves, nothing, store_as}
 use Rattle.body_machine.specs.Steps.{goes_on, Comes}
 use Rattle.body_compiler.specs.Pieces.{Piece, keep, recall}
 use Rattle.body_compiler.specs.UnitCode.{Known, variable, own_shapes, routine_code, IsUnit}
@@ -72,21 +72,21 @@ module _ (c : Site) (placed : IsPlaced c) (has : HasTemporaries c) where
       (ap set_value (last_part r.frames c.callers own c.here.frame has.variables i placed.others (frame_of r same) ∙ found) ∙ known))
 
   -- a value that fits is stored in it
-  abbrev pub Stored : (i at : ℕ) (stack : List Item) (turned : Bool) (own : List Value) (r : Running Logged) (v : Value) → Next → Result (Unit {0}) Fault → Type 0
+  abbrev pub Stored : (i at : ℕ) (stack : List Item) (turned : Bool) (own : List Value) (r : Running Logged) (v : Value) → Next → Result (Unit {0}) Stop → Type 0
   Stored i at stack turned own r v start (Ok done) = C start (Goes (machine c (suc at) stack turned (full c (slice_set own i v) r)))
-  Stored i at stack turned own r v start (Err e) = C start (Faults e r.left)
+  Stored i at stack turned own r v start (Err e) = C start (Stops e r.left)
 
   pub value_stored : (i k : ℕ) (shape : Shape) → shape_numbered c.numbers k ≡ Some shape → (v w : Value) (at : ℕ) (more : List Instr) (stack : List Item) (turned : Bool) (own : List Value) (r : Running Logged) → outline r.frames ≡ c.counts → slice_get own i ≡ Some w
-      → StandsAt c at (op.Store k ∷ more) → Stored i at stack turned own r v (Goes (machine c at (Datum v ∷ (Spot (temporary i) ∷ stack)) turned (full c own r))) (fit_of shape v)
+      → StandsAt c at (op.Store k ∷ more) → Stored i at stack turned own r v (Goes (machine c at (Datum v ∷ (Spot (temporary i) ∷ stack)) turned (full c own r))) (stopping (assignable shape v))
   unfolding row put
   value_stored i k shape is v w at more stack turned own r same found stands =
-      by (fit_of shape v) (step_at c at (op.Store k) more (Datum v ∷ (Spot (temporary i) ∷ stack)) turned (full c own r) _ stands
-      (ap (λ o. goes_on (nothing (checked (fit_as o v) >> put Logged on_log (temporary i) v) (full c own r)) stack (machine c at (Datum v ∷ (Spot (temporary i) ∷ stack)) turned (full c own r))) is))
+      by (stopping (assignable shape v)) (step_at c at (op.Store k) more (Datum v ∷ (Spot (temporary i) ∷ stack)) turned (full c own r) _ stands
+      (ap (λ o. goes_on (nothing (store_as o (temporary i) v) (full c own r)) stack (machine c at (Datum v ∷ (Spot (temporary i) ∷ stack)) turned (full c own r))) is))
     where
       start : Next
       start = Goes (machine c at (Datum v ∷ (Spot (temporary i) ∷ stack)) turned (full c own r))
 
-      by : (o : Result (Unit {0}) Fault) → C start (goes_on (nothing (checked o >> put Logged on_log (temporary i) v) (full c own r)) stack (machine c at (Datum v ∷ (Spot (temporary i) ∷ stack)) turned (full c own r))) → Stored i at stack turned own r v start o
+      by : (o : Result (Unit {0}) Stop) → C start (goes_on (nothing (checked o >> put Logged on_log (temporary i) v) (full c own r)) stack (machine c at (Datum v ∷ (Spot (temporary i) ∷ stack)) turned (full c own r))) → Stored i at stack turned own r v start o
       by (Ok done) h = subst (λ frames. C start (Goes (machine c (suc at) stack turned (record r { frames = frames })))) (last_changed r.frames c.callers own c.here.frame has.variables i w v placed.others (frame_of r same) found) h
       by (Err e) h = h
 
@@ -157,7 +157,7 @@ module _ (c : Site) (placed : IsPlaced c) (has : HasTemporaries c) where
       (A B : Type 0) (x : Step Logged A) (v : A → Value) (more : A → Step Logged B) (left : B → List Item)
       (value_does : Does c value [] x (λ a. Datum (v a) ∷ [])) (rest_does : (i : ℕ) → i < c.number → (a : A) → DoesWhere c (Holds i (v a)) (rest (c.base + i)) [] (more a) left) where
     abbrev kept_step : Step Logged B
-    kept_step = x >>= λ a. checked (fit_of shape (v a)) >>= λ ok. more a
+    kept_step = x >>= λ a. checked (stopping (assignable shape (v a))) >>= λ ok. more a
 
     abbrev At : ℕ → Type 0
     At free = (at : ℕ) (turned : Bool) (old : List Value) (r : Running Logged) (below : List Item) → StandsAt c at ((keep shape k value rest).code free at) → c.base ≤ free → HasRoom c free (keep shape k value rest) old → outline r.frames ≡ c.counts
@@ -203,7 +203,7 @@ module _ (c : Site) (placed : IsPlaced c) (has : HasTemporaries c) where
         begun = subst (λ n. C (Goes start) (Goes (machine c n (Spot (temporary i) ∷ below) turned (full c old r)))) (let e : suc at ≡ at + 1 = omega arith in e) (place_pushed i less at _ below turned (full c old r) stands)
 
         stored : (a : A) (own : List Value) (u : Bool) (q : Running Logged) → C (Goes start) (Goes (machine c S (Datum (v a) ∷ (Spot (temporary i) ∷ below)) u (full c own q))) → outline q.frames ≡ c.counts → q.left ≤ r.left → length own ≡ length old
-            → ((j : ℕ) → c.base + j < free + 1 → slice_get own j ≡ slice_get old j) → (o : Result (Unit {0}) Fault) → Stored i S below u own q (v a) (Goes (machine c S (Datum (v a) ∷ (Spot (temporary i) ∷ below)) u (full c own q))) o
+            → ((j : ℕ) → c.base + j < free + 1 → slice_get own j ≡ slice_get old j) → (o : Result (Unit {0}) Stop) → Stored i S below u own q (v a) (Goes (machine c S (Datum (v a) ∷ (Spot (temporary i) ∷ below)) u (full c own q))) o
             → Leads c start end free old r.left below left (and_then (checked_at o q) (λ ok. more a))
         stored a own u q h same' few long kept (Err e) g = comes_then c.subject c.numbers c.code _ _ _ h g
         stored a own u q h same' few long kept (Ok done) g =
@@ -217,9 +217,9 @@ module _ (c : Site) (placed : IsPlaced c) (has : HasTemporaries c) where
             (omega arith, set_there own i (v a) (omega (arith, less, room.1, long)))))
 
         by : (o : StepResult Logged A) → Leads c (machine c (at + 1) (Spot (temporary i) ∷ below) turned (full c old r)) S (free + 1) old r.left (Spot (temporary i) ∷ below) (λ a. Datum (v a) ∷ []) o
-            → Leads c start end free old r.left below left (and_then o (λ a. checked (fit_of shape (v a)) >>= λ ok. more a))
+            → Leads c start end free old r.left below left (and_then o (λ a. checked (stopping (assignable shape (v a))) >>= λ ok. more a))
         by (Err e) h = comes_then c.subject c.numbers c.code _ _ _ begun h
-        by (Ok y) h = stored y.0 h.own h.turned y.1 (comes_then c.subject c.numbers c.code _ _ _ begun h.comes) h.same h.fewer h.long h.kept (fit_of shape (v y.0))
+        by (Ok y) h = stored y.0 h.own h.turned y.1 (comes_then c.subject c.numbers c.code _ _ _ begun h.comes) h.same h.fewer h.long h.kept (stopping (assignable shape (v y.0)))
             (value_stored i k shape is (v y.0) (there_is h.own i (omega (arith, less, room.1, h.long))).0 S R below h.turned h.own y.1 h.same (there_is h.own i (omega (arith, less, room.1, h.long))).1 behind_value)
 
     pub keep_does : Does c (keep shape k value rest) [] kept_step left

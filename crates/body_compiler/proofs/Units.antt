@@ -3,7 +3,6 @@ use Rattle.std.proofs.Common.{◌≡◌, ◌∙◌, refl, sym, ap, ap₂, subst,
 use Rattle.std.proofs.lemmas.Bool.{le-ltb, lt-ltb}
 use Rattle.std.proofs.lemmas.List.{length-map}
 use Rattle.std.specs.Prelude.{IsTrue, nat_lt, slice_get, slice_index_or}
-use Rattle.pascal_values.specs.declared.fault.Fault.{Fault}
 use Rattle.pascal_values.specs.declared.fault.Fault.TheVariants.{CallDepth}
 use Rattle.pascal_values.specs.declared.value.Value.{Value}
 use Rattle.pascal_values.specs.declared.value.Value.TheVariants as pascal
@@ -14,6 +13,7 @@ use Rattle.body_code.specs.declared.instr.Instr.{Instr}
 use Rattle.body_code.specs.declared.instr.Instr.TheVariants as op
 use Rattle.body_code.specs.declared.unit.CodeUnit.{CodeUnit}
 use Rattle.estelle_model.specs.declared.denoter.Denoter.{Denoter}
+use Rattle.estelle_model.specs.Stops.{Stop, Faults}
 use Rattle.estelle_model.specs.States.{Logged, on_log}
 use Rattle.estelle_model.specs.Steps.{Running, StepResult, Step, Do, and_then, ◌>>=◌, ◌>>◌, pure, fail, checked_at, spend}
 use Rattle.estelle_model.specs.declared.meaning.Routine.{Routine}
@@ -27,9 +27,10 @@ use Rattle.estelle_model.specs.Calls.{Enters, call_by, last_or, enter as enter_f
 use Rattle.estelle_model.proofs.LoopLaws.{AtMost}
 use Rattle.body_machine.specs.declared.item.Item.{Item}
 use Rattle.body_machine.specs.declared.activation.Return.{Return}
-use Rattle.body_machine.specs.Machine.{Activation, Machine, Next, Goes, Faults}
+use Rattle.body_machine.specs.Machine.{Activation, Machine, Next, Goes, Stops}
 use Rattle.body_machine.specs.Rows.{row}
-use Rattle.body_machine.specs.Steps.{deeper_than, frame_with, push_frame, pop_frame, begun, enter, return_to, Comes}
+use Rattle.body_machine.specs.Frames.{deeper_than, frame_with, push_frame, pop_frame}
+use Rattle.body_machine.specs.Steps.{begun, enter, return_to, Comes}
 use Rattle.body_compiler.specs.Pieces.{Piece, one, ◌⨾◌}
 use Rattle.body_compiler.specs.ExpressionCode.{Scope, by_number}
 use Rattle.body_compiler.specs.StatementCode as compiled
@@ -90,7 +91,7 @@ unfolding leave
 leave_back r (Err e) = refl
 leave_back r (Ok x) = by r.result (slice_index_or (parts_of (last_or pascal.Unset x.1.frames)) (result_number r) pascal.Unset)
   where
-    set : (o : Result Value Fault) → and_then (checked_at o (pop_frame x.1)) (λ w. pure (Some w)) ≡ popped (and_then (checked_at o x.1) (λ w. pure (Some w)))
+    set : (o : Result Value Stop) → and_then (checked_at o (pop_frame x.1)) (λ w. pure (Some w)) ≡ popped (and_then (checked_at o x.1) (λ w. pure (Some w)))
     set (Ok v) = refl
     set (Err e) = refl
 
@@ -134,7 +135,7 @@ module _ (c : Site) where
   -- what is come to where the step comes to this
   abbrev pub AtEnd : Machine → (units : ℕ) → {A : Type 0} → (A → List Item) → StepResult Logged A → Type 0
   AtEnd start units left (Ok y) = ((own : List Value) × Comes c.subject c.numbers c.code (Goes start) (return_to c.subject c.numbers c.code c.return c.waiting (left y.0) (pop_frame (full c own y.1)))) × (outline y.1.frames ≡ c.counts) × (y.1.left ≤ units)
-  AtEnd start units left (Err e) = Comes c.subject c.numbers c.code (Goes start) (Faults e.0 e.1)
+  AtEnd start units left (Err e) = Comes c.subject c.numbers c.code (Goes start) (Stops e.0 e.1)
 
   pub ends_do : (p : Piece) → c.unit.instrs ≡ p.code c.base 0 ++ op.Ret ∷ [] → IsTrue p.fine → {A : Type 0} (x : Step Logged A) (left : A → List Item) → Does c p [] x left
       → length p.temporaries ≡ c.number → (own : List Value) → length own ≡ c.number → (s : Running Logged) → outline s.frames ≡ c.counts → AtEnd (machine c 0 [] false (full c own s)) s.left left (x s)
@@ -193,7 +194,7 @@ module _ (c : Site) (placed : IsPlaced c) (known : Known) (body : ℕ) (r : Rout
   -- what is come to at its end
   abbrev pub Ended : Next → (units : ℕ) → StepResult Logged (Option Value) → Type 0
   Ended start units (Ok y) = C start (return_to c.subject c.numbers c.code return (waiter ∷ c.waiting) (result_item y.0) (full c old y.1)) × (outline y.1.frames ≡ c.counts) × (y.1.left ≤ units)
-  Ended start units (Err e) = C start (Faults e.0 e.1)
+  Ended start units (Err e) = C start (Stops e.0 e.1)
 
   more_units : (start : Next) (units more : ℕ) (o : StepResult Logged (Option Value)) → units ≤ more → Ended start units o → Ended start more o
   more_units start units more (Ok y) l h = (h.0, h.1, omega (arith, l, h.2))
@@ -250,7 +251,7 @@ module _ (c : Site) (placed : IsPlaced c) (known : Known) (body : ℕ) (r : Rout
     framed_with = frame_with unit.locals (length r.parameters) given
 
     abbrev tested : Bool → Do Logged
-    tested b s = cond b (Ok (tt, s)) (Err (CallDepth, s.left))
+    tested b s = cond b (Ok (tt, s)) (Err (Faults CallDepth, s.left))
 
     abbrev entered : StepResult Logged (Unit {0}) → List Item → Running Logged → Next
     entered o stack q = enter o (begun body unit path (suc c.here.frame) (places_of r.parameters a) return) below (machine c at stack turned q)

@@ -19,7 +19,8 @@ use Rattle.body_machine.specs.declared.activation.Return.TheVariants.{ToNone}
 use Rattle.body_machine.specs.Machine.{Machine}
 use Rattle.body_machine.specs.declared.numbers.Numbers.{Numbers}
 use Rattle.body_machine.specs.Numbers.{shape_numbered, export_numbered, word_of, interaction_of}
-use Rattle.body_machine.specs.Steps.{frame_with, begun}
+use Rattle.body_machine.specs.Frames.{frame_with}
+use Rattle.body_machine.specs.Steps.{begun}
 use Rattle.body_compiler.specs.UnitCode.{Known, IsUnit}
 
 -- numbers stand for the interaction point and the interaction that two names mean

@@ -19,8 +19,9 @@ use Rattle.estelle_tree.specs.declared.tree.expression.Factor.TheFolds.{fold-Exp
 use Rattle.body_code.specs.declared.instr.Instr.TheVariants as op
 use Rattle.estelle_model.specs.declared.denoter.Host.{Host}
 use Rattle.estelle_model.specs.declared.denoter.Host.TheVariants as hosts
-use Rattle.estelle_model.specs.declared.denoter.Denoter.{Denoter}
-use Rattle.estelle_model.specs.Types.{shape_of, host_of, item_of, field_of, bounds_of}
+use Rattle.estelle_model.specs.declared.denoter.Denoter.{Denoter, out-Denoter}
+use Rattle.estelle_model.specs.declared.denoter.Denoter.TheOpen.{Denoter-F}
+use Rattle.estelle_model.specs.Types.{shape_of, host_of, item_of, field_of}
 use Rattle.estelle_model.specs.declared.meaning.Passing.{Passing}
 use Rattle.estelle_model.specs.declared.meaning.Passing.TheVariants.{ByValue, ByPlace}
 use Rattle.estelle_model.specs.declared.meaning.Routine.{Routine}
@@ -89,11 +90,16 @@ abbrev pub by_number : Option ℕ → (ℕ → Piece) → Piece
 by_number None f = refused
 by_number (Some k) f = f k
 
+-- an item of an array by its index; of another type there is none
+abbrev pub item_code : Denoter-F Denoter → Piece
+item_code (Denoter-F.Array low high item) = one (op.Index low high)
+item_code _ = refused
+
 module _ (scope : Scope) where
   -- an index, tested directly after its evaluation
   abbrev pub indexed : List Operand → Access → Access
   indexed [] a = a
-  indexed (e ∷ es) a = indexed es (record { denoter = item_of a.denoter; place = a.place ⨾ (e.value ⨾ one op.Ord) ⨾ one (op.Index (bounds_of a.denoter).0 (bounds_of a.denoter).1) })
+  indexed (e ∷ es) a = indexed es (record { denoter = item_of a.denoter; place = a.place ⨾ (e.value ⨾ one op.Ord) ⨾ item_code (out-Denoter a.denoter) })
 
   abbrev pub fielded : Meaning → Access → Access
   fielded (Field k) a = record { denoter = field_of a.denoter k; place = a.place ⨾ one (op.Field k) }
@@ -229,13 +235,10 @@ module _ (scope : Scope) where
   abbrev pub term_layer : Term-F Operand Selecting (List Operand) Piece Operand Operand Operand Written → Operand
   term_layer t = term_of t.first t.others
 
-  abbrev pub sign_of : Sign → Piece
-  sign_of sign.Plus = refused
-  sign_of sign.Minus = one op.Neg
-
   abbrev pub with_sign : Option Sign → Operand → Operand
   with_sign None e = e
-  with_sign (Some x) e = computed hosts.Integer (e.value ⨾ sign_of x)
+  with_sign (Some sign.Plus) e = computed hosts.Integer refused
+  with_sign (Some sign.Minus) e = computed hosts.Integer (e.value ⨾ one op.Neg)
 
   -- terms from left to right
   abbrev pub simple_of : Operand → List (Adding × Operand) → Operand

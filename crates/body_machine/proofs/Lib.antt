@@ -1,2 +1,7 @@
 pub mod Stacked
 pub mod Counting
+pub mod Making
+pub mod Sparing
+pub mod Measure
+pub mod Acting
+pub mod Running

@@ -1,6 +1,5 @@
 -- What the instructions of Estelle do: by numbers what the statements do by names (ISO/IEC 9074).
 use Rattle.std.specs.Prelude.{ℕ, List, Option, Some, None}
-use Rattle.pascal_values.specs.declared.fault.Fault.TheVariants.{Unset}
 use Rattle.pascal_values.specs.declared.value.Value.{Value}
 use Rattle.estelle_tree.specs.declared.link.IpAddr.{IpAddr}
 use Rattle.estelle_tree.specs.Paths.{Path}
@@ -11,11 +10,13 @@ use Rattle.body_code.specs.declared.instr.Ends.TheVariants.{Point, Child}
 use Rattle.estelle_model.specs.declared.meaning.InteractionKind.{InteractionKind}
 use Rattle.estelle_model.specs.declared.meaning.Meaning.TheVariants.{Interaction}
 use Rattle.estelle_model.specs.States.{Logged, on_log}
-use Rattle.estelle_model.specs.Steps.{Step, Do, ◌>>=◌, ◌>>◌, pure, fail, spend}
+use Rattle.estelle_model.specs.Steps.{Step, Do, ◌>>=◌, ◌>>◌, pure, breaks, spend}
 use Rattle.estelle_model.specs.Plans.{carry}
 use Rattle.estelle_model.specs.Places.{child_step}
-use Rattle.estelle_model.specs.Subject.{Subject}
-use Rattle.estelle_model.specs.Actions.{at, connect_points, disconnect_point, disconnect_child, attach_points, detach_point, output_at, release_child}
+use Rattle.estelle_model.specs.Subject.{Subject, child_of}
+use Rattle.estelle_model.specs.Actions.{at, connect_points, disconnect_point, disconnect_child, attach_points, detach_point, output_at, release_child, may_begin}
+use Rattle.body_actions.specs.Children.{begins_child}
+use Rattle.body_machine.specs.Frames.{deeper_than}
 
 -- a point of the instance, or of the child that a module variable holds
 abbrev pub end_at : Path → point.Point → Step Logged IpAddr
@@ -45,8 +46,12 @@ module _ (s : Subject) where
 
   abbrev pub output_of : Path → ℕ → Option (List ℕ) → Option InteractionKind → List Value → Do Logged
   output_of p ip (Some word) (Some kind) values = carry Logged on_log (output_at s word kind.word (Interaction kind) values (at p ip))
-  output_of p ip _ _ values = fail Unset
+  output_of p ip _ _ values = breaks
 
   -- an output takes a unit
   abbrev pub output_with : Path → ℕ → Option (List ℕ) → Option InteractionKind → List Value → Do Logged
   output_with p ip word kind values = spend >> output_of p ip word kind values
+
+  -- the tests, the unit and the depth; then the child is made; its path
+  abbrev pub makes_child : Path → ℕ → ℕ → ℕ → List Value → Step Logged Path
+  makes_child p frame modvar body values = carry Logged on_log (may_begin s p modvar body values) >>= λ i. deeper_than frame >> begins_child s p modvar i ((child_of s body).with_parameters values)

@@ -2,7 +2,9 @@
 pub mod Machine
 pub mod Numbers
 pub mod Operations
+pub mod Frames
 pub mod Ends
 pub mod Rows
 pub mod Steps
 pub mod Seen
+pub mod Runs

@@ -1,8 +1,8 @@
 -- The machine that runs the code of bodies: units that run, each with its own stack of values and places.
 use Rattle.std.specs.Prelude.{ℕ, Bool, List}
-use Rattle.pascal_values.specs.declared.fault.Fault.{Fault}
 use Rattle.body_code.specs.declared.unit.CodeUnit.{CodeUnit}
 use Rattle.estelle_model.specs.States.{Logged}
+use Rattle.estelle_model.specs.Stops.{Stop}
 use Rattle.estelle_model.specs.Steps.{Running}
 use Rattle.estelle_model.specs.declared.place.Environment.{Environment}
 pub use Rattle.body_machine.specs.declared.item.Item.{Item}
@@ -35,4 +35,5 @@ pub data Next : Type 0 where
   Goes : (machine : Machine) → Next
   -- the outermost unit has ended, with what stands on its stack
   Ends : (stack : List Item) (running : Running Logged) → Next
-  Faults : (kind : Fault) (left : ℕ) → Next
+  -- with the units left
+  Stops : (by : Stop) (left : ℕ) → Next

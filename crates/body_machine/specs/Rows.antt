@@ -1,13 +1,12 @@
 -- The table of instructions: what each takes from the stack, and what it does with that. It is made of the steps of which the meanings of bodies are made.
 use Rattle.std.specs.Prelude.{ℕ, ◌^◌, ◌-◌, Bool, true, false, List, [], ◌∷◌, map as each, slice_get, option_map, Option, Some, None, ℤ, Result, Ok, Err}
 use Rattle.pascal_values.specs.declared.fault.Fault.{Fault}
-use Rattle.pascal_values.specs.declared.fault.Fault.TheVariants.{Unset}
 use Rattle.pascal_values.specs.declared.value.Value.{Value, out-Value}
 use Rattle.pascal_values.specs.declared.value.Value.TheVariants as pascal
 use Rattle.pascal_values.specs.declared.value.Value.TheOpen.{Value-F}
 use Rattle.pascal_values.specs.declared.value.Value.TheFolds.{fold-Value}
 use Rattle.pascal_values.specs.declared.value.Shape.{Shape}
-use Rattle.pascal_values.specs.Shapes.{fit_of, place_of}
+use Rattle.pascal_values.specs.Shapes.{place_of}
 use Rattle.estelle_tree.specs.declared.tree.type_expr.Sign.TheVariants as sign
 use Rattle.estelle_tree.specs.declared.tree.expression.Relation.TheVariants as relation
 use Rattle.estelle_tree.specs.declared.required.Required.TheVariants as required
@@ -18,11 +17,12 @@ use Rattle.estelle_model.specs.declared.denoter.Host.{Host}
 use Rattle.estelle_model.specs.declared.denoter.Host.TheVariants as host
 use Rattle.estelle_model.specs.declared.place.Place.{Place}
 use Rattle.estelle_model.specs.declared.place.Place.TheVariants.{Of, In}
-use Rattle.estelle_model.specs.Types.{ordinal_of}
+use Rattle.estelle_model.specs.Stops.{Stop, Broken, stopping}
+use Rattle.estelle_model.specs.Types.{assignable}
 use Rattle.estelle_model.specs.Operators.{◌>>>◌, int_of, plus, minus, times, divided, modulo, signed, negation, related, one_member, members_from, required_value}
 use Rattle.estelle_model.specs.States.{Logged, on_log}
-use Rattle.estelle_model.specs.Steps.{Running, Step, Do, ◌>>=◌, ◌>>◌, pure, fail, checked}
-use Rattle.estelle_model.specs.Places.{deeper, held, load, put, child_step}
+use Rattle.estelle_model.specs.Steps.{Step, Do, ◌>>=◌, ◌>>◌, pure, fail, breaks, checked}
+use Rattle.estelle_model.specs.Places.{deeper, held_step, load, put, blank_at, child_step}
 use Rattle.estelle_model.specs.Expressions.{reference_at}
 use Rattle.estelle_model.specs.Subject.{Subject}
 use Rattle.body_machine.specs.Ends.{connect_ends, disconnect_ends, attach_end, detach_end, release_in, output_with}
@@ -59,39 +59,27 @@ pub data Row : Type 0 where
 abbrev pub leaves : Item → Step Logged (List Item)
 leaves i = pure (i ∷ [])
 
-abbrev pub gives : Result Value Fault → Step Logged (List Item)
+abbrev pub gives : Result Value Stop → Step Logged (List Item)
 gives r = checked r >>= λ v. leaves (Datum v)
 
 abbrev pub nothing : Do Logged → Step Logged (List Item)
 nothing p = p >> pure []
 
 abbrev pub by_export : Option ℕ → Path → Step Logged (List Item)
-by_export None c = fail Unset
+by_export None c = breaks
 by_export (Some x) c = leaves (Spot (Of c x []))
 
 -- ---- values
 
--- a value fits the shape of a number
-abbrev pub fit_as : Option Shape → Value → Result (Unit {0}) Fault
-fit_as None v = Err Unset
-fit_as (Some shape) v = fit_of shape v
+-- a value may be assigned to a variable of the shape of a number
+abbrev pub fit_as : Option Shape → Value → Result (Unit {0}) Stop
+fit_as None v = Err Broken
+fit_as (Some shape) v = stopping (assignable shape v)
 
--- every simple part and each set is unset
-abbrev pub blank_step : Value-F Value → Value
-blank_step (Value-F.Array vs) = pascal.Array vs
-blank_step (Value-F.Fields vs) = pascal.Fields vs
-blank_step _ = pascal.Unset
-
-abbrev pub blanked : Value → Value
-blanked = fold-Value Value blank_step
-
-abbrev pub blank_there : Option Value → Place → Do Logged
-blank_there None p = fail Unset
-blank_there (Some v) p = put Logged on_log p (blanked v)
-
--- what stands at a place is made unset
-abbrev pub blank_at : Place → Do Logged
-blank_at p = (λ s. checked (held Logged on_log p s) s) >>= λ v. blank_there v p
+-- stores a value at a place by the shape of a number
+abbrev pub store_as : Option Shape → Place → Value → Do Logged
+store_as None p v = breaks
+store_as (Some shape) p v = held_step Logged on_log p >> checked (stopping (assignable shape v)) >> put Logged on_log p v
 
 -- ---- what instructions are by what they take
 
@@ -111,22 +99,31 @@ abbrev pub extending : ℕ → Row
 extending k = OfPlace (λ p. leaves (Spot (deeper p k)))
 
 abbrev pub indexing : (low high : ℤ) → Row
-indexing low high = OfBoth (λ p v. checked (int_of v) >>= λ i. checked (place_of low high i) >>= λ k. leaves (Spot (deeper p k)))
+indexing low high = OfBoth (λ p v. checked (int_of v) >>= λ i. checked (stopping (place_of low high i)) >>= λ k. leaves (Spot (deeper p k)))
 
 abbrev pub storing : Option Shape → Row
-storing shape = OfBoth (λ p v. nothing (checked (fit_as shape v) >> put Logged on_log p v))
+storing shape = OfBoth (λ p v. nothing (store_as shape p v))
 
 abbrev pub fitting : Option Shape → Row
 fitting shape = OfValue (λ v. checked (fit_as shape v) >> leaves (Datum v))
 
 abbrev pub blanking : Row
-blanking = OfPlace (λ p. nothing (blank_at p))
+blanking = OfPlace (λ p. nothing (blank_at Logged on_log p))
 
 abbrev pub referring : List Place → ℕ → Row
 referring references k = Nullary (checked (reference_at (slice_get references k)) >>= λ p. leaves (Spot p))
 
 abbrev pub exporting : Path → ℕ → Option ℕ → Row
 exporting p modvar x = Nullary (child_step Logged on_log p modvar >>= by_export x)
+
+abbrev pub failing : Fault → Row
+failing kind = Nullary (fail kind)
+
+abbrev pub acting : Do Logged → Row
+acting p = Nullary (nothing p)
+
+abbrev pub sending : ℕ → (List Value → Do Logged) → Row
+sending arguments f = OfMany arguments (λ values. nothing (f values))
 
 module _ (s : Subject) (n : Numbers) where
   unfoldable pub row : Activation → Instr → Row
@@ -174,11 +171,11 @@ module _ (s : Subject) (n : Numbers) where
   row a op.Turn = Turns
   row a (op.Call body routine arguments) = Calls body routine arguments
   row a op.Ret = Returns
-  row a (op.Fail kind) = Nullary (fail kind)
+  row a (op.Fail kind) = failing kind
   row a (op.Init modvar body arguments) = Begins modvar body arguments
-  row a (op.Release modvar) = Nullary (nothing (release_in s a.here.path modvar))
-  row a (op.Connect x y) = Nullary (nothing (connect_ends s a.here.path x y))
-  row a (op.Disconnect x) = Nullary (nothing (disconnect_ends s a.here.path x))
-  row a (op.Attach upper lower) = Nullary (nothing (attach_end s a.here.path upper lower))
-  row a (op.Detach ip) = Nullary (nothing (detach_end s a.here.path ip))
-  row a (op.Output ip interaction arguments) = OfMany arguments (λ values. nothing (output_with s a.here.path ip (word_of n a.body ip) (interaction_of n a.body ip interaction) values))
+  row a (op.Release modvar) = acting (release_in s a.here.path modvar)
+  row a (op.Connect x y) = acting (connect_ends s a.here.path x y)
+  row a (op.Disconnect x) = acting (disconnect_ends s a.here.path x)
+  row a (op.Attach upper lower) = acting (attach_end s a.here.path upper lower)
+  row a (op.Detach ip) = acting (detach_end s a.here.path ip)
+  row a (op.Output ip interaction arguments) = sending arguments (output_with s a.here.path ip (word_of n a.body ip) (interaction_of n a.body ip interaction))

@@ -1,5 +1,7 @@
 //! Units that run.
 
+ghost use Rattle.std.specs.Prelude.{◌≡◌};
+
 use crate::stack::Stack;
 use body_code::CodeUnit;
 use estelle_model::Environment;
@@ -29,6 +31,25 @@ pub struct Activation<'a> {
     pub stack: Stack,
     pub turned: bool,
     pub return_to: Return,
+}
+
+impl Activation<'_> {
+    /// What stands on its stack, and what comes behind its end.
+    pub fn into_left(self) -> (Stack, Return)
+        ensures stack { result.0 ≡ self.entry.stack }
+        ensures return_to { result.1 ≡ self.entry.return_to }
+    {
+        let Activation {
+            body: _,
+            unit: _,
+            here: _,
+            address: _,
+            stack,
+            turned: _,
+            return_to,
+        } = self;
+        (stack, return_to)
+    }
 }
 
 impl Drop for Activation<'_> {

@@ -1,7 +1,8 @@
 //! What a unit is given by the items on a stack.
 
 ghost use Rattle.std.specs.Prelude.{◌≡◌, ◌++◌, IfOk};
-ghost use Rattle.body_machine.specs.Steps.{values_of, given_to, nothing_given, blanks_of};
+ghost use Rattle.body_machine.specs.Frames.{blanks_of};
+ghost use Rattle.body_machine.specs.Steps.{values_of, given_to, nothing_given};
 
 use crate::item::Item;
 use crate::stack::Stack;

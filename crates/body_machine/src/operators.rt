@@ -2,13 +2,13 @@
 
 ghost use Rattle.std.specs.Prelude.{◌≡◌};
 ghost use Rattle.body_values.specs.Gives.{Gives};
-ghost use Rattle.body_machine.specs.Operations.{told, unary_value, binary_value};
+ghost use Rattle.body_machine.specs.Operations.{unary_value, binary_value};
 ghost use Rattle.body_machine.specs.declared.operators.Unary.TheVariants as Unary;
 ghost use Rattle.body_machine.specs.declared.operators.Binary.TheVariants as Binary;
 
 use body_values::{
-    Stop, divided, members_from, minus, modulo, negation, one_member, ordinal_of, plus, related,
-    required_value, signed, times,
+    Stop, divided, members_from, minus, modulo, negation, one_member, ordinal_of, plus, preceding,
+    related, required_value, signed, succeeding, times,
 };
 use estelle_model::Host;
 use estelle_tree::{Relation, Required, Sign};
@@ -47,18 +47,6 @@ pub enum Binary {
     Span,
 }
 
-/// The host of a value; the greatest ordinal counts as the last of an enumeration, whose type is not told.
-pub fn told(value: &Value) -> Host
-    ensures { result ≡ told value.now }
-{
-    match value {
-        Value::Bool(_) => Host::Boolean,
-        Value::Char(_) => Host::Char,
-        Value::Enum(_) => Host::Enumeration { last: u32::MAX },
-        _ => Host::Integer,
-    }
-}
-
 fn one(alloc: Global, value: &Value) -> Result<Value, Stop>
     ensures { Gives (unary_value Unary.One value.now) result }
 {
@@ -84,8 +72,8 @@ pub fn unary_value(alloc: Global, op: Unary, value: &Value) -> Result<Value, Sto
         Unary::Abs => required_value(Required::Abs, Host::Integer, value),
         Unary::Sqr => required_value(Required::Sqr, Host::Integer, value),
         Unary::Odd => required_value(Required::Odd, Host::Integer, value),
-        Unary::Succ => required_value(Required::Succ, told(value), value),
-        Unary::Pred => required_value(Required::Pred, told(value), value),
+        Unary::Succ => succeeding(value),
+        Unary::Pred => preceding(value),
         Unary::Ord => required_value(Required::Ord, Host::Integer, value),
         Unary::Chr => required_value(Required::Chr, Host::Integer, value),
         Unary::Not => negation(value),

@@ -1,32 +1,46 @@
 //! Instructions that compute of what stands on the stack.
 
-ghost use Rattle.std.specs.Prelude.{◌≡◌};
+ghost use Rattle.std.specs.Prelude.{◌≡◌, []};
+ghost use Rattle.pascal_values.specs.declared.value.Value.TheVariants.{Set};
 ghost use Rattle.std.specs.Option.{option_copied};
-ghost use Rattle.pascal_values.specs.declared.fault.Fault.TheVariants.{Unset};
 ghost use Rattle.body_values.specs.declared.stop.Stop.TheVariants as stop;
+ghost use Rattle.estelle_model.specs.Types.{assignable};
 ghost use Rattle.body_values.specs.Gives.{Gives};
-ghost use Rattle.body_machine.specs.Rows.{pushing, computing, combining, loading, extending, indexing, storing, fitting, fit_as};
+ghost use Rattle.body_state.specs.Follows.{Follows};
+ghost use Rattle.body_machine.specs.Rows.{pushing, computing, combining, loading, extending, indexing, storing, fitting, blanking, failing, fit_as, store_as};
+ghost use Rattle.body_machine.specs.Machine.{Datum};
 ghost use Rattle.body_machine.specs.Seen.{Did};
 
 use crate::item::Item;
 use crate::machine::Machine;
 use crate::operators::{Binary, Unary, binary_value, unary_value};
+use body_state::Walk;
 use body_values::{Stop, deeper, int_of};
-use pascal_values::{Fault, Shape, Value, fits, position};
+use estelle_model::Place;
+use pascal_values::{Fault, Members, Shape, Value, copy, fits, position};
 use std::alloc::Global;
 
 /// An operand that is not there, or that is of another kind.
 pub fn stuck() -> Stop
-    ensures { result ≡ stop.Fault Unset }
+    ensures { result ≡ stop.Broken }
 {
-    Stop::Fault(Fault::Unset)
+    Stop::Broken
 }
 
-/// An item goes on top.
-pub fn push(machine: &mut Machine, item: Item) -> Result<(), Stop>
-    ensures { Did (pushing item) machine.old result machine.new }
+/// A copy of a value goes on top.
+pub fn constant(alloc: Global, machine: &mut Machine, value: &Value) -> Result<(), Stop>
+    ensures { Did (pushing (Datum value.now)) machine.old result machine.new }
 {
-    machine.leave(item)?;
+    let value = copy(alloc, value)?;
+    machine.leave(Item::Datum(value))?;
+    Ok(())
+}
+
+/// The empty set goes on top.
+pub fn empty(alloc: Global, machine: &mut Machine) -> Result<(), Stop>
+    ensures { Did (pushing (Datum (Set []))) machine.old result machine.new }
+{
+    machine.leave(Item::Datum(Value::Set(Members::none(alloc))))?;
     Ok(())
 }
 
@@ -110,28 +124,57 @@ pub fn index(machine: &mut Machine, low: i64, high: i64) -> Result<(), Stop>
     }
 }
 
-/// Whether a value fits a shape.
+/// Whether a value may be assigned to a variable of a shape. An array or a record has its type already.
+#[tactic(auto, unfolding(estelle_model::specs::Types::assignable))]
+fn assignable(shape: &Shape, value: &Value) -> Result<(), Fault>
+    ensures { result ≡ assignable shape.now value.now }
+{
+    match shape {
+        Shape::Array { .. } | Shape::Fields(_) => Ok(()),
+        _ => fits(shape, value),
+    }
+}
+
+/// The same of a value and a shape of a number.
 fn fit_as(shape: Option<&Shape>, value: &Value) -> Result<(), Stop>
     ensures { Gives (fit_as (option_copied shape.entry) value.now) result }
 {
     match shape {
         None => Err(stuck()),
-        Some(shape) => match fits(shape, value) {
+        Some(shape) => match assignable(shape, value) {
             Ok(()) => Ok(()),
             Err(fault) => Err(Stop::Fault(fault)),
         },
     }
 }
 
-/// A value that fits is put at the place below it.
+/// Stores a value at a place by the shape of a number.
+fn store_as(
+    alloc: Global,
+    walk: &mut Walk,
+    shape: Option<&Shape>,
+    place: &Place,
+    value: Value,
+) -> Result<(), Stop>
+    ensures { Follows (store_as (option_copied shape.entry) place.now value) walk.old result walk.new }
+{
+    match shape {
+        None => Err(stuck()),
+        Some(shape) => {
+            let fit = assignable(shape, &value);
+            walk.put_fitting(alloc, place, fit, value)
+        }
+    }
+}
+
+/// A value is stored at the place below it.
 pub fn store(alloc: Global, machine: &mut Machine, shape: Option<&Shape>) -> Result<(), Stop>
     ensures { Did (storing (option_copied shape.entry)) machine.old result machine.new }
 {
     match machine.active.stack.pop() {
         Some(Item::Datum(value)) => match machine.active.stack.pop() {
             Some(Item::Spot(place)) => {
-                fit_as(shape, &value)?;
-                machine.walk.put(alloc, &place, value)?;
+                store_as(alloc, &mut machine.walk, shape, &place, value)?;
                 machine.advance()?;
                 Ok(())
             }
@@ -153,4 +196,25 @@ pub fn fit(machine: &mut Machine, shape: Option<&Shape>) -> Result<(), Stop>
         }
         _ => Err(stuck()),
     }
+}
+
+/// What stands at a place is made unset.
+pub fn blank(alloc: Global, machine: &mut Machine) -> Result<(), Stop>
+    ensures { Did blanking machine.old result machine.new }
+{
+    match machine.active.stack.pop() {
+        Some(Item::Spot(place)) => {
+            machine.walk.blank(alloc, &place)?;
+            machine.advance()?;
+            Ok(())
+        }
+        _ => Err(stuck()),
+    }
+}
+
+/// Stops with a fault.
+pub fn fault(machine: &mut Machine, kind: Fault) -> Result<(), Stop>
+    ensures { Did (failing kind) machine.old result machine.new }
+{
+    Err(Stop::Fault(kind))
 }

@@ -4,14 +4,16 @@ use Rattle.std.specs.declared.alloc.AllocError.{AllocError}
 use Rattle.body_values.specs.declared.stop.Stop.{Stop}
 use Rattle.body_values.specs.declared.stop.Stop.TheVariants as stop
 use Rattle.estelle_model.specs.States.{Logged, on_log}
+use Rattle.estelle_model.specs.Stops as model
 use Rattle.estelle_model.specs.Steps.{Running, Step, Do}
 use Rattle.estelle_model.specs.Plans.{Plan, carry}
 use Rattle.body_state.specs.Progress.{Progress, running}
 
--- the value and the new state, or the fault and the units left; nothing is said where memory is wanting
+-- the value and the new state, or what stops it and the units left; nothing is said where memory is wanting
 abbrev pub Leads : {S A : Type 0} → Step S A → Running S → Result A Stop → Running S → Type 0
 Leads step old (Ok a) new = step old ≡ Ok (a, new)
-Leads step old (Err (stop.Fault f)) new = step old ≡ Err (f, new.left)
+Leads step old (Err (stop.Fault f)) new = step old ≡ Err (model.Faults f, new.left)
+Leads step old (Err stop.Broken) new = step old ≡ Err (model.Broken, new.left)
 Leads step old (Err stop.Memory) new = Unit {0}
 
 -- from one walk to another, as runs on a log

@@ -4,6 +4,7 @@ pub mod Known
 -- ---- how far a block has run, and that what a call does is what a step says
 pub mod Progress
 pub mod Follows
+pub mod Held
 -- ---- parts in path order, and what is done to them
 pub mod InOrder
 pub mod Alterations

@@ -1,12 +1,13 @@
 //! The walk, and the steps that it takes.
 
-ghost use Rattle.std.specs.Prelude.{◌≡◌, [], option_map, Some, IfOk, OnOk};
+ghost use Rattle.std.specs.Prelude.{◌≡◌, ◌-◌, [], ◌∷◌, ◌++◌, length, take, option_map, Some, IfOk, OnOk};
+ghost use Rattle.pascal_values.specs.declared.value.Value.TheVariants.{Fields};
 ghost use Rattle.std.specs.Option.{option_copied};
 ghost use Rattle.std.specs.FinMap as maps;
 ghost use Rattle.estelle_model.specs.declared.place.Place.TheVariants.{Of};
 ghost use Rattle.estelle_model.specs.States.{Logged, on_log};
 ghost use Rattle.estelle_model.specs.Steps.{spend};
-ghost use Rattle.estelle_model.specs.Places.{load, put, store, store_ordinal, child_step};
+ghost use Rattle.estelle_model.specs.Places.{held, load, put, store, store_ordinal, blank_at, child_step};
 ghost use Rattle.estelle_model.specs.Effects.{changed_in};
 ghost use Rattle.estelle_model.specs.Subject.{Subject};
 ghost use Rattle.estelle_model.specs.Actions.{enters_state};
@@ -14,8 +15,10 @@ ghost use Rattle.estelle_model.specs.Calls.{enter, leave};
 ghost use Rattle.estelle_model.specs.Blocks.{fresh, enter_values};
 ghost use Rattle.estelle_model.specs.Jobs.{instance_of, Shows, all_logged};
 ghost use Rattle.estelle_model.specs.Computed.{core_of, log_from};
+ghost use Rattle.body_values.specs.Gives.{Gives};
 ghost use Rattle.body_state.specs.Progress.{running, after};
 ghost use Rattle.body_state.specs.Follows.{Follows, carried};
+ghost use Rattle.body_state.specs.Held.{or_gone, blanked_in, blanked_step, put_fitting, put_where};
 ghost use Rattle.body_state.specs.InOrder.{InOrder};
 ghost use Rattle.body_state.specs.Alterations.{altered};
 ghost use Rattle.body_state.specs.Entries.{effect_of};
@@ -28,8 +31,8 @@ use crate::log::{Log, LogEntry};
 use crate::parts::child_of;
 use crate::view::View;
 use body_values::{
-    Stop, below, below_frame, fits, loaded, may_store, pop_frame, push_frame, put_in_frame,
-    result_number, value_in, with_locals,
+    Stop, below, below_frame, blanked, fits, loaded, may_store, pop_frame, push_frame,
+    put_in_frame, result_number, value_in, with_locals,
 };
 use estelle_model::{Denoter, Effect, Image, Part, Place, Routine, host_of};
 use estelle_tree::{Items, Link, Path, Sequence};
@@ -126,10 +129,9 @@ impl<'a> Walk<'a> {
         Ok(())
     }
 
-    /// The value of a place.
-    #[tactic(auto, unfolding(estelle_model::specs::Places::load))]
-    pub fn load(&self, alloc: Global, place: &Place) -> Result<Value, Stop>
-        ensures { Follows (load Logged on_log place.now) self.now result self.now }
+    /// What stands at a place, if it is one; nothing of it where its instance is gone.
+    fn held(&self, place: &Place) -> Option<Option<&Value>>
+        ensures { held Logged on_log place.now (running self.now) ≡ or_gone (option_map option_copied result) }
     {
         match place {
             Place::Of {
@@ -137,17 +139,44 @@ impl<'a> Walk<'a> {
                 variable,
                 way,
             } => match self.instances.get(path) {
-                Some(part) => loaded(alloc, below(part.vars.items(), *variable, way.as_slice())),
-                None => Err(Stop::Fault(Fault::NoModule)),
+                Some(part) => Some(below(part.vars.items(), *variable, way.as_slice())),
+                None => None,
             },
             Place::In {
                 frame,
                 variable,
                 way,
-            } => loaded(
-                alloc,
-                below_frame(&self.frames, *frame, *variable, way.as_slice()),
-            ),
+            } => Some(below_frame(&self.frames, *frame, *variable, way.as_slice())),
+        }
+    }
+
+    /// The value of a place.
+    pub fn load(&self, alloc: Global, place: &Place) -> Result<Value, Stop>
+        ensures { Follows (load Logged on_log place.now) self.now result self.now }
+    {
+        match self.held(place) {
+            Some(part) => loaded(alloc, part),
+            None => Err(Stop::Fault(Fault::NoModule)),
+        }
+    }
+
+    /// What stands at a place, with nothing set in it.
+    fn blanked(&self, alloc: Global, place: &Place) -> Result<Value, Stop>
+        ensures { Follows (blanked_step place.now) self.now result self.now }
+    {
+        match self.held(place) {
+            Some(part) => blanked_in(alloc, part),
+            None => Err(Stop::Fault(Fault::NoModule)),
+        }
+    }
+
+    /// Makes what stands at a place unset.
+    pub fn blank(&mut self, alloc: Global, place: &Place) -> Result<(), Stop>
+        ensures { Follows (blank_at Logged on_log place.now) self.old result self.new }
+    {
+        match self.blanked(alloc, place) {
+            Ok(value) => self.put(alloc, place, value),
+            Err(stop) => Err(stop),
         }
     }
 
@@ -171,7 +200,7 @@ impl<'a> Walk<'a> {
                 path,
                 variable,
                 way,
-            } => self.put_of(alloc, path, *variable, way.as_slice(), value),
+            } => self.put_of(alloc, path, *variable, way.as_slice(), Ok(()), value),
             Place::In {
                 frame,
                 variable,
@@ -183,22 +212,26 @@ impl<'a> Walk<'a> {
         }
     }
 
-    /// Puts a value at a part of a variable of an instance.
+    /// Puts a value at a part of a variable of an instance, where that is there and then the value fits.
     fn put_of(
         &mut self,
         alloc: Global,
         path: &Path,
         variable: u32,
         way: &[u32],
+        fit: Result<(), Fault>,
         value: Value,
     ) -> Result<(), Stop>
-        ensures { Follows (put Logged on_log (Of path.now variable way.now) value) self.old result self.new }
+        ensures { Follows (put_where path.now variable way.now fit value) self.old result self.new }
     {
         let Some(part) = self.instances.get(path) else {
             return Err(Stop::Fault(Fault::NoModule));
         };
+        if let Err(fault) = fit {
+            return Err(Stop::Fault(fault));
+        }
         if !may_store(self.bodies.types(part.body), variable, way, &value) {
-            return Err(Stop::Fault(Fault::Unset));
+            return Err(Stop::Broken);
         }
         let by = Alteration::Store {
             variable,
@@ -209,7 +242,30 @@ impl<'a> Walk<'a> {
         Ok(())
     }
 
-    /// Stores a value, which must fit the type.
+    /// Puts a value at a place, where that is there and then the value fits.
+    pub fn put_fitting(
+        &mut self,
+        alloc: Global,
+        place: &Place,
+        fit: Result<(), Fault>,
+        value: Value,
+    ) -> Result<(), Stop>
+        ensures { Follows (put_fitting place.now fit value) self.old result self.new }
+    {
+        match place {
+            Place::Of {
+                path,
+                variable,
+                way,
+            } => self.put_of(alloc, path, *variable, way.as_slice(), fit, value),
+            Place::In { .. } => match fit {
+                Ok(()) => self.put(alloc, place, value),
+                Err(fault) => Err(Stop::Fault(fault)),
+            },
+        }
+    }
+
+    /// Stores a value, which may be assigned to the type.
     pub fn store(
         &mut self,
         alloc: Global,
@@ -219,10 +275,8 @@ impl<'a> Walk<'a> {
     ) -> Result<(), Stop>
         ensures { Follows (store Logged on_log denoter.now place.now value) self.old result self.new }
     {
-        match fits(denoter, &value) {
-            Ok(()) => self.put(alloc, place, value),
-            Err(fault) => Err(Stop::Fault(fault)),
-        }
+        let fit = fits(denoter, &value);
+        self.put_fitting(alloc, place, fit, value)
     }
 
     /// Stores the value with an ordinal, if the host type has one and it fits the type.
@@ -263,6 +317,20 @@ impl<'a> Walk<'a> {
         let number = result_number(routine);
         let frame = pop_frame(&mut self.frames);
         Ok(frame.into_part(number))
+    }
+
+    /// Enters a frame with these values.
+    pub fn push_frame(&mut self, values: Values) -> Result<(), AllocError>
+        ensures { OnOk result (self.new ≡ record self.old { frames = self.old.frames ++ Fields values ∷ [] }) }
+    {
+        push_frame(&mut self.frames, values)
+    }
+
+    /// Leaves the innermost frame.
+    pub fn pop_frame(&mut self)
+        ensures { self.new ≡ record self.old { frames = take (length self.old.frames - 1) self.old.frames } }
+    {
+        let _frame = pop_frame(&mut self.frames);
     }
 
     /// Enters a frame with values alone, in place of all others.
@@ -345,5 +413,15 @@ impl<'a> Walk<'a> {
             links: links.into_items(alloc)?,
         };
         Ok((image, log.into_effects(alloc, bodies)?))
+    }
+}
+
+/// The value of a part with nothing set in it, if there is such a part.
+fn blanked_in(alloc: Global, part: Option<&Value>) -> Result<Value, Stop>
+    ensures { Gives (blanked_in (option_copied part.entry)) result }
+{
+    match part {
+        None => Err(Stop::Broken),
+        Some(value) => Ok(blanked(alloc, value)?),
     }
 }

@@ -51,7 +51,7 @@ fn holds(alloc: Global, walk: &Walk, place: &Place, wanted: i64) -> bool {
 fn is_put_and_loaded(alloc: Global, walk: &mut Walk, place: &Place) -> bool {
     let unset = matches!(walk.load(alloc, place), Err(Stop::Fault(Fault::Unset)));
     let put = walk.put(alloc, place, Value::Int(7)).is_ok() && holds(alloc, walk, place, 7);
-    let refused = walk.put(alloc, place, Value::Char(65)).is_err();
+    let refused = matches!(walk.put(alloc, place, Value::Char(65)), Err(Stop::Broken));
     unset && put && refused && holds(alloc, walk, place, 7)
 }
 

@@ -17,7 +17,7 @@ use Rattle.estelle_model.specs.declared.denoter.Denoter.TheOpen.{Denoter-F}
 use Rattle.estelle_model.specs.Types.{shape_of, shape_step, ordinal_shape}
 use Rattle.estelle_model.specs.Belonging.{belongs, belongs_at, are_values_of, part_at}
 use Rattle.estelle_model.proofs.Fitting.{belongs_out}
-use Rattle.body_values.proofs.TypeLemmas.{ordinal_layer, type_layer, type_within_out, shape_out}
+use Rattle.body_values.proofs.TypeLemmas.{ordinal_layer, ordinal_within, shape_out}
 
 abbrev pub belongs_layer : Denoter-F Denoter → Shape-F (Value → Bool)
 belongs_layer (Denoter-F.Ordinal h low high) = ordinal_layer h low high
@@ -56,17 +56,8 @@ same_ordinal host.Char low high _ = refl
 same_ordinal (host.Enumeration last) low high Value-F.Unset = refl
 same_ordinal (host.Enumeration last) low high _ = refl
 
-pub simple_belongs : (t : Denoter) (v : Value) → ((low high : ℤ) (item : Denoter) → t ≡ denoter.Array low high item → ⊥) → ((fields : List Denoter) → t ≡ denoter.Fields fields → ⊥) → ((h : Host) (low high : ℤ) → t ≡ denoter.Set h low high → ⊥) → is_within (shape_of t) v ≡ belongs (shape_of t) v
-simple_belongs t v no_array no_fields no_set = type_within_out t v ∙ by (out-Denoter t) refl ∙ sym (type_belongs_out t v)
-  where
-    rolled : (d : Denoter-F Denoter) → out-Denoter t ≡ d → t ≡ roll-Denoter d
-    rolled d is = sym (roll-out-Denoter t) ∙ ap roll-Denoter is
-
-    by : (d : Denoter-F Denoter) → out-Denoter t ≡ d → within_at (type_layer d) (out-Value v) ≡ belongs_at (belongs_layer d) (out-Value v)
-    by (Denoter-F.Ordinal h low high) is = same_ordinal h low high (out-Value v)
-    by (Denoter-F.Set h low high) is = absurd (no_set h low high (rolled (Denoter-F.Set h low high) is ∙ denoter.rolls-Set h low high))
-    by (Denoter-F.Array low high item) is = absurd (no_array low high item (rolled (Denoter-F.Array low high item) is ∙ denoter.rolls-Array low high item))
-    by (Denoter-F.Fields fields) is = absurd (no_fields fields (rolled (Denoter-F.Fields fields) is ∙ denoter.rolls-Fields fields))
+pub within_belongs : (h : Host) (low high : ℤ) (v : Value) → is_within (ordinal_shape h low high) v ≡ belongs_at (ordinal_layer h low high) (out-Value v)
+within_belongs h low high v = ordinal_within h low high v ∙ same_ordinal h low high (out-Value v)
 
 -- ---- values one after another
 

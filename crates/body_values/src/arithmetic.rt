@@ -26,7 +26,7 @@ pub fn plus(alloc: Global, left: &Value, right: &Value) -> Result<Value, Stop>
     match (left, right) {
         (Value::Int(m), Value::Int(n)) => an_int(add(*m, *n)),
         (Value::Set(a), Value::Set(b)) => Ok(Value::Set(unite(alloc, a, b)?)),
-        _ => Err(Stop::Fault(Fault::Unset)),
+        _ => Err(Stop::Broken),
     }
 }
 
@@ -37,7 +37,7 @@ pub fn minus(alloc: Global, left: &Value, right: &Value) -> Result<Value, Stop>
     match (left, right) {
         (Value::Int(m), Value::Int(n)) => an_int(sub(*m, *n)),
         (Value::Set(a), Value::Set(b)) => Ok(Value::Set(pascal_values::minus(alloc, a, b)?)),
-        _ => Err(Stop::Fault(Fault::Unset)),
+        _ => Err(Stop::Broken),
     }
 }
 
@@ -48,7 +48,7 @@ pub fn times(alloc: Global, left: &Value, right: &Value) -> Result<Value, Stop>
     match (left, right) {
         (Value::Int(m), Value::Int(n)) => an_int(mul(*m, *n)),
         (Value::Set(a), Value::Set(b)) => Ok(Value::Set(meet(alloc, a, b)?)),
-        _ => Err(Stop::Fault(Fault::Unset)),
+        _ => Err(Stop::Broken),
     }
 }
 
@@ -58,7 +58,7 @@ pub fn divided(left: &Value, right: &Value) -> Result<Value, Stop>
 {
     match (left, right) {
         (Value::Int(m), Value::Int(n)) => an_int(divide(*m, *n)),
-        _ => Err(Stop::Fault(Fault::Unset)),
+        _ => Err(Stop::Broken),
     }
 }
 
@@ -68,7 +68,7 @@ pub fn modulo(left: &Value, right: &Value) -> Result<Value, Stop>
 {
     match (left, right) {
         (Value::Int(m), Value::Int(n)) => an_int(pascal_values::modulo(*m, *n)),
-        _ => Err(Stop::Fault(Fault::Unset)),
+        _ => Err(Stop::Broken),
     }
 }
 
@@ -79,7 +79,7 @@ pub fn signed(sign: Sign, value: &Value) -> Result<Value, Stop>
     match (sign, value) {
         (Sign::Plus, Value::Int(n)) => an_int(Ok(*n)),
         (Sign::Minus, Value::Int(n)) => an_int(sub(0, *n)),
-        _ => Err(Stop::Fault(Fault::Unset)),
+        _ => Err(Stop::Broken),
     }
 }
 
@@ -89,6 +89,6 @@ pub fn negation(value: &Value) -> Result<Value, Stop>
 {
     match value {
         Value::Bool(b) => Ok(Value::Bool(!*b)),
-        _ => Err(Stop::Fault(Fault::Unset)),
+        _ => Err(Stop::Broken),
     }
 }

@@ -9,7 +9,7 @@ ghost use Rattle.pascal_values.specs.Shapes.{has_ordinal};
 ghost use Rattle.estelle_model.specs.Types.{shape_of};
 ghost use Rattle.estelle_model.specs.Belonging as spec;
 
-use crate::fitting::{have_all, is_count, lies_within};
+use crate::fitting::{have_all, is_count, is_ordinal};
 use estelle_model::{Denoter, Type};
 use estelle_tree::Sequence;
 use pascal_values::{Members, Value};
@@ -34,7 +34,7 @@ fn belongs(denoter: &Denoter, value: &Value) -> bool
             Value::Set(members) => set_belongs(low.unsigned_abs(), high.unsigned_abs(), members),
             _ => false,
         },
-        _ => lies_within(denoter, value),
+        Denoter::Ordinal { host, low, high } => is_ordinal(*host, *low, *high, value),
     }
 }
 

@@ -8,7 +8,7 @@ ghost use Rattle.body_values.specs.Gives.{Gives};
 use crate::ordinals::ordinal_of;
 use crate::stop::Stop;
 use estelle_tree::Relation;
-use pascal_values::{Fault, Members, Relation as Comparing, Value, compare, has};
+use pascal_values::{Members, Relation as Comparing, Value, compare, has};
 
 /// A relational operator.
 pub fn related(op: Relation, left: &Value, right: &Value) -> Result<Value, Stop>
@@ -32,7 +32,7 @@ fn member(left: &Value, right: &Value) -> Result<Value, Stop>
     let n = ordinal_of(left)?;
     match right {
         Value::Set(members) => Ok(Value::Bool(contains(n, members))),
-        _ => Err(Stop::Fault(Fault::Unset)),
+        _ => Err(Stop::Broken),
     }
 }
 

@@ -1,78 +1,65 @@
-//! Whether a value belongs to a type. No call takes memory, and none builds the type's shape.
+//! Whether a value may be assigned to a variable of a type (ISO 7185, 6.4.6). No call takes memory, and none builds the type's shape.
 
-ghost use Rattle.std.specs.Prelude.{◌≡◌, ◌==◌, map};
+ghost use Rattle.std.specs.Prelude.{◌≡◌, ◌==◌};
 ghost use Rattle.std.specs.List.{list_all};
-ghost use Rattle.pascal_values.specs.Shapes.{is_within, fit_of, item_count, each_within, has_ordinal};
-ghost use Rattle.estelle_model.specs.Types.{shape_of, ordinal_shape};
+ghost use Rattle.pascal_values.specs.Shapes.{is_within, fit_of, item_count, has_ordinal};
+ghost use Rattle.pascal_values.specs.declared.value.Shape.TheVariants as shape;
+ghost use Rattle.estelle_model.specs.Types.{shape_of, ordinal_shape, whole, assignable};
 
-use estelle_model::{Denoter, Host};
+use estelle_model::{Denoter, Host, greatest, least};
 use estelle_tree::Sequence;
 use pascal_values::{Fault, Value};
 
-/// Whether a value may be assigned to a variable of a type. `Unset` exactly where the whole value is
-/// unset, `Range` exactly where a part of it is of another kind or lies outside the type.
+/// Whether a value may be assigned to a variable of a type. Of an ordinal type or a set, `Unset` exactly where the value is unset,
+/// `Range` exactly where it is of another kind or lies outside the type; an array or a record has its type already.
 pub fn fits(denoter: &Denoter, value: &Value) -> Result<(), Fault>
-    ensures { result ≡ fit_of (shape_of denoter.now) value.now }
+    ensures { result ≡ assignable (shape_of denoter.now) value.now }
+{
+    match denoter {
+        Denoter::Ordinal { host, low, high } => fits_ordinal(*host, *low, *high, value),
+        Denoter::Set { low, high, .. } => fits_set(low.unsigned_abs(), high.unsigned_abs(), value),
+        Denoter::Array { .. } | Denoter::Fields(_) => Ok(()),
+    }
+}
+
+/// The same of the whole type of a host.
+pub fn fits_host(host: Host, value: &Value) -> Result<(), Fault>
+    ensures { result ≡ assignable (shape_of (whole host)) value.now }
+{
+    fits_ordinal(host, least(host), greatest(host), value)
+}
+
+fn fits_ordinal(host: Host, low: i64, high: i64, value: &Value) -> Result<(), Fault>
+    ensures { result ≡ fit_of (ordinal_shape host low high) value.now }
 {
     if matches!(value, Value::Unset) {
         return Err(Fault::Unset);
     }
-    if lies_within(denoter, value) {
+    if is_ordinal(host, low, high, value) {
         Ok(())
     } else {
         Err(Fault::Range)
     }
 }
 
-#[cycle(within)]
-pub fn lies_within(denoter: &Denoter, value: &Value) -> bool
-    ensures { result ≡ is_within (shape_of denoter.now) value.now }
+fn fits_set(low: u64, high: u64, value: &Value) -> Result<(), Fault>
+    ensures { result ≡ fit_of (shape.Set low high) value.now }
 {
-    match (denoter, value) {
-        (_, Value::Unset) => true,
-        (Denoter::Ordinal { host, low, high }, _) => is_ordinal(*host, *low, *high, value),
-        (Denoter::Set { low, high, .. }, Value::Set(members)) => {
-            have_all(low.unsigned_abs(), high.unsigned_abs(), members.items())
+    match value {
+        Value::Unset => Err(Fault::Unset),
+        Value::Set(members) => {
+            if have_all(low, high, members.items()) {
+                Ok(())
+            } else {
+                Err(Fault::Range)
+            }
         }
-        (Denoter::Array { low, high, item }, Value::Array(parts)) => {
-            is_count(*low, *high, parts.len()) && all_within(item.get(), parts.items())
-        }
-        (Denoter::Fields(fields), Value::Fields(parts)) => {
-            fields_within(fields.as_slice(), parts.items())
-        }
-        _ => false,
+        _ => Err(Fault::Range),
     }
-}
-
-#[cycle(within)]
-fn all_within(denoter: &Denoter, values: &[Value]) -> bool
-    ensures { result ≡ list_all (is_within (shape_of denoter.now)) values.now }
-{
-    for value in values {
-        if !lies_within(denoter, value) {
-            return false;
-        }
-    }
-    true
-}
-
-#[cycle(within)]
-fn fields_within(fields: &[Denoter], values: &[Value]) -> bool
-    ensures { result ≡ each_within (map shape_of fields.now) values.now }
-{
-    if fields.len() != values.len() {
-        return false;
-    }
-    for i in 0..fields.len() {
-        if !lies_within(&fields[i], &values[i]) {
-            return false;
-        }
-    }
-    true
 }
 
 /// Whether a value is of an ordinal type, and lies within its bounds.
-fn is_ordinal(host: Host, low: i64, high: i64, value: &Value) -> bool
+pub(crate) fn is_ordinal(host: Host, low: i64, high: i64, value: &Value) -> bool
     ensures { result ≡ is_within (ordinal_shape host low high) value.now }
 {
     match (host, value) {

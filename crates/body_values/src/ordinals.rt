@@ -3,9 +3,11 @@
 ghost use Rattle.std.specs.Prelude.{Some};
 ghost use Rattle.estelle_model.specs.Types.{ordinal_of, value_in};
 ghost use Rattle.estelle_model.specs.Operators.{int_of, bool_of};
+ghost use Rattle.estelle_model.specs.Expressions.{bound_of, selector_of};
 ghost use Rattle.estelle_model.specs.Places.{set_value};
 ghost use Rattle.body_values.specs.Gives.{Gives};
 
+use crate::fitting::fits_host;
 use crate::stop::Stop;
 use estelle_model::{Host, has_value, value_at};
 use pascal_values::{Fault, Value};
@@ -16,7 +18,7 @@ pub fn int_of(value: &Value) -> Result<i64, Stop>
 {
     match value {
         Value::Int(n) => Ok(*n),
-        _ => Err(Stop::Fault(Fault::Unset)),
+        _ => Err(Stop::Broken),
     }
 }
 
@@ -26,7 +28,7 @@ pub fn bool_of(value: &Value) -> Result<bool, Stop>
 {
     match value {
         Value::Bool(b) => Ok(*b),
-        _ => Err(Stop::Fault(Fault::Unset)),
+        _ => Err(Stop::Broken),
     }
 }
 
@@ -39,7 +41,7 @@ pub fn ordinal_of(value: &Value) -> Result<i64, Stop>
         Value::Bool(b) => Ok(i64::from(*b)),
         Value::Char(n) => Ok(i64::from(*n)),
         Value::Enum(n) => Ok(i64::from(*n)),
-        _ => Err(Stop::Fault(Fault::Unset)),
+        _ => Err(Stop::Broken),
     }
 }
 
@@ -59,6 +61,28 @@ pub fn value_in(host: Host, n: i64) -> Result<Value, Stop>
 {
     if has_value(host, n) {
         Ok(value_at(host, n))
+    } else {
+        Err(Stop::Fault(Fault::Range))
+    }
+}
+
+/// The ordinal of a bound of `for`, which is a value of the whole type of a host.
+pub fn bound_of(host: Host, value: &Value) -> Result<i64, Stop>
+    ensures { Gives (bound_of host value.now) result }
+{
+    match fits_host(host, value) {
+        Ok(()) => ordinal_of(value),
+        Err(fault) => Err(Stop::Fault(fault)),
+    }
+}
+
+/// The ordinal of the selector of `case`, which is an integer.
+pub fn selector_of(value: &Value) -> Result<i64, Stop>
+    ensures { Gives (selector_of value.now) result }
+{
+    let ordinal = ordinal_of(value)?;
+    if has_value(Host::Integer, ordinal) {
+        Ok(ordinal)
     } else {
         Err(Stop::Fault(Fault::Range))
     }

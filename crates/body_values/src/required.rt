@@ -1,12 +1,14 @@
 //! The required functions (ISO 7185, 6.6.6).
 
-ghost use Rattle.std.specs.Prelude.{◌≡◌, pos, ◌+ℤ◌, ◌-ℤ◌, Ok};
+ghost use Rattle.std.specs.Prelude.{◌≡◌, Ok};
 ghost use Rattle.pascal_values.specs.Integers.{product_of};
 ghost use Rattle.pascal_values.specs.declared.value.Value.TheVariants as value;
-ghost use Rattle.estelle_model.specs.Operators.{◌>>>◌, an_int, required_host, required_value, stepped, is_odd, magnitude, beyond};
+ghost use Rattle.estelle_model.specs.Stops.{stopping};
+ghost use Rattle.estelle_model.specs.Operators.{◌>>>◌, an_int, required_host, required_value, stepped, host_told, succeeding, preceding, in_host, is_odd, magnitude, beyond};
 ghost use Rattle.body_values.specs.Gives.{Gives};
 
 use crate::arithmetic::an_int;
+use crate::fitting::fits_host;
 use crate::ordinals::{int_of, ordinal_of};
 use crate::stop::Stop;
 use estelle_model::{Host, Required, has_value, value_at};
@@ -32,8 +34,8 @@ pub fn required_value(function: Required, host: Host, value: &Value) -> Result<V
         Required::Abs => absolute(int_of(value)?),
         Required::Sqr => square(int_of(value)?),
         Required::Odd => odd(int_of(value)?),
-        Required::Succ => following(host, ordinal_of(value)?),
-        Required::Pred => preceding(host, ordinal_of(value)?),
+        Required::Succ => in_host(host, succeeding(value)?),
+        Required::Pred => in_host(host, preceding(value)?),
         Required::Ord => Ok(Value::Int(ordinal_of(value)?)),
         Required::Chr => stepped(Host::Char, int_of(value)?),
     }
@@ -59,7 +61,7 @@ fn square(n: i64) -> Result<Value, Stop>
 
 /// `odd`
 fn odd(n: i64) -> Result<Value, Stop>
-    ensures { Gives (is_odd n >>> λ b. Ok (value.Bool b)) result }
+    ensures { Gives (stopping (is_odd n) >>> λ b. Ok (value.Bool b)) result }
 {
     match modulo(n, 2) {
         Ok(rest) => Ok(Value::Bool(rest == 1)),
@@ -87,22 +89,49 @@ fn beyond(host: Host) -> Fault
     }
 }
 
-/// `succ`
-fn following(host: Host, n: i64) -> Result<Value, Stop>
-    ensures { Gives (stepped host (n +ℤ pos 1)) result }
+/// The host of a value; one of an enumeration does not tell the last of its type.
+fn host_told(value: &Value) -> Host
+    ensures { result ≡ host_told value.now }
 {
-    match n.checked_add(1) {
+    match value {
+        Value::Bool(_) => Host::Boolean,
+        Value::Char(_) => Host::Char,
+        Value::Enum(_) => Host::Enumeration { last: u32::MAX },
+        _ => Host::Integer,
+    }
+}
+
+/// `succ`, by the value alone.
+pub fn succeeding(value: &Value) -> Result<Value, Stop>
+    ensures { Gives (succeeding value.now) result }
+{
+    let host = host_told(value);
+    match ordinal_of(value)?.checked_add(1) {
         Some(next) => stepped(host, next),
         None => Err(Stop::Fault(beyond(host))),
     }
 }
 
-/// `pred`
-fn preceding(host: Host, n: i64) -> Result<Value, Stop>
-    ensures { Gives (stepped host (n -ℤ pos 1)) result }
+/// `pred`, by the value alone.
+pub fn preceding(value: &Value) -> Result<Value, Stop>
+    ensures { Gives (preceding value.now) result }
 {
-    match n.checked_sub(1) {
+    let host = host_told(value);
+    match ordinal_of(value)?.checked_sub(1) {
         Some(before) => stepped(host, before),
         None => Err(Stop::Fault(beyond(host))),
+    }
+}
+
+/// A value of an enumeration is tested against its type.
+fn in_host(host: Host, value: Value) -> Result<Value, Stop>
+    ensures { Gives (in_host host value) result }
+{
+    match host {
+        Host::Enumeration { last: _ } => match fits_host(host, &value) {
+            Ok(()) => Ok(value),
+            Err(fault) => Err(Stop::Fault(fault)),
+        },
+        _ => Ok(value),
     }
 }

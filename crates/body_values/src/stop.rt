@@ -1,10 +1,12 @@
 use pascal_values::Fault;
 use std::alloc::AllocError;
 
-/// What stops an evaluation: a fault of the specification's own code, or the want of memory.
+/// What stops an evaluation: a fault of the specification's own code, a rule that is broken, or the want of memory.
 #[derive(Clone, Copy, Debug, PartialEq, Eq)]
 pub enum Stop {
     Fault(Fault),
+    /// No accepted specification comes to it.
+    Broken,
     Memory,
 }
 

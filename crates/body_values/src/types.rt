@@ -1,9 +1,12 @@
 //! What a type denoter says of its values and its components (ISO 7185, 6.4).
 
 ghost use Rattle.std.specs.Prelude.{◌≡◌};
-ghost use Rattle.estelle_model.specs.Types.{item_of, field_of, bounds_of};
+ghost use Rattle.estelle_model.specs.Types.{item_of, field_of, item_place};
+ghost use Rattle.body_values.specs.Gives.{Gives};
 
+use crate::stop::Stop;
 use estelle_model::Denoter;
+use pascal_values::position;
 
 /// The component type of an array type.
 pub fn item_of(denoter: &Denoter) -> &Denoter
@@ -28,12 +31,15 @@ pub fn field_of(denoter: &Denoter, number: u32) -> &Denoter
     }
 }
 
-/// The bounds of an array's index type. Of another type there is no index.
-pub fn bounds_of(denoter: &Denoter) -> (i64, i64)
-    ensures { result ≡ bounds_of denoter.now }
+/// The place of an index among the items of an array type; another type has none.
+pub fn item_place(denoter: &Denoter, index: i64) -> Result<u32, Stop>
+    ensures { Gives (item_place denoter.now index) result }
 {
     match denoter {
-        Denoter::Array { low, high, .. } => (*low, *high),
-        _ => (1, 0),
+        Denoter::Array { low, high, .. } => match position(*low, *high, index) {
+            Ok(place) => Ok(place),
+            Err(fault) => Err(Stop::Fault(fault)),
+        },
+        _ => Err(Stop::Broken),
     }
 }

@@ -59,7 +59,7 @@ pub fn loaded(alloc: Global, part: Option<&Value>) -> Result<Value, Stop>
     ensures { Gives (set_value (option_copied part.entry)) result }
 {
     match part {
-        None => Err(Stop::Fault(Fault::Unset)),
+        None => Err(Stop::Broken),
         Some(Value::Unset) => Err(Stop::Fault(Fault::Unset)),
         Some(value) => Ok(copy(alloc, value)?),
     }

@@ -1,11 +1,12 @@
-//! Values of a type in which nothing is set.
+//! Values in which nothing is set.
 
 ghost use Rattle.std.specs.Prelude.{◌≡◌, ◌+◌, IfOk, map, replicate};
 ghost use Rattle.pascal_values.specs.Shapes.{blank_of};
 ghost use Rattle.estelle_model.specs.Types.{shape_of};
+ghost use Rattle.estelle_model.specs.Places as places;
 
 use estelle_model::Denoter;
-use estelle_tree::SequenceMut;
+use estelle_tree::{Sequence, SequenceMut};
 use pascal_values::{Value, Values, copy};
 use std::alloc::{AllocError, Global};
 
@@ -47,5 +48,28 @@ fn repeated(alloc: Global, value: Value, copies: u64) -> Result<Values, AllocErr
         values.push(copy(alloc, &value)?)?;
     }
     values.push(value)?;
+    Ok(values)
+}
+
+/// A value whose simple parts and sets are all unset.
+#[cycle(blanked)]
+pub fn blanked(alloc: Global, value: &Value) -> Result<Value, AllocError>
+    ensures { IfOk result (λ v. v ≡ places.blanked value.now) }
+{
+    match value {
+        Value::Array(parts) => Ok(Value::Array(all_blanked(alloc, parts.items())?)),
+        Value::Fields(parts) => Ok(Value::Fields(all_blanked(alloc, parts.items())?)),
+        _ => Ok(Value::Unset),
+    }
+}
+
+#[cycle(blanked)]
+fn all_blanked(alloc: Global, parts: &[Value]) -> Result<Values, AllocError>
+    ensures { IfOk result (λ vs. vs ≡ map places.blanked parts.now) }
+{
+    let mut values = Values::none(alloc);
+    for part in parts {
+        values.push(blanked(alloc, part)?)?;
+    }
     Ok(values)
 }

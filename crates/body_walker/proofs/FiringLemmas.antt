@@ -1,5 +1,5 @@
 -- What firings and the start come to, over the steps that they are made of.
-use Rattle.std.proofs.Common.{◌≡◌, ◌∙◌, ℕ, zero, suc, List, [], Option, Some, None, Result, Ok, Err, refl, ap, sym, subst}
+use Rattle.std.proofs.Common.{◌≡◌, ◌∙◌, ℕ, zero, suc, true, false, cond, List, [], Option, Some, None, Result, Ok, Err, refl, ap, sym, subst}
 use Rattle.std.specs.Prelude.{IfOk, unwrap_or, option_map}
 use Rattle.std.specs.declared.alloc.AllocError.{AllocError}
 use Rattle.pascal_values.specs.declared.value.Value.{Value}
@@ -10,7 +10,10 @@ use Rattle.estelle_model.specs.declared.image.Interaction.{Interaction}
 use Rattle.estelle_model.specs.declared.job.Outcome.{Outcome}
 use Rattle.estelle_model.specs.Core.{Instance, Core}
 use Rattle.estelle_model.specs.States.{Logged, on_log}
-use Rattle.estelle_model.specs.Steps.{Running}
+use Rattle.estelle_model.specs.declared.denoter.Denoter.{Denoter}
+use Rattle.estelle_model.specs.Belonging.{are_values_of}
+use Rattle.estelle_model.specs.Stops.{Broken}
+use Rattle.estelle_model.specs.Steps.{Running, Do, ◌>>◌, pure, breaks}
 use Rattle.estelle_model.specs.Meant.{Meanings}
 use Rattle.estelle_model.specs.Blocks.{fresh, block_step}
 use Rattle.estelle_model.specs.Actions.{enters_state}
@@ -28,53 +31,64 @@ use Rattle.body_state.specs.Follows.{Leads, carried}
 use Rattle.body_state.specs.InOrder.{InOrder, instance_in}
 use Rattle.body_state.proofs.OrderLemmas.{holds_of}
 use Rattle.body_state.proofs.PartLemmas.{shown}
-use Rattle.body_state.proofs.FollowLemmas.{follows_next, follows_stops_next}
+use Rattle.body_state.proofs.FollowLemmas.{follows_as, follows_next, follows_stops_next}
 use Rattle.body_program.specs.Chosen.{chosen_over}
 use Rattle.body_program.specs.Programs.{known_of, block_in}
 use Rattle.body_walker.specs.Runs.{block_and_state, job_of}
 
 -- ---- a block, and then the state
 
-module _ (s : Subject) (known : Meanings) (p : Path) (r : Routine) (vs : List Value) (to : Option ℕ) where
-  pub run_ok : (old u new : Running Logged) (x : Result (Unit {0}) Stop) → Leads (block_step Logged on_log known (act Logged on_log s known) p r vs) old (Ok tt) u → Leads (carried (enters_state s p to)) u x new → Leads (block_and_state s known p r vs to) old x new
-  run_ok old u new x h k = follows_next (block_step Logged on_log known (act Logged on_log s known) p r vs) (carried (enters_state s p to)) old u new tt x h k
+module _ (s : Subject) (known : Meanings) (p : Path) (ts : List Denoter) (r : Routine) (vs : List Value) (to : Option ℕ) where
+  abbrev block : Do Logged
+  block = block_step Logged on_log known (act Logged on_log s known) p r vs
 
-  pub run_err : (old u : Running Logged) (e : Stop) → Leads (block_step Logged on_log known (act Logged on_log s known) p r vs) old (Err e) u → Leads (block_and_state s known p r vs to) old (Err e) u
-  run_err old u e h = follows_stops_next (block_step Logged on_log known (act Logged on_log s known) p r vs) (carried (enters_state s p to)) old u e h
+  -- what is received fits, so that the block runs
+  fits : (old new : Running Logged) (x : Result (Unit {0}) Stop) → are_values_of ts vs ≡ true → Leads (block >> carried (enters_state s p to)) old x new → Leads (block_and_state s known p ts r vs to) old x new
+  fits old new x is h = follows_as (block_and_state s known p ts r vs to) (block >> carried (enters_state s p to)) old new x (ap (λ b. (cond b (pure (tt {0})) breaks >> block >> carried (enters_state s p to)) old) is) h
+
+  pub run_unfit : (old : Running Logged) → are_values_of ts vs ≡ false → block_and_state s known p ts r vs to old ≡ Err (Broken, old.left)
+  run_unfit old is = ap (λ b. (cond b (pure (tt {0})) breaks >> block >> carried (enters_state s p to)) old) is
+
+  pub run_ok : (old u new : Running Logged) (x : Result (Unit {0}) Stop) → are_values_of ts vs ≡ true → Leads (block_step Logged on_log known (act Logged on_log s known) p r vs) old (Ok tt) u → Leads (carried (enters_state s p to)) u x new → Leads (block_and_state s known p ts r vs to) old x new
+  run_ok old u new x is h k = fits old new x is (follows_next block (carried (enters_state s p to)) old u new tt x h k)
+
+  pub run_err : (old u : Running Logged) (e : Stop) → are_values_of ts vs ≡ true → Leads (block_step Logged on_log known (act Logged on_log s known) p r vs) old (Err e) u → Leads (block_and_state s known p ts r vs to) old (Err e) u
+  run_err old u e is h = fits old u (Err e) is (follows_stops_next block (carried (enters_state s p to)) old u e h)
 
 -- what is made by a block that runs on a core
-abbrev pub MadeOn : Subject → Meanings → Path → Routine → List Value → Option ℕ → Core → ℕ → Result (Outcome × ℕ) AllocError → Type 0
-MadeOn s known p r vs to c budget x = IfOk x (λ made. IsMadeBy s (block_and_state s known p r vs to (fresh (log_from c) budget)) made.0 made.1)
+abbrev pub MadeOn : Subject → Meanings → Path → List Denoter → Routine → List Value → Option ℕ → Core → ℕ → Result (Outcome × ℕ) AllocError → Type 0
+MadeOn s known p ts r vs to c budget x = IfOk x (λ made. IsMadeBy s (block_and_state s known p ts r vs to (fresh (log_from c) budget)) made.0 made.1)
 
 -- it is the same of what is the same
-pub made_as : (s s' : Subject) (known known' : Meanings) (p p' : Path) (r r' : Routine) (vs vs' : List Value) (to to' : Option ℕ) (c c' : Core) (budget : ℕ) (x : Result (Outcome × ℕ) AllocError) →
-    s ≡ s' → known ≡ known' → p ≡ p' → r ≡ r' → vs ≡ vs' → to ≡ to' → c ≡ c' → MadeOn s known p r vs to c budget x → MadeOn s' known' p' r' vs' to' c' budget x
-made_as s s' known known' p p' r r' vs vs' to to' c c' budget x es ek ep er ev et ec h =
-    subst (λ y. MadeOn s' known' p' r' vs' to' y budget x) ec
-    (subst (λ y. MadeOn s' known' p' r' vs' y c budget x) et
-    (subst (λ y. MadeOn s' known' p' r' y to c budget x) ev
-    (subst (λ (y : Routine). MadeOn s' known' p' y vs to c budget x) er
-    (subst (λ y. MadeOn s' known' y r vs to c budget x) ep
-    (subst (λ (y : Meanings). MadeOn s' y p r vs to c budget x) ek
-    (subst (λ (y : Subject). MadeOn y known p r vs to c budget x) es h))))))
+pub made_as : (s s' : Subject) (known known' : Meanings) (p p' : Path) (ts ts' : List Denoter) (r r' : Routine) (vs vs' : List Value) (to to' : Option ℕ) (c c' : Core) (budget : ℕ) (x : Result (Outcome × ℕ) AllocError) →
+    s ≡ s' → known ≡ known' → p ≡ p' → ts ≡ ts' → r ≡ r' → vs ≡ vs' → to ≡ to' → c ≡ c' → MadeOn s known p ts r vs to c budget x → MadeOn s' known' p' ts' r' vs' to' c' budget x
+made_as s s' known known' p p' ts ts' r r' vs vs' to to' c c' budget x es ek ep et er ev eo ec h =
+    subst (λ y. MadeOn s' known' p' ts' r' vs' to' y budget x) ec
+    (subst (λ y. MadeOn s' known' p' ts' r' vs' y c budget x) eo
+    (subst (λ y. MadeOn s' known' p' ts' r' y to c budget x) ev
+    (subst (λ (y : Routine). MadeOn s' known' p' ts' y vs to c budget x) er
+    (subst (λ (y : List Denoter). MadeOn s' known' p' y r vs to c budget x) et
+    (subst (λ y. MadeOn s' known' y ts r vs to c budget x) ep
+    (subst (λ (y : Meanings). MadeOn s' y p ts r vs to c budget x) ek
+    (subst (λ (y : Subject). MadeOn y known p ts r vs to c budget x) es h)))))))
 
 -- ---- firings
 
 module _ (s : Subject) (p : Path) (n : ℕ) (image : Image) (head : Option Interaction) (budget : ℕ) where
-  of_some : (t : Transition) (x : Result (Outcome × ℕ) AllocError) → MadeOn s (meant_with s t.chosen) p (block_in s t) (values_of head) t.to (core_of s image) budget x → IfOk x (λ made. IsOfTransition s (job_of p n image head budget) (Some t) made.0 made.1)
+  of_some : (t : Transition) (x : Result (Outcome × ℕ) AllocError) → MadeOn s (meant_with s t.chosen) p t.received (block_in s t) (values_of head) t.to (core_of s image) budget x → IfOk x (λ made. IsOfTransition s (job_of p n image head budget) (Some t) made.0 made.1)
   of_some t (Ok made) h = h
   of_some t (Err e) h = tt
 
   -- the block of a transition is run
-  pub fired : (o : Option Transition) (t : Transition) (r : Routine) (vs : List Value) (to : Option ℕ) (base over : Known) (cs : List Choice) (bodies : Subject) (x : Result (Outcome × ℕ) AllocError) →
-      Some t ≡ o → Some r ≡ option_map (block_in s) o → vs ≡ values_of head → to ≡ t.to → base ≡ known_of s → cs ≡ t.chosen → over ≡ chosen_over base cs → bodies ≡ s →
-      MadeOn bodies (meanings_of over) p r vs to (core_of bodies image) budget x → IfOk x (λ made. IsOfTransition s (job_of p n image head budget) o made.0 made.1)
-  fired o t r vs to base over cs bodies x is its ev et eb ec eo es h =
+  pub fired : (o : Option Transition) (t : Transition) (ts : List Denoter) (r : Routine) (vs : List Value) (to : Option ℕ) (base over : Known) (cs : List Choice) (bodies : Subject) (x : Result (Outcome × ℕ) AllocError) →
+      Some t ≡ o → ts ≡ t.received → Some r ≡ option_map (block_in s) o → vs ≡ values_of head → to ≡ t.to → base ≡ known_of s → cs ≡ t.chosen → over ≡ chosen_over base cs → bodies ≡ s →
+      MadeOn bodies (meanings_of over) p ts r vs to (core_of bodies image) budget x → IfOk x (λ made. IsOfTransition s (job_of p n image head budget) o made.0 made.1)
+  fired o t ts r vs to base over cs bodies x is types its ev et eb ec eo es h =
       let block : Some r ≡ Some (block_in s t) = its ∙ ap (option_map (block_in s)) (sym is) in
       let same : r ≡ block_in s t = cc in
       subst (λ q. IfOk x (λ made. IsOfTransition s (job_of p n image head budget) q made.0 made.1)) is
-      (of_some t x (made_as bodies s (meanings_of over) (meant_with s t.chosen) p p r (block_in s t) vs (values_of head) to t.to (core_of bodies image) (core_of s image) budget x
-      es (ap meanings_of (eo ∙ (λ i. chosen_over (eb i) (ec i)))) refl same ev et (ap (λ (y : Subject). core_of y image) es) h))
+      (of_some t x (made_as bodies s (meanings_of over) (meant_with s t.chosen) p p ts t.received r (block_in s t) vs (values_of head) to t.to (core_of bodies image) (core_of s image) budget x
+      es (ap meanings_of (eo ∙ (λ i. chosen_over (eb i) (ec i)))) refl types same ev et (ap (λ (y : Subject). core_of y image) es) h))
 
   pub not_there : (o : Option Transition) (made : Outcome × ℕ) → None ≡ o → IsOfTransition s (job_of p n image head budget) o made.0 made.1
   not_there o made is = subst (λ q. IsOfTransition s (job_of p n image head budget) q made.0 made.1) is tt
@@ -125,5 +139,5 @@ module _ (s : Subject) where
       by None e = refl
       by (Some j) e = absurd (cc)
 
-  pub started : (first : model.Initialization) (budget : ℕ) (x : Result (Outcome × ℕ) AllocError) → begins s 0 ≡ first → MadeOn s (meant s) [] first.block [] first.to (bare s).core budget x → IfOk x (λ made. IsMadeBy s (start_run s budget) made.0 made.1)
-  started first budget x e h = subst (λ (b : model.Initialization). MadeOn s (meant s) [] b.block [] b.to (bare s).core budget x) (sym e) h
+  pub started : (first : model.Initialization) (budget : ℕ) (x : Result (Outcome × ℕ) AllocError) → begins s 0 ≡ first → MadeOn s (meant s) [] [] first.block [] first.to (bare s).core budget x → IfOk x (λ made. IsMadeBy s (start_run s budget) made.0 made.1)
+  started first budget x e h = subst (λ (b : model.Initialization). MadeOn s (meant s) [] [] b.block [] b.to (bare s).core budget x) (sym e) h

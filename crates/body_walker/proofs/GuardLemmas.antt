@@ -1,5 +1,5 @@
 -- The steps of a guard, one after another.
-use Rattle.std.proofs.Common.{◌≡◌, ℤ, Bool, true, false, List, Option, Some, None, Result, Ok, Err, refl, sym, ap, subst, cond, ◌∙◌}
+use Rattle.std.proofs.Common.{◌≡◌, Bool, true, false, List, [], Option, Some, None, ℤ, Result, Ok, Err, refl, sym, ap, subst, cond, ◌∙◌}
 use Rattle.pascal_values.specs.declared.value.Value.{Value}
 use Rattle.estelle_tree.specs.declared.tree.expression.Expr.{Expr}
 use Rattle.estelle_tree.specs.declared.tree.clause.DelayHigh.{DelayHigh}
@@ -8,95 +8,135 @@ use Rattle.estelle_model.specs.declared.job.Guard.{Guard}
 use Rattle.estelle_model.specs.declared.job.Guard.TheVariants.{Off}
 use Rattle.estelle_tree.specs.Paths.{Path}
 use Rattle.estelle_model.specs.States.{Logged, on_log}
-use Rattle.estelle_model.specs.Steps.{Running, Step, pure, checked}
-use Rattle.estelle_model.specs.Operators.{int_of, bool_of}
+use Rattle.estelle_model.specs.Belonging.{are_values_of}
+use Rattle.estelle_model.specs.Stops.{Broken}
+use Rattle.estelle_model.specs.Steps.{Running, Step, and_then, ◌>>=◌, ◌>>◌, pure, breaks, checked}
+use Rattle.estelle_model.specs.Operators.{◌>>>◌, bool_of, int_of}
 use Rattle.estelle_model.specs.Meant.{Meanings}
 use Rattle.estelle_model.specs.Expressions.{bool_step}
-use Rattle.estelle_model.specs.Blocks.{clause_value}
+use Rattle.estelle_model.specs.Blocks.{enter_values, leave_values, with_values, clause_value}
 use Rattle.estelle_model.specs.Transitions.{Transition, Delay}
 use Rattle.estelle_model.specs.Subject.{Subject, meant_with}
 use Rattle.estelle_model.specs.Acts.{act}
-use Rattle.estelle_model.specs.Clauses.{value_of_expr, provided_step, int_step, between, from_on, high_step, at_once, delay_step, guard_step}
+use Rattle.estelle_model.specs.Clauses.{in_clause, value_of_expr, provided_step, between, from_on, from_one, from_both, high_step, at_once, delay_step, guard_step}
 use Rattle.body_values.specs.declared.stop.Stop.{Stop}
 use Rattle.body_values.specs.Gives.{Gives}
 use Rattle.body_state.specs.Follows.{Leads}
-use Rattle.body_state.proofs.FollowLemmas.{follows_checked, follows_then, follows_stops}
+use Rattle.body_state.proofs.FollowLemmas.{follows_as, follows_checked, follows_then, follows_stops, follows_next, follows_stops_next}
+use Rattle.body_walker.specs.Runs.{clause_begins, bounds_step}
 
-abbrev pub ClauseLeads : Subject → Meanings → Path → List Value → Expr → Running Logged → Result Value Stop → Running Logged → Type 0
-ClauseLeads s known p vs node old r new = Leads (clause_value Logged on_log known (act Logged on_log s known) p vs node) old r new
+abbrev pub ClauseLeads : Subject → Meanings → Path → Expr → Running Logged → Result Value Stop → Running Logged → Type 0
+ClauseLeads s known p node old r new = Leads (clause_value Logged on_log known (act Logged on_log s known) p node) old r new
 
-module _ (s : Subject) (t : Transition) (known : Meanings) (is : meant_with s t.chosen ≡ known) (p : Path) (vs : List Value) where
-  value_as : (ws : List Value) → ws ≡ vs → (node : Expr) (old new : Running Logged) (r : Result Value Stop) → ClauseLeads s known p ws node old r new → Leads (value_of_expr Logged on_log s p t vs node) old r new
-  value_as ws same node old new r h =
-      subst (λ us. Leads (clause_value Logged on_log (meant_with s t.chosen) (act Logged on_log s (meant_with s t.chosen)) p us node) old r new) same
-      (subst (λ k. Leads (clause_value Logged on_log k (act Logged on_log s k) p ws node) old r new) (sym is) h)
+module _ (s : Subject) (t : Transition) (known : Meanings) (is : meant_with s t.chosen ≡ known) (p : Path) where
+  value_as : (node : Expr) (old new : Running Logged) (r : Result Value Stop) → ClauseLeads s known p node old r new → Leads (value_of_expr Logged on_log s p t node) old r new
+  value_as node old new r h = subst (λ k. Leads (clause_value Logged on_log k (act Logged on_log s k) p node) old r new) (sym is) h
 
-  pub truth_ok : (ws : List Value) → ws ≡ vs → (node : Expr) (old u : Running Logged) (v : Value) (r : Result Bool Stop) → ClauseLeads s known p ws node old (Ok v) u → Gives (bool_of v) r → Leads (bool_step (value_of_expr Logged on_log s p t vs node)) old r u
-  truth_ok ws same node old u v r h g = follows_then (value_of_expr Logged on_log s p t vs node) (λ v. checked (bool_of v)) old u u v r (value_as ws same node old u (Ok v) h) (follows_checked (bool_of v) r u g)
+  pub truth_ok : (node : Expr) (old u : Running Logged) (v : Value) (r : Result Bool Stop) → ClauseLeads s known p node old (Ok v) u → Gives (bool_of v) r → Leads (bool_step (value_of_expr Logged on_log s p t node)) old r u
+  truth_ok node old u v r h g = follows_then (value_of_expr Logged on_log s p t node) (λ v. checked (bool_of v)) old u u v r (value_as node old u (Ok v) h) (follows_checked (bool_of v) r u g)
 
-  pub truth_err : (ws : List Value) → ws ≡ vs → (node : Expr) (old u : Running Logged) (e : Stop) → ClauseLeads s known p ws node old (Err e) u → Leads (bool_step (value_of_expr Logged on_log s p t vs node)) old (Err e) u
-  truth_err ws same node old u e h = follows_stops (value_of_expr Logged on_log s p t vs node) (λ v. checked (bool_of v)) old u e (value_as ws same node old u (Err e) h)
+  pub truth_err : (node : Expr) (old u : Running Logged) (e : Stop) → ClauseLeads s known p node old (Err e) u → Leads (bool_step (value_of_expr Logged on_log s p t node)) old (Err e) u
+  truth_err node old u e h = follows_stops (value_of_expr Logged on_log s p t node) (λ v. checked (bool_of v)) old u e (value_as node old u (Err e) h)
 
-  pub number_ok : (ws : List Value) → ws ≡ vs → (node : Expr) (old u : Running Logged) (v : Value) (r : Result ℤ Stop) → ClauseLeads s known p ws node old (Ok v) u → Gives (int_of v) r → Leads (int_step Logged on_log s p t vs node) old r u
-  number_ok ws same node old u v r h g = follows_then (value_of_expr Logged on_log s p t vs node) (λ v. checked (int_of v)) old u u v r (value_as ws same node old u (Ok v) h) (follows_checked (int_of v) r u g)
+  -- ---- the values of a delay
 
-  pub number_err : (ws : List Value) → ws ≡ vs → (node : Expr) (old u : Running Logged) (e : Stop) → ClauseLeads s known p ws node old (Err e) u → Leads (int_step Logged on_log s p t vs node) old (Err e) u
-  number_err ws same node old u e h = follows_stops (value_of_expr Logged on_log s p t vs node) (λ v. checked (int_of v)) old u e (value_as ws same node old u (Err e) h)
+  pub high_ok : (low w : Value) (o : DelayHigh) (node : Expr) (r : Result Guard Stop) (old u : Running Logged) → o ≡ high.Expr node → ClauseLeads s known p node old (Ok w) u → Gives (from_both Logged on_log s low w) r → Leads (high_step Logged on_log s p t low (Some o)) old r u
+  high_ok low w o node r old u is_expr h g = subst (λ o. Leads (high_step Logged on_log s p t low (Some o)) old r u) (sym is_expr)
+      (follows_then (value_of_expr Logged on_log s p t node) (λ w. checked (from_both Logged on_log s low w)) old u u w r (value_as node old u (Ok w) h) (follows_checked (from_both Logged on_log s low w) r u g))
+
+  pub high_err : (low : Value) (o : DelayHigh) (node : Expr) (e : Stop) (old u : Running Logged) → o ≡ high.Expr node → ClauseLeads s known p node old (Err e) u → Leads (high_step Logged on_log s p t low (Some o)) old (Err e) u
+  high_err low o node e old u is_expr h = subst (λ o. Leads (high_step Logged on_log s p t low (Some o)) old (Err e) u) (sym is_expr)
+      (follows_stops (value_of_expr Logged on_log s p t node) (λ w. checked (from_both Logged on_log s low w)) old u e (value_as node old u (Err e) h))
+
+  pub bounds_ok : (d : Delay) (node : Expr) (later : Option DelayHigh) (low : Value) (r : Result Guard Stop) (old u new : Running Logged) → node ≡ d.low → later ≡ d.high → ClauseLeads s known p node old (Ok low) u → Leads (high_step Logged on_log s p t low later) u r new → Leads (bounds_step s p t d) old r new
+  bounds_ok d node later low r old u new first second h k = follows_then (value_of_expr Logged on_log s p t d.low) (λ v. high_step Logged on_log s p t v d.high) old u new low r
+      (subst (λ e. Leads (value_of_expr Logged on_log s p t e) old (Ok low) u) first (value_as node old u (Ok low) h))
+      (subst (λ o. Leads (high_step Logged on_log s p t low o) u r new) second k)
+
+  pub bounds_err : (d : Delay) (node : Expr) (e : Stop) (old u : Running Logged) → node ≡ d.low → ClauseLeads s known p node old (Err e) u → Leads (bounds_step s p t d) old (Err e) u
+  bounds_err d node e old u first h = follows_stops (value_of_expr Logged on_log s p t d.low) (λ v. high_step Logged on_log s p t v d.high) old u e (subst (λ n. Leads (value_of_expr Logged on_log s p t n) old (Err e) u) first (value_as node old u (Err e) h))
+
+module _ (s : Subject) (t : Transition) (p : Path) where
+  pub high_none : (low : Value) (o : Option DelayHigh) (r : Result Guard Stop) (u : Running Logged) → o ≡ None → Gives (from_both Logged on_log s low low) r → Leads (high_step Logged on_log s p t low o) u r u
+  high_none low o r u is g = subst (λ o. Leads (high_step Logged on_log s p t low o) u r u) (sym is) (follows_checked (from_both Logged on_log s low low) r u g)
+
+  pub high_star : (low : Value) (o : DelayHigh) (r : Result Guard Stop) (u : Running Logged) → o ≡ high.Star → Gives (from_one Logged on_log s low) r → Leads (high_step Logged on_log s p t low (Some o)) u r u
+  high_star low o r u is g = subst (λ o. Leads (high_step Logged on_log s p t low (Some o)) u r u) (sym is) (follows_checked (from_one Logged on_log s low) r u g)
+
+  pub high_some : (low : Value) (o : Option DelayHigh) (later : DelayHigh) (r : Result Guard Stop) (old new : Running Logged) → o ≡ Some later → Leads (high_step Logged on_log s p t low (Some later)) old r new → Leads (high_step Logged on_log s p t low o) old r new
+  high_some low o later r old new is h = subst (λ o. Leads (high_step Logged on_log s p t low o) old r new) (sym is) h
+
+-- ---- numbers as moments
+
+module _ (s : Subject) (low : Value) (n k : ℤ) (r : Result Guard Stop) (same : k ≡ n) where
+  pub one_ok : int_of low ≡ Ok n → Gives (from_on Logged on_log s k) r → Gives (from_one Logged on_log s low) r
+  one_ok is g = subst (λ x. Gives (x >>> λ n. from_on Logged on_log s n) r) (sym is) (subst (λ n. Gives (from_on Logged on_log s n) r) same g)
+
+  pub both_ok : (high : Value) (m l : ℤ) → l ≡ m → int_of low ≡ Ok n → int_of high ≡ Ok m → Gives (between Logged on_log s k l) r → Gives (from_both Logged on_log s low high) r
+  both_ok high m l alike first second g = subst (λ x. Gives (x >>> λ n. int_of high >>> λ m. between Logged on_log s n m) r) (sym first)
+      (subst (λ x. Gives (x >>> λ m. between Logged on_log s n m) r) (sym second) (subst (λ n. Gives (between Logged on_log s n m) r) same (subst (λ m. Gives (between Logged on_log s k m) r) alike g)))
+
+-- ---- how a clause begins
+
+module _ (t : Transition) (vs : List Value) where
+  pub begin_unfit : (u : Running Logged) → are_values_of t.received vs ≡ false → clause_begins t vs u ≡ Err (Broken, u.left)
+  begin_unfit u is = ap (λ b. (cond b (pure (tt {0})) breaks >> enter_values vs) u) is
+
+  pub begin_fits : (ws : List Value) (r : Result (Unit {0}) Stop) (old new : Running Logged) → are_values_of t.received vs ≡ true → ws ≡ vs → Leads (enter_values ws) old r new → Leads (clause_begins t vs) old r new
+  begin_fits ws r old new is same h = follows_as (clause_begins t vs) (enter_values vs) old new r (ap (λ b. (cond b (pure (tt {0})) breaks >> enter_values vs) old) is) (subst (λ us. Leads (enter_values us) old r new) same h)
 
 module _ (s : Subject) (t : Transition) (p : Path) (vs : List Value) where
-  -- ---- the second value of a delay
+  -- ---- in a frame with what is received
 
-  pub high_none : (low m : ℤ) (o : Option DelayHigh) (r : Result Guard Stop) (u : Running Logged) → Gives (between Logged on_log s m m) r → m ≡ low → o ≡ None → Leads (high_step Logged on_log s p t vs low o) u r u
-  high_none low m o r u g same is = subst (λ o. Leads (high_step Logged on_log s p t vs low o) u r u) (sym is) (follows_checked (between Logged on_log s low low) r u (subst (λ k. Gives (between Logged on_log s k k) r) same g))
+  module _ {A : Type 0} (f : Step Logged A) where
+    clause_is : (u : Running Logged) → in_clause Logged on_log s t vs f u ≡ (clause_begins t vs >> f >>= leave_values) u
+    clause_is u = by (are_values_of t.received vs)
+      where
+        by : (b : Bool) → (cond b (pure (tt {0})) breaks >> with_values vs f) u ≡ (cond b (pure (tt {0})) breaks >> enter_values vs >> f >>= leave_values) u
+        by true = refl
+        by false = refl
 
-  pub high_star : (low m : ℤ) (o : DelayHigh) (r : Result Guard Stop) (u : Running Logged) → Gives (from_on Logged on_log s m) r → m ≡ low → o ≡ high.Star → Leads (high_step Logged on_log s p t vs low (Some o)) u r u
-  high_star low m o r u g same is = subst (λ o. Leads (high_step Logged on_log s p t vs low (Some o)) u r u) (sym is) (follows_checked (from_on Logged on_log s low) r u (subst (λ k. Gives (from_on Logged on_log s k) r) same g))
+    pub clause_ok : (a : A) (old u w new : Running Logged) → clause_begins t vs old ≡ Ok (tt, u) → f u ≡ Ok (a, w) → new ≡ record w { frames = [] } → in_clause Logged on_log s t vs f old ≡ Ok (a, new)
+    clause_ok a old u w new begins does left = clause_is old ∙ ap (λ o. and_then (and_then o (λ x. f)) leave_values) begins ∙ ap (λ o. and_then o leave_values) does ∙ ap (λ n. Ok (a, n)) (sym left)
 
-  pub high_ok : (low m n k : ℤ) (o : DelayHigh) (node : Expr) (r : Result Guard Stop) (old u : Running Logged) → Leads (int_step Logged on_log s p t vs node) old (Ok n) u → Gives (between Logged on_log s m k) r → m ≡ low → k ≡ n → o ≡ high.Expr node → Leads (high_step Logged on_log s p t vs low (Some o)) old r u
-  high_ok low m n k o node r old u h g same same' is = subst (λ o. Leads (high_step Logged on_log s p t vs low (Some o)) old r u) (sym is) (follows_then (int_step Logged on_log s p t vs node) (λ n. checked (between Logged on_log s low n)) old u u n r h
-      (follows_checked (between Logged on_log s low n) r u (subst (λ w. Gives w r) (λ i. between Logged on_log s (same i) (same' i)) g)))
+    pub clause_err : (e : Stop) (old u w : Running Logged) → clause_begins t vs old ≡ Ok (tt, u) → Leads f u (Err e) w → Leads (in_clause Logged on_log s t vs f) old (Err e) w
+    clause_err e old u w begins stops = follows_as (in_clause Logged on_log s t vs f) (clause_begins t vs >> f >>= leave_values) old w (Err e) (clause_is old)
+        (follows_stops (clause_begins t vs >> f) leave_values old w e (follows_next (clause_begins t vs) f old u w tt (Err e) begins stops))
 
-  pub high_err : (low : ℤ) (o : DelayHigh) (node : Expr) (e : Stop) (old u : Running Logged) → o ≡ high.Expr node → Leads (int_step Logged on_log s p t vs node) old (Err e) u → Leads (high_step Logged on_log s p t vs low (Some o)) old (Err e) u
-  high_err low o node e old u is h = subst (λ o. Leads (high_step Logged on_log s p t vs low (Some o)) old (Err e) u) (sym is) (follows_stops (int_step Logged on_log s p t vs node) (λ n. checked (between Logged on_log s low n)) old u e h)
+    pub clause_stops : (e : Stop) (old u : Running Logged) → Leads (clause_begins t vs) old (Err e) u → Leads (in_clause Logged on_log s t vs f) old (Err e) u
+    clause_stops e old u stops = follows_as (in_clause Logged on_log s t vs f) (clause_begins t vs >> f >>= leave_values) old u (Err e) (clause_is old)
+        (follows_stops (clause_begins t vs >> f) leave_values old u e (follows_stops_next (clause_begins t vs) f old u e stops))
 
-  pub high_some : (low m : ℤ) (o : Option DelayHigh) (later : DelayHigh) (r : Result Guard Stop) (old new : Running Logged) → o ≡ Some later → Leads (high_step Logged on_log s p t vs m (Some later)) old r new → m ≡ low → Leads (high_step Logged on_log s p t vs low o) old r new
-  high_some low m o later r old new is h same = subst (λ o. Leads (high_step Logged on_log s p t vs low o) old r new) (sym is) (subst (λ k. Leads (high_step Logged on_log s p t vs k (Some later)) old r new) same h)
+  -- ---- provided, and delays
 
-  -- ---- delays
+  pub provided_some : (o : Option Expr) (node : Expr) (r : Result Bool Stop) (old new : Running Logged) → Some node ≡ o → Leads (provided_step Logged on_log s p t vs (Some node)) old r new → Leads (provided_step Logged on_log s p t vs o) old r new
+  provided_some o node r old new is h = subst (λ o. Leads (provided_step Logged on_log s p t vs o) old r new) is h
 
-  pub delay_none : (timed : Bool) (o : Option Delay) (g : Guard) (u : Running Logged) → o ≡ None → g ≡ at_once Logged on_log s → delay_step Logged on_log s p t vs timed o u ≡ Ok (g, u)
-  delay_none timed o g u is same = ap (λ o. delay_step Logged on_log s p t vs timed o u) is ∙ ap (λ g. Ok (g, u)) (sym same)
+  pub provided_none : (o : Option Expr) (u : Running Logged) → None ≡ o → provided_step Logged on_log s p t vs o u ≡ Ok (true, u)
+  provided_none o u is = ap (λ o. provided_step Logged on_log s p t vs o u) (sym is)
 
-  pub delay_timed : (timed : Bool) (o : Option Delay) (d : Delay) (g : Guard) (u : Running Logged) → o ≡ Some d → timed ≡ true → g ≡ at_once Logged on_log s → delay_step Logged on_log s p t vs timed o u ≡ Ok (g, u)
-  delay_timed timed o d g u is on same = (λ i. delay_step Logged on_log s p t vs (on i) (is i) u) ∙ ap (λ g. Ok (g, u)) (sym same)
+  pub delay_none : (timed : Bool) (o : Option Delay) (g : Guard) (u : Running Logged) → None ≡ o → g ≡ at_once Logged on_log s → delay_step Logged on_log s p t vs timed o u ≡ Ok (g, u)
+  delay_none timed o g u is same = ap (λ o. delay_step Logged on_log s p t vs timed o u) (sym is) ∙ ap (λ g. Ok (g, u)) (sym same)
 
-  pub delay_ok : (timed : Bool) (o : Option Delay) (d : Delay) (node : Expr) (later : Option DelayHigh) (low m : ℤ) (r : Result Guard Stop) (old u new : Running Logged) → o ≡ Some d → timed ≡ false → node ≡ d.low → later ≡ d.high →
-      Leads (int_step Logged on_log s p t vs node) old (Ok low) u → Leads (high_step Logged on_log s p t vs m later) u r new → m ≡ low → Leads (delay_step Logged on_log s p t vs timed o) old r new
-  delay_ok timed o d node later low m r old u new is off first second h k same =
-      subst (λ b. Leads (delay_step Logged on_log s p t vs b o) old r new) (sym off) (subst (λ o. Leads (delay_step Logged on_log s p t vs false o) old r new) (sym is)
-      (follows_then (int_step Logged on_log s p t vs d.low) (λ low. high_step Logged on_log s p t vs low d.high) old u new low r
-      (subst (λ e. Leads (int_step Logged on_log s p t vs e) old (Ok low) u) first h)
-      (subst (λ o. Leads (high_step Logged on_log s p t vs low o) u r new) second (subst (λ n. Leads (high_step Logged on_log s p t vs n later) u r new) same k))))
+  pub delay_timed : (timed : Bool) (o : Option Delay) (d : Delay) (g : Guard) (u : Running Logged) → Some d ≡ o → timed ≡ true → g ≡ at_once Logged on_log s → delay_step Logged on_log s p t vs timed o u ≡ Ok (g, u)
+  delay_timed timed o d g u is on same = (λ i. delay_step Logged on_log s p t vs (on i) (sym is i) u) ∙ ap (λ g. Ok (g, u)) (sym same)
 
-  pub delay_err : (timed : Bool) (o : Option Delay) (d : Delay) (node : Expr) (e : Stop) (old u : Running Logged) → o ≡ Some d → timed ≡ false → node ≡ d.low → Leads (int_step Logged on_log s p t vs node) old (Err e) u → Leads (delay_step Logged on_log s p t vs timed o) old (Err e) u
-  delay_err timed o d node e old u is off first h =
-      subst (λ b. Leads (delay_step Logged on_log s p t vs b o) old (Err e) u) (sym off) (subst (λ o. Leads (delay_step Logged on_log s p t vs false o) old (Err e) u) (sym is)
-      (follows_stops (int_step Logged on_log s p t vs d.low) (λ low. high_step Logged on_log s p t vs low d.high) old u e (subst (λ n. Leads (int_step Logged on_log s p t vs n) old (Err e) u) first h)))
+  pub delay_waits : (timed : Bool) (o : Option Delay) (d : Delay) (r : Result Guard Stop) (old new : Running Logged) → Some d ≡ o → timed ≡ false → Leads (delay_step Logged on_log s p t vs false (Some d)) old r new → Leads (delay_step Logged on_log s p t vs timed o) old r new
+  delay_waits timed o d r old new is off h = subst (λ b. Leads (delay_step Logged on_log s p t vs b o) old r new) (sym off) (subst (λ o. Leads (delay_step Logged on_log s p t vs false o) old r new) is h)
 
   -- ---- the whole guard
 
   abbrev onward : Bool → Bool → Step Logged Guard
   onward timed holds = cond holds (delay_step Logged on_log s p t vs timed t.delay) (pure Off)
 
-  pub guard_true : (timed holds : Bool) (o : Option Expr) (d : Option Delay) (r : Result Guard Stop) (old u new : Running Logged) → holds ≡ true → o ≡ t.provided → d ≡ t.delay → Leads (provided_step Logged on_log s p t vs o) old (Ok holds) u → Leads (delay_step Logged on_log s p t vs timed d) u r new → Leads (guard_step Logged on_log s p t vs timed) old r new
-  guard_true timed holds o d r old u new yes_ is are h k =
+  pub guard_true : (timed holds : Bool) (r : Result Guard Stop) (old u new : Running Logged) → holds ≡ true → Leads (provided_step Logged on_log s p t vs t.provided) old (Ok holds) u → Leads (delay_step Logged on_log s p t vs timed t.delay) u r new → Leads (guard_step Logged on_log s p t vs timed) old r new
+  guard_true timed holds r old u new so h k =
       follows_then (provided_step Logged on_log s p t vs t.provided) (onward timed) old u new true r
-      (subst (λ b. Leads (provided_step Logged on_log s p t vs t.provided) old (Ok b) u) yes_ (subst (λ o. Leads (provided_step Logged on_log s p t vs o) old (Ok holds) u) is h))
-      (subst (λ d. Leads (delay_step Logged on_log s p t vs timed d) u r new) are k)
+      (subst (λ b. Leads (provided_step Logged on_log s p t vs t.provided) old (Ok b) u) so h) k
 
-  pub guard_false : (timed holds : Bool) (o : Option Expr) (old u : Running Logged) → holds ≡ false → o ≡ t.provided → Leads (provided_step Logged on_log s p t vs o) old (Ok holds) u → guard_step Logged on_log s p t vs timed old ≡ Ok (Off, u)
-  guard_false timed holds o old u off is h = follows_then (provided_step Logged on_log s p t vs t.provided) (onward timed) old u u false (Ok Off)
-      (subst (λ b. Leads (provided_step Logged on_log s p t vs t.provided) old (Ok b) u) off (subst (λ o. Leads (provided_step Logged on_log s p t vs o) old (Ok holds) u) is h)) refl
+  pub guard_false : (timed holds : Bool) (old u : Running Logged) → holds ≡ false → Leads (provided_step Logged on_log s p t vs t.provided) old (Ok holds) u → guard_step Logged on_log s p t vs timed old ≡ Ok (Off, u)
+  guard_false timed holds old u off h = follows_then (provided_step Logged on_log s p t vs t.provided) (onward timed) old u u false (Ok Off)
+      (subst (λ b. Leads (provided_step Logged on_log s p t vs t.provided) old (Ok b) u) off h) refl
 
-  pub guard_err : (timed : Bool) (o : Option Expr) (e : Stop) (old u : Running Logged) → o ≡ t.provided → Leads (provided_step Logged on_log s p t vs o) old (Err e) u → Leads (guard_step Logged on_log s p t vs timed) old (Err e) u
-  guard_err timed o e old u is h = follows_stops (provided_step Logged on_log s p t vs t.provided) (onward timed) old u e (subst (λ o. Leads (provided_step Logged on_log s p t vs o) old (Err e) u) is h)
+  pub guard_err : (timed : Bool) (e : Stop) (old u : Running Logged) → Leads (provided_step Logged on_log s p t vs t.provided) old (Err e) u → Leads (guard_step Logged on_log s p t vs timed) old (Err e) u
+  guard_err timed e old u h = follows_stops (provided_step Logged on_log s p t vs t.provided) (onward timed) old u e h

@@ -18,27 +18,31 @@ ghost use Rattle.body_walker.specs.Runs.{block_and_state, job_of};
 use crate::root::root_image;
 use body_program::{Program, with_choices};
 use body_state::{Initialization, ModuleBodies, Walk, part_at};
-use body_values::Stop;
+use body_values::{Stop, are_values_of};
 use body_walker_blocks::block;
-use estelle_model::{Image, Interaction, Outcome, Part, Routine, Statements};
-use estelle_tree::{Items, Path, SequenceMut, Span, Stmts};
+use estelle_model::{Image, Interaction, Outcome, Part, Routine, Statements, Type};
+use estelle_tree::{Items, Path, Sequence, SequenceMut, Span, Stmts};
 use meaning_table::Table;
 use pascal_values::{Fault, Values};
 use std::alloc::{AllocError, Global};
 
-/// Runs a block of an instance, which then enters a state, if one is said.
+/// Runs a block of an instance, which then enters a state, if one is said. What it received must be of these types.
 fn run(
     table: &Table,
     bodies: &ModuleBodies,
     alloc: Global,
     walk: &mut Walk,
     path: &Path,
+    types: &[Type],
     routine: &Routine,
     values: Values,
     to: Option<u32>,
 ) -> Result<(), Stop>
-    ensures { Follows (block_and_state bodies.now (meanings_of table.now) path.now routine.now values to) walk.old result walk.new }
+    ensures { Follows (block_and_state bodies.now (meanings_of table.now) path.now types.now routine.now values to) walk.old result walk.new }
 {
+    if !are_values_of(types, values.items()) {
+        return Err(Stop::Broken);
+    }
     match block(table, bodies, alloc, walk, path, routine, values) {
         Ok(()) => walk.enter_state(alloc, path, to),
         Err(stop) => Err(stop),
@@ -61,6 +65,7 @@ fn finish(
             Ok((Outcome::Ran { image, effects }, left))
         }
         Err(Stop::Fault(fault)) => Ok((Outcome::Faulted(fault), left)),
+        Err(Stop::Broken) => Ok((Outcome::Faulted(Fault::Unset), left)),
         Err(Stop::Memory) => Err(AllocError),
     }
 }
@@ -72,16 +77,19 @@ fn run_on(
     alloc: Global,
     image: Image,
     path: &Path,
+    types: &[Type],
     routine: &Routine,
     values: Values,
     to: Option<u32>,
     budget: u32,
 ) -> Result<(Outcome, u32), AllocError>
     requires { InOrder image.parts }
-    ensures { IfOk result (λ made. IsMadeBy bodies.now ((block_and_state bodies.now (meanings_of table.now) path.now routine.now values to) (fresh (log_from (core_of bodies.now image)) budget)) made.0 made.1) }
+    ensures { IfOk result (λ made. IsMadeBy bodies.now ((block_and_state bodies.now (meanings_of table.now) path.now types.now routine.now values to) (fresh (log_from (core_of bodies.now image)) budget)) made.0 made.1) }
 {
     let mut walk = Walk::owning(alloc, bodies, image, budget)?;
-    let ran = run(table, bodies, alloc, &mut walk, path, routine, values, to);
+    let ran = run(
+        table, bodies, alloc, &mut walk, path, types, routine, values, to,
+    );
     finish(bodies, alloc, walk, ran)
 }
 
@@ -120,7 +128,7 @@ fn begin(
     to: Option<u32>,
     budget: u32,
 ) -> Result<(Outcome, u32), AllocError>
-    ensures { IfOk result (λ made. IsMadeBy program.now ((block_and_state program.now (meant program.now) [] routine.now [] to) (fresh (log_from (bare program.now).core) budget)) made.0 made.1) }
+    ensures { IfOk result (λ made. IsMadeBy program.now ((block_and_state program.now (meant program.now) [] [] routine.now [] to) (fresh (log_from (bare program.now).core) budget)) made.0 made.1) }
 {
     let bodies = program.bodies();
     let image = root_image(alloc, bodies)?;
@@ -132,6 +140,7 @@ fn begin(
         alloc,
         image,
         &path,
+        &[],
         routine,
         values,
         to,
@@ -199,6 +208,7 @@ fn fire(
                     alloc,
                     image,
                     path,
+                    transition.received(),
                     routine,
                     received_values(alloc, head),
                     transition.to(),

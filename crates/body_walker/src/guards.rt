@@ -1,9 +1,8 @@
 //! Guards: `provided` and the delay (ISO/IEC 9074).
 
-ghost use Rattle.std.specs.Prelude.{◌≡◌, ◌-◌, ◌^◌, ◌&&◌, true, nat_abs, pos, Some};
+ghost use Rattle.std.specs.Prelude.{◌≡◌, ◌-◌, ◌^◌, ◌&&◌, true, false, nat_abs, pos, Some};
 ghost use Rattle.std.specs.Int.RustNames.{int_le};
 ghost use Rattle.pascal_values.specs.Integers.{is_between};
-ghost use Rattle.std.specs.Option.{option_copied};
 ghost use Rattle.estelle_model.specs.States.{Logged, on_log};
 ghost use Rattle.estelle_model.specs.Transitions.{Transition};
 ghost use Rattle.estelle_model.specs.Subject.{Subject, meant_with};
@@ -12,16 +11,33 @@ ghost use Rattle.estelle_model.specs.Expressions.{bool_step};
 ghost use Rattle.meaning_table.specs.Known.{meanings_of};
 ghost use Rattle.body_values.specs.Gives.{Gives};
 ghost use Rattle.body_state.specs.Follows.{Follows};
+ghost use Rattle.body_walker.specs.Runs.{clause_begins, bounds_step};
 
 use body_state::{ModuleBodies, Walk};
-use body_values::{Stop, bool_of, copy_values, int_of};
+use body_values::{Stop, are_values_of, bool_of, copy_values, int_of};
 use body_walker_blocks::clause;
 use estelle_model::Guard;
-use estelle_tree::{DelayHigh, Expr, Path};
+use estelle_tree::{DelayHigh, Expr, Path, Sequence};
 use flat_transitions::{Delay, Transition};
 use meaning_table::Table;
-use pascal_values::{Fault, Values};
+use pascal_values::{Fault, Value, Values};
 use std::alloc::Global;
+
+/// Begins a clause in a frame with what was received, which must be values of the transition's interaction.
+fn begin(
+    alloc: Global,
+    walk: &mut Walk,
+    transition: &Transition,
+    values: &Values,
+) -> Result<(), Stop>
+    ensures { Follows (clause_begins transition.now values.now) walk.old result walk.new }
+{
+    if !are_values_of(transition.received(), values.items()) {
+        return Err(Stop::Broken);
+    }
+    let values = copy_values(alloc, values)?;
+    walk.enter_values(alloc, values)
+}
 
 /// The truth value of an expression in a clause.
 fn truth(
@@ -30,33 +46,36 @@ fn truth(
     alloc: Global,
     walk: &mut Walk,
     path: &Path,
-    values: &Values,
     node: &Expr,
 ) -> Result<bool, Stop>
-    ensures { (t : Transition) → meant_with bodies.now t.chosen ≡ meanings_of table.now → Follows (bool_step (clauses.value_of_expr Logged on_log bodies.now path.now t values.now node.now)) walk.old result walk.new }
+    ensures { (t : Transition) → meant_with bodies.now t.chosen ≡ meanings_of table.now → Follows (bool_step (clauses.value_of_expr Logged on_log bodies.now path.now t node.now)) walk.old result walk.new }
 {
-    let values = copy_values(alloc, values)?;
-    match clause(table, bodies, alloc, walk, path, values, node) {
+    match clause(table, bodies, alloc, walk, path, node) {
         Ok(value) => bool_of(&value),
         Err(stop) => Err(stop),
     }
 }
 
-/// The integer that an expression in a clause is.
-fn number(
+fn holds(
     table: &Table,
     bodies: &ModuleBodies,
     alloc: Global,
     walk: &mut Walk,
     path: &Path,
+    transition: &Transition,
     values: &Values,
     node: &Expr,
-) -> Result<i64, Stop>
-    ensures { (t : Transition) → meant_with bodies.now t.chosen ≡ meanings_of table.now → Follows (clauses.int_step Logged on_log bodies.now path.now t values.now node.now) walk.old result walk.new }
+) -> Result<bool, Stop>
+    ensures { meant_with bodies.now transition.now.chosen ≡ meanings_of table.now → Follows (clauses.provided_step Logged on_log bodies.now path.now transition.now values.now (Some node.now)) walk.old result walk.new }
 {
-    let values = copy_values(alloc, values)?;
-    match clause(table, bodies, alloc, walk, path, values, node) {
-        Ok(value) => int_of(&value),
+    match begin(alloc, walk, transition, values) {
+        Ok(()) => match truth(table, bodies, alloc, walk, path, node) {
+            Ok(holds) => {
+                walk.leave_values(alloc);
+                Ok(holds)
+            }
+            Err(stop) => Err(stop),
+        },
         Err(stop) => Err(stop),
     }
 }
@@ -67,14 +86,14 @@ fn provided(
     alloc: Global,
     walk: &mut Walk,
     path: &Path,
+    transition: &Transition,
     values: &Values,
-    condition: Option<&Expr>,
 ) -> Result<bool, Stop>
-    ensures { (t : Transition) → meant_with bodies.now t.chosen ≡ meanings_of table.now → Follows (clauses.provided_step Logged on_log bodies.now path.now t values.now (option_copied condition.entry)) walk.old result walk.new }
+    ensures { meant_with bodies.now transition.now.chosen ≡ meanings_of table.now → Follows (clauses.provided_step Logged on_log bodies.now path.now transition.now values.now transition.now.provided) walk.old result walk.new }
 {
-    match condition {
+    match transition.provided() {
         None => Ok(true),
-        Some(node) => truth(table, bodies, alloc, walk, path, values, node),
+        Some(node) => holds(table, bodies, alloc, walk, path, transition, values, node),
     }
 }
 
@@ -123,6 +142,27 @@ fn from_on(low: i64) -> Result<Guard, Stop>
     })
 }
 
+fn from_one(low: &Value) -> Result<Guard, Stop>
+    ensures { (s : Subject) → Gives (clauses.from_one Logged on_log s low.now) result }
+{
+    match int_of(low) {
+        Ok(low) => from_on(low),
+        Err(stop) => Err(stop),
+    }
+}
+
+fn from_both(low: &Value, high: &Value) -> Result<Guard, Stop>
+    ensures { (s : Subject) → Gives (clauses.from_both Logged on_log s low.now high.now) result }
+{
+    match int_of(low) {
+        Ok(low) => match int_of(high) {
+            Ok(high) => between(low, high),
+            Err(stop) => Err(stop),
+        },
+        Err(stop) => Err(stop),
+    }
+}
+
 /// The second value of a delay, and then both as a guard.
 fn high(
     table: &Table,
@@ -130,15 +170,14 @@ fn high(
     alloc: Global,
     walk: &mut Walk,
     path: &Path,
-    values: &Values,
-    low: i64,
+    low: &Value,
     high: &Option<DelayHigh>,
 ) -> Result<Guard, Stop>
-    ensures { (t : Transition) → meant_with bodies.now t.chosen ≡ meanings_of table.now → Follows (clauses.high_step Logged on_log bodies.now path.now t values.now low high.now) walk.old result walk.new }
+    ensures { (t : Transition) → meant_with bodies.now t.chosen ≡ meanings_of table.now → Follows (clauses.high_step Logged on_log bodies.now path.now t low.now high.now) walk.old result walk.new }
 {
     match high {
-        None => between(low, low),
-        Some(later) => written(table, bodies, alloc, walk, path, values, low, later),
+        None => from_both(low, low),
+        Some(later) => written(table, bodies, alloc, walk, path, low, later),
     }
 }
 
@@ -148,18 +187,58 @@ fn written(
     alloc: Global,
     walk: &mut Walk,
     path: &Path,
-    values: &Values,
-    low: i64,
+    low: &Value,
     high: &DelayHigh,
 ) -> Result<Guard, Stop>
-    ensures { (t : Transition) → meant_with bodies.now t.chosen ≡ meanings_of table.now → Follows (clauses.high_step Logged on_log bodies.now path.now t values.now low (Some high.now)) walk.old result walk.new }
+    ensures { (t : Transition) → meant_with bodies.now t.chosen ≡ meanings_of table.now → Follows (clauses.high_step Logged on_log bodies.now path.now t low.now (Some high.now)) walk.old result walk.new }
 {
     match high {
-        DelayHigh::Star => from_on(low),
-        DelayHigh::Expr(node) => match number(table, bodies, alloc, walk, path, values, node) {
-            Ok(n) => between(low, n),
+        DelayHigh::Star => from_one(low),
+        DelayHigh::Expr(node) => match clause(table, bodies, alloc, walk, path, node) {
+            Ok(high) => from_both(low, &high),
             Err(stop) => Err(stop),
         },
+    }
+}
+
+/// The values of a delay, one after the other, as a guard.
+fn bounds(
+    table: &Table,
+    bodies: &ModuleBodies,
+    alloc: Global,
+    walk: &mut Walk,
+    path: &Path,
+    delay: &Delay,
+) -> Result<Guard, Stop>
+    ensures { (t : Transition) → meant_with bodies.now t.chosen ≡ meanings_of table.now → Follows (bounds_step bodies.now path.now t delay.now) walk.old result walk.new }
+{
+    match clause(table, bodies, alloc, walk, path, delay.low()) {
+        Ok(low) => high(table, bodies, alloc, walk, path, &low, delay.high()),
+        Err(stop) => Err(stop),
+    }
+}
+
+fn waits(
+    table: &Table,
+    bodies: &ModuleBodies,
+    alloc: Global,
+    walk: &mut Walk,
+    path: &Path,
+    transition: &Transition,
+    values: &Values,
+    delay: &Delay,
+) -> Result<Guard, Stop>
+    ensures { meant_with bodies.now transition.now.chosen ≡ meanings_of table.now → Follows (clauses.delay_step Logged on_log bodies.now path.now transition.now values.now false (Some delay.now)) walk.old result walk.new }
+{
+    match begin(alloc, walk, transition, values) {
+        Ok(()) => match bounds(table, bodies, alloc, walk, path, delay) {
+            Ok(guard) => {
+                walk.leave_values(alloc);
+                Ok(guard)
+            }
+            Err(stop) => Err(stop),
+        },
+        Err(stop) => Err(stop),
     }
 }
 
@@ -170,22 +249,19 @@ fn delay(
     alloc: Global,
     walk: &mut Walk,
     path: &Path,
+    transition: &Transition,
     values: &Values,
     timed: bool,
-    delay: Option<&Delay>,
 ) -> Result<Guard, Stop>
-    ensures { (t : Transition) → meant_with bodies.now t.chosen ≡ meanings_of table.now → Follows (clauses.delay_step Logged on_log bodies.now path.now t values.now timed (option_copied delay.entry)) walk.old result walk.new }
+    ensures { meant_with bodies.now transition.now.chosen ≡ meanings_of table.now → Follows (clauses.delay_step Logged on_log bodies.now path.now transition.now values.now timed transition.now.delay) walk.old result walk.new }
 {
-    match delay {
+    match transition.delay() {
         None => Ok(at_once()),
         Some(delay) => {
             if timed {
                 return Ok(at_once());
             }
-            match number(table, bodies, alloc, walk, path, values, delay.low()) {
-                Ok(low) => high(table, bodies, alloc, walk, path, values, low, delay.high()),
-                Err(stop) => Err(stop),
-            }
+            waits(table, bodies, alloc, walk, path, transition, values, delay)
         }
     }
 }
@@ -213,29 +289,12 @@ pub(crate) fn guard(
 ) -> Result<Guard, Stop>
     ensures { meant_with bodies.now transition.now.chosen ≡ meanings_of table.now → Follows (clauses.guard_step Logged on_log bodies.now path.now transition.now values.now timed) walk.old result walk.new }
 {
-    match provided(
-        table,
-        bodies,
-        alloc,
-        walk,
-        path,
-        values,
-        transition.provided(),
-    ) {
+    match provided(table, bodies, alloc, walk, path, transition, values) {
         Ok(holds) => {
             if !holds {
                 return Ok(Guard::Off);
             }
-            delay(
-                table,
-                bodies,
-                alloc,
-                walk,
-                path,
-                values,
-                timed,
-                transition.delay(),
-            )
+            delay(table, bodies, alloc, walk, path, transition, values, timed)
         }
         Err(stop) => Err(stop),
     }

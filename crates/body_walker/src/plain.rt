@@ -29,7 +29,7 @@ use estelle_model_answers::{guards_are_answered, jobs_are_answered};
 use estelle_tree::{Path, SequenceMut};
 use flat_transitions::Transition;
 use meaning_table::Table;
-use pascal_values::Values;
+use pascal_values::{Fault, Values};
 use std::alloc::{AllocError, Global};
 
 /// Computes a job, in place of its image: each that meets the condition of a job (`IsJob`), and besides each whose parts stand in
@@ -72,13 +72,14 @@ fn received_values<'i>(head: Option<&'i Interaction>, none: &'i Values) -> &'i V
     }
 }
 
-/// A guard as it is answered: a fault is an answer too.
+/// A guard as it is answered: a fault is an answer too, as which a broken rule is told.
 fn answered(guard: Result<Guard, Stop>) -> Result<Guard, AllocError>
     ensures { (step : Step Logged Guard) (old new : Progress) → Follows step old guard new → IfOk result (λ answer. answer ≡ clauses.answered (step (running old))) }
 {
     match guard {
         Ok(guard) => Ok(guard),
         Err(Stop::Fault(fault)) => Ok(Guard::Faulted(fault)),
+        Err(Stop::Broken) => Ok(Guard::Faulted(Fault::Unset)),
         Err(Stop::Memory) => Err(AllocError),
     }
 }

@@ -1,8 +1,6 @@
 -- Variable accesses step by step: a place, and then the components.
 use Rattle.std.proofs.Common.{◌≡◌, ◌∙◌, ℕ, List, [], ◌∷◌, map, refl, sym, ap, subst, Option, Some, None, ℤ, Result, Ok, Err}
 use Rattle.std.specs.Prelude.{slice_get}
-use Rattle.pascal_values.specs.declared.fault.Fault.{Fault}
-use Rattle.pascal_values.specs.Shapes.{place_of}
 use Rattle.estelle_tree.specs.declared.tree.expression.Factor.{Factor}
 use Rattle.estelle_tree.specs.declared.tree.expression.Selector.{Selector, out-Selector}
 use Rattle.estelle_tree.specs.declared.tree.expression.Args.{Args}
@@ -19,10 +17,11 @@ use Rattle.estelle_model.specs.declared.meaning.Routine.{Routine}
 use Rattle.estelle_model.specs.declared.place.Place.{Place}
 use Rattle.estelle_model.specs.declared.place.Place.TheVariants.{Of, In}
 use Rattle.estelle_model.specs.declared.place.Environment.{Environment}
-use Rattle.estelle_model.specs.Types.{item_of, field_of, bounds_of}
+use Rattle.estelle_model.specs.Types.{item_of, field_of, item_place}
 use Rattle.estelle_model.specs.Operators.{◌>>>◌}
 use Rattle.estelle_model.specs.States.{Logged, on_log}
-use Rattle.estelle_model.specs.Steps.{Step, ◌>>=◌, pure, checked}
+use Rattle.estelle_model.specs.Stops.{Stop}
+use Rattle.estelle_model.specs.Steps.{Step, ◌>>=◌, pure, breaks, checked}
 use Rattle.estelle_model.specs.Places.{deeper, child_step}
 use Rattle.estelle_model.specs.Expressions as spec
 use Rattle.estelle_model.specs.Expressions.{Operand, Access, Selecting, Written, reference_at, ordinal_step}
@@ -57,19 +56,19 @@ module _ (t : Scoped) (h : Environment) where
   index_on e a = record { denoter = item_of a.denoter; place = spec.index_step Logged on_log (meanings t) (calling t h) h a e }
 
   index_goes_on : (e : Operand Logged) → GoesOn (index_on e)
-  index_goes_on e a = from_place a (λ d p. ordinal_step e.value >>= λ n. checked (place_of (bounds_of d).0 (bounds_of d).1 n) >>= λ k. pure (deeper p k)) item_of
+  index_goes_on e a = from_place a (λ d p. ordinal_step e.value >>= λ n. checked (item_place d n) >>= λ k. pure (deeper p k)) item_of
 
   -- one index, from a place
-  abbrev item_there : Place → Denoter → Result ℕ Fault → Step Logged Located
+  abbrev item_there : Place → Denoter → Result ℕ Stop → Step Logged Located
   item_there p d r = checked r >>= λ k. pure (placed (item_of d) (deeper p k))
 
-  placed_item : (p : Place) (d : Denoter) (r : Result ℕ Fault) → item_there p d r ≡ checked (r >>> λ k. Ok (placed (item_of d) (deeper p k)))
+  placed_item : (p : Place) (d : Denoter) (r : Result ℕ Stop) → item_there p d r ≡ checked (r >>> λ k. Ok (placed (item_of d) (deeper p k)))
   placed_item p d (Ok k) = refl
   placed_item p d (Err f) = refl
 
   index_steps : (e : Operand Logged) (l : Located) → located (Some (index_on e (at l))) ≡ (ordinal_step e.value >>= λ n. checked (item l n))
   index_steps e l =
-      let at_index : ℤ → Result ℕ Fault = λ n. place_of (bounds_of l.denoter).0 (bounds_of l.denoter).1 n in
+      let at_index : ℤ → Result ℕ Stop = λ n. item_place l.denoter n in
       then_then (λ n. checked (at_index n) >>= λ k. pure (deeper l.place k)) (λ q. pure (placed (item_of l.denoter) q)) (ordinal_step e.value)
       ∙ (λ i. ordinal_step e.value >>= λ n. (then_then (λ k. pure (deeper l.place k)) (λ q. pure (placed (item_of l.denoter) q)) (checked (at_index n)) ∙ placed_item l.place l.denoter (at_index n)) i)
 
@@ -124,7 +123,7 @@ module _ (t : Scoped) (h : Environment) where
 
   fielded_goes_on : (m : Meaning) → GoesOn (spec.fielded Logged on_log (meanings t) (calling t h) h m)
   fielded_goes_on (Field k) a = from_place a (λ d p. pure (deeper p k)) (λ d. field_of d k)
-  fielded_goes_on _ a = sym (then_pure (located (Some a)))
+  fielded_goes_on _ a = from_place a (λ d p. breaks) (λ d. d)
 
   over_goes_on : (s : Selector-F Factor Selector Args Elem Expr Simple Term Variable) → GoesOn (selector_at Logged on_log (meanings t) (calling t h) h s).over
   unfolding expr
@@ -145,7 +144,7 @@ module _ (t : Scoped) (h : Environment) where
 
   -- ---- where an access begins
 
-  referred_steps : (r : Result Place Fault) (d : Denoter) → located (Some (record { denoter = d; place = checked r })) ≡ checked (r >>> λ p. Ok (placed d p))
+  referred_steps : (r : Result Place Stop) (d : Denoter) → located (Some (record { denoter = d; place = checked r })) ≡ checked (r >>> λ p. Ok (placed d p))
   referred_steps (Ok p) d = refl
   referred_steps (Err f) d = refl
 

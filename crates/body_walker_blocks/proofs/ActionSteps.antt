@@ -1,18 +1,21 @@
 -- The statements of Estelle step by step.
-use Rattle.std.proofs.Common.{◌≡◌, ◌∙◌, ℕ, List, map, refl, sym, ap, Option, Some, None}
+use Rattle.std.proofs.Common.{◌≡◌, ◌∙◌, ℕ, List, map, refl, sym, ap, Option, Some, None, Err}
 use Rattle.std.specs.Prelude.{option_map}
-use Rattle.pascal_values.specs.declared.fault.Fault.TheVariants.{Unset}
 use Rattle.estelle_tree.specs.declared.tree.name.Name.{Name}
 use Rattle.estelle_tree.specs.declared.tree.expression.Expr.{Expr}
 use Rattle.estelle_tree.specs.declared.tree.expression.Args.{Args}
 use Rattle.estelle_tree.specs.declared.tree.statement.Ip.{Ip as IpTree}
 use Rattle.estelle_tree.specs.Paths.{Path}
 use Rattle.estelle_model.specs.declared.denoter.Denoter.{Denoter}
+use Rattle.pascal_values.specs.declared.value.Value.{Value}
+use Rattle.estelle_tree.specs.declared.link.IpAddr.{IpAddr}
+use Rattle.estelle_model.specs.declared.meaning.InteractionKind.{InteractionKind}
 use Rattle.estelle_model.specs.declared.meaning.Meaning.{Meaning}
-use Rattle.estelle_model.specs.declared.meaning.Meaning.TheVariants.{Module, Ip, Body}
+use Rattle.estelle_model.specs.declared.meaning.Meaning.TheVariants.{Module, Ip, Body, Interaction}
 use Rattle.estelle_model.specs.declared.place.Environment.{Environment}
 use Rattle.estelle_model.specs.States.{Logged, on_log}
-use Rattle.estelle_model.specs.Steps.{◌>>=◌, checked, spend}
+use Rattle.estelle_model.specs.Stops.{Broken}
+use Rattle.estelle_model.specs.Steps.{Running, ◌>>=◌, checked, spend}
 use Rattle.estelle_model.specs.Places.{child_step}
 use Rattle.estelle_model.specs.Expressions.{Operand}
 use Rattle.estelle_model.specs.Subject.{Subject, child_of}
@@ -20,6 +23,7 @@ use Rattle.estelle_model.specs.Actions as estelle
 use Rattle.estelle_model.specs.Statements.{Output}
 use Rattle.estelle_model.specs.Acts as acts
 use Rattle.estelle_model.specs.Acts.{act}
+use Rattle.body_values.specs.declared.stop.Stop.TheVariants as stop
 use Rattle.body_state.specs.Follows.{carried}
 use Rattle.estelle_model.specs.Definitions.{types_received}
 use Rattle.body_walker_blocks.specs.Scopes.{Scoped, meanings}
@@ -27,7 +31,7 @@ use Rattle.body_walker_blocks.specs.Points.{ip_at}
 use Rattle.body_walker_blocks.specs.Labels.{exprs_of}
 use Rattle.body_walker_blocks.specs.Walked.{entering, expr, value_arguments, ip_named, part_of_child, connect, disconnect, disconnect_ip, disconnect_module, attach, detach, release, output, init, create}
 use Rattle.body_walker_blocks.proofs.PlanSteps.{follow, carried_then}
-use Rattle.body_walker_blocks.proofs.Plans.{Plan, First, Given, Last, Check, Refuse, run, Is}
+use Rattle.body_walker_blocks.proofs.Plans.{Plan, First, Given, Last, Check, Refuse, run, Is, Runs, broken}
 use Rattle.body_walker_blocks.proofs.StatementSteps.{arguments_out}
 
 module _ (t : Scoped) (h : Environment) where
@@ -102,7 +106,7 @@ module _ (t : Scoped) (h : Environment) where
 
   abbrev pub release_plan : Meaning → Plan (Unit {0})
   release_plan (Module k) = First (child_step Logged on_log h.path k) (λ c. Last (carried (estelle.release_child t.subject h.path k c)))
-  release_plan _ = Refuse Unset
+  release_plan _ = Refuse Broken
 
   release_out : (m : Meaning) → carried (estelle.release t.subject h.path m) ≡ run (release_plan m)
   unfolding child_step
@@ -116,19 +120,33 @@ module _ (t : Scoped) (h : Environment) where
   pub release_walks : (x : Name) (k : ℕ) (s : Subject) → meanings t x ≡ Module k → s ≡ t.subject → Is (release t h x) (First (child_step Logged on_log h.path k) (λ c. Last (carried (estelle.release_child s h.path k c))))
   release_walks x k s is same = record { is = (release_steps x (Module k) is).is ∙ (λ i. child_step Logged on_log h.path k >>= λ c. carried (estelle.release_child (sym same i) h.path k c)) }
 
-  pub release_other : (x : Name) (m : Meaning) → meanings t x ≡ m → ((k : ℕ) → m ≡ Module k → ⊥) → Is (release t h x) (Refuse Unset)
+  pub release_other : (x : Name) (m : Meaning) → meanings t x ≡ m → ((k : ℕ) → m ≡ Module k → ⊥) → Is (release t h x) (Refuse Broken)
   release_other x (Module k) is no_module = absurd (no_module k refl)
   release_other x m is no_module = release_steps x m is
 
   -- ---- output
 
+  -- what is no interaction's name breaks a rule
+  abbrev pub sent_plan : Subject → List ℕ → List ℕ → Meaning → List Value → IpAddr → Plan (Unit {0})
+  sent_plan s ip word (Interaction kind) values a = Last (carried (estelle.output_at s ip word (Interaction kind) values a))
+  sent_plan s ip word _ values a = Refuse Broken
+
+  sent_out : (s : Subject) (ip word : List ℕ) (mean : Meaning) (values : List Value) (a : IpAddr) → carried (estelle.output_at s ip word mean values a) ≡ run (sent_plan s ip word mean values a)
+  sent_out s ip word (Interaction kind) values a = refl
+  sent_out s ip word _ values a = refl
+
+  pub sent_other : {u : Running Logged} (s : Subject) (ip word : List ℕ) (mean : Meaning) (values : List Value) (a : IpAddr) → ((kind : InteractionKind) → mean ≡ Interaction kind → ⊥) → Runs (sent_plan s ip word mean values a) u (Err stop.Broken) u
+  sent_other s ip word (Interaction kind) values a no_interaction = absurd (no_interaction kind refl)
+  sent_other s ip word _ values a no_interaction = broken
+
   abbrev pub output_plan : Name → Name → Subject → Meaning → List Denoter → List Expr → Plan (Unit {0})
-  output_plan p m s mean ts xs = First (value_arguments t h ts xs) (λ g. First spend (λ u. Given (ip_at h.path (meanings t p)) (λ a. Last (carried (estelle.output_at s p.word m.word mean g.values a)))))
+  output_plan p m s mean ts xs = First (value_arguments t h ts xs) (λ g. First spend (λ u. Given (ip_at h.path (meanings t p)) (λ a. sent_plan s p.word m.word mean g.values a)))
 
   output_out : (p m : Name) (xs : List Expr) → (value_arguments t h (types_received (meanings t m)) xs >>= λ g. carried (estelle.plan_of t.subject (meanings t) h.path (Output p m) g.values)) ≡ run (output_plan p m t.subject (meanings t m) (types_received (meanings t m)) xs)
   output_out p m xs =
       (λ i. value_arguments t h (types_received (meanings t m)) xs >>= λ g. spend >>= λ u. carried_then (estelle.ip_of t.subject h.path (meanings t p)) (λ a. estelle.output_at t.subject p.word m.word (meanings t m) g.values a) i)
       ∙ (λ i. value_arguments t h (types_received (meanings t m)) xs >>= λ g. spend >>= λ u. ip_out h.path (meanings t p) i >>= λ a. carried (estelle.output_at t.subject p.word m.word (meanings t m) g.values a))
+      ∙ (λ i. value_arguments t h (types_received (meanings t m)) xs >>= λ g. spend >>= λ u. checked (ip_at h.path (meanings t p)) >>= λ a. sent_out t.subject p.word m.word (meanings t m) g.values a i)
 
   pub output_steps : (p m : Name) (es : Option Args) (s : Subject) (mean : Meaning) (ts : List Denoter) (xs : List Expr) → s ≡ t.subject → mean ≡ meanings t m → ts ≡ types_received mean → xs ≡ exprs_of es → Is (output t h p m es) (output_plan p m s mean ts xs)
   unfolding output act
@@ -143,7 +161,7 @@ module _ (t : Scoped) (h : Environment) where
 
   abbrev pub init_plan : Meaning → Meaning → List Expr → Plan (Unit {0})
   init_plan (Module m) (Body k) es = First (value_arguments t h (child_of t.subject k).parameters es) (λ g. Last (create t h m k g.values))
-  init_plan _ _ es = Refuse Unset
+  init_plan _ _ es = Refuse Broken
 
   init_out : (x b : Meaning) (es : List Expr) → acts.init_of Logged on_log t.subject (meanings t) (entering t h) h.path x b (map (expr t h) es) ≡ run (init_plan x b es)
   unfolding create
@@ -160,11 +178,11 @@ module _ (t : Scoped) (h : Environment) where
         ∙ ap (λ (y : Meaning). run (init_plan m y (exprs_of es))) is_k;
   }
 
-  pub init_no_module : (x b : Name) (es : Option Args) (m : Meaning) → meanings t x ≡ m → ((k : ℕ) → m ≡ Module k → ⊥) → Is (init t h x b es) (Refuse Unset)
+  pub init_no_module : (x b : Name) (es : Option Args) (m : Meaning) → meanings t x ≡ m → ((k : ℕ) → m ≡ Module k → ⊥) → Is (init t h x b es) (Refuse Broken)
   init_no_module x b es (Module k) is no_module = absurd (no_module k refl)
   init_no_module x b es m is no_module = init_steps x b es m (meanings t b) is refl
 
-  pub init_no_body : (x b : Name) (es : Option Args) (m : ℕ) (k : Meaning) → meanings t x ≡ Module m → meanings t b ≡ k → ((n : ℕ) → k ≡ Body n → ⊥) → Is (init t h x b es) (Refuse Unset)
+  pub init_no_body : (x b : Name) (es : Option Args) (m : ℕ) (k : Meaning) → meanings t x ≡ Module m → meanings t b ≡ k → ((n : ℕ) → k ≡ Body n → ⊥) → Is (init t h x b es) (Refuse Broken)
   init_no_body x b es m (Body n) is_m is no_body = absurd (no_body n refl)
   init_no_body x b es m k is_m is no_body = init_steps x b es (Module m) k is_m is
 

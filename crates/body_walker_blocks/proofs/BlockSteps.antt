@@ -4,15 +4,14 @@ use Rattle.pascal_values.specs.declared.value.Value.{Value}
 use Rattle.estelle_tree.specs.declared.tree.expression.Expr.{Expr}
 use Rattle.estelle_tree.specs.Paths.{Path}
 use Rattle.estelle_model.specs.States.{Logged, on_log}
-use Rattle.estelle_model.specs.Steps.{◌>>=◌, ◌>>◌, pure}
+use Rattle.estelle_model.specs.Steps.{◌>>◌, pure}
 use Rattle.estelle_model.specs.declared.meaning.Routine.{Routine}
 use Rattle.estelle_model.specs.declared.place.Place.{Place}
 use Rattle.estelle_model.specs.declared.place.Environment.{Environment}
-use Rattle.estelle_model.specs.Blocks.{block_step, clause_value, enter_values, leave_values}
+use Rattle.estelle_model.specs.Blocks.{block_step, clause_value}
 use Rattle.body_walker_blocks.specs.Scopes.{Scoped, meanings}
 use Rattle.body_walker_blocks.specs.Walked.{actions, entering, calling, expr, within}
 use Rattle.body_walker_blocks.proofs.Plans.{Plan, First, Last, Finish, Is}
-use Rattle.body_walker_blocks.proofs.Followed.{then_then}
 
 -- where a block begins
 abbrev pub outermost : Path → List Place → Environment
@@ -34,19 +33,14 @@ module _ (t : Scoped) where
       (subst (λ (xs : List Place). Is (block_step Logged on_log (meanings t) (actions t) p r vs) (block_plan p xs r vs)) (sym f)
       (record { is = block_alone p r vs })))
 
-  abbrev pub clause_plan : Path → List Place → List Value → Expr → Plan Value
-  clause_plan p places vs x = First (enter_values vs) (λ u. First (expr t (outermost p places) x).value (λ v. Last (leave_values v)))
-
-  clause_alone : (p : Path) (vs : List Value) (x : Expr) → clause_value Logged on_log (meanings t) (actions t) p vs x ≡ (enter_values vs >> (expr t (outermost p []) x).value >>= λ v. leave_values v)
+  clause_alone : (p : Path) (x : Expr) → clause_value Logged on_log (meanings t) (actions t) p x ≡ (expr t (outermost p []) x).value
   unfolding clause_value expr calling entering
-  clause_alone p vs x = refl
+  clause_alone p x = refl
 
   -- an expression in a clause
-  pub clause_steps : {p q : Path} {places : List Place} (u : Scoped) (vs : List Value) (x : Expr) → t ≡ u → q ≡ p → places ≡ [] → Is (clause_value Logged on_log (meanings u) (actions u) p vs x) (clause_plan q places vs x)
-  clause_steps {p} {q} {places} u vs x same e f =
-      subst (λ (w : Scoped). Is (clause_value Logged on_log (meanings w) (actions w) p vs x) (clause_plan q places vs x)) same
-      (subst (λ (y : Path). Is (clause_value Logged on_log (meanings t) (actions t) p vs x) (clause_plan y places vs x)) (sym e)
-      (subst (λ (ys : List Place). Is (clause_value Logged on_log (meanings t) (actions t) p vs x) (clause_plan p ys vs x)) (sym f)
-      (record {
-        is = clause_alone p vs x ∙ then_then (λ u. (expr t (outermost p []) x).value) (λ v. leave_values v) (enter_values vs);
-      })))
+  pub clause_steps : {p q : Path} {places : List Place} (u : Scoped) (x : Expr) → t ≡ u → q ≡ p → places ≡ [] → Is (clause_value Logged on_log (meanings u) (actions u) p x) (Last (expr t (outermost q places) x).value)
+  clause_steps {p} {q} {places} u x same e f =
+      subst (λ (w : Scoped). Is (clause_value Logged on_log (meanings w) (actions w) p x) (Last (expr t (outermost q places) x).value)) same
+      (subst (λ (y : Path). Is (clause_value Logged on_log (meanings t) (actions t) p x) (Last (expr t (outermost y places) x).value)) (sym e)
+      (subst (λ (ys : List Place). Is (clause_value Logged on_log (meanings t) (actions t) p x) (Last (expr t (outermost p ys) x).value)) (sym f)
+      (record { is = clause_alone p x })))

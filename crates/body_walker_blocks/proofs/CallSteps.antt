@@ -2,11 +2,10 @@
 use Rattle.std.proofs.Common.{◌≡◌, ◌∙◌, ℕ, zero, suc, ◌+◌, ◌-◌, ◌<◌, ◌≤◌, List, [], ◌∷◌, ◌++◌, length, get_or, drop, length-drop, map, refl, sym, ap, add-one, arith, Option, Some, None, Result, Ok, Err}
 use Rattle.std.proofs.Math.ListN.{drop_of_length-le}
 use Rattle.std.proofs.lemmas.List.{length-map, get_or-map}
-use Rattle.pascal_values.specs.declared.fault.Fault.{Fault}
-use Rattle.pascal_values.specs.declared.fault.Fault.TheVariants.{Unset, CallDepth}
+use Rattle.pascal_values.specs.declared.fault.Fault.TheVariants.{CallDepth}
 use Rattle.pascal_values.specs.declared.value.Value.{Value}
-use Rattle.pascal_values.specs.Shapes.{fit_of}
 use Rattle.estelle_tree.specs.declared.tree.type_expr.Sign.{Sign}
+use Rattle.estelle_tree.specs.declared.tree.type_expr.Sign.TheVariants as sign
 use Rattle.estelle_tree.specs.declared.tree.expression.Relation.{Relation}
 use Rattle.estelle_tree.specs.declared.tree.expression.Adding.{Adding}
 use Rattle.estelle_tree.specs.declared.tree.expression.Multiplying.{Multiplying}
@@ -31,11 +30,13 @@ use Rattle.estelle_model.specs.declared.meaning.Passing.TheVariants.{ByValue, By
 use Rattle.estelle_model.specs.declared.place.Place.{Place}
 use Rattle.estelle_model.specs.declared.place.Environment.{Environment}
 use Rattle.estelle_model.specs.declared.place.ActualParameters.{ActualParameters}
-use Rattle.estelle_model.specs.Types.{shape_of}
+use Rattle.estelle_model.specs.Types.{shape_of, assignable}
 use Rattle.estelle_tree.specs.Paths.{Path}
 use Rattle.estelle_model.specs.Operators.{◌>>>◌, required_value}
 use Rattle.estelle_model.specs.States.{Logged, on_log}
-use Rattle.estelle_model.specs.Steps.{Running, Step, Do, and_then, ◌>>=◌, ◌>>◌, pure, fail, checked, spend}
+use Rattle.estelle_model.specs.Stops as model
+use Rattle.estelle_model.specs.Stops.{Faults, Broken, stopping}
+use Rattle.estelle_model.specs.Steps.{Running, Step, Do, and_then, ◌>>=◌, ◌>>◌, pure, fail, breaks, checked, spend}
 use Rattle.estelle_model.specs.Places.{set_value, load}
 use Rattle.estelle_model.specs.Expressions as spec
 use Rattle.estelle_model.specs.Expressions.{Operand, Access, computed, give_all, no_arguments, place_of_operand, simple_of, term_of}
@@ -94,7 +95,7 @@ module _ (t : Scoped) (h : Environment) where
   abbrev pub designate_plan : Meaning → List Expr → Plan Value
   designate_plan (Called r) es = result_of_call r es
   designate_plan (RequiredFunction f) (e ∷ []) = First (expr t h e).value (λ v. Check (required_value f (expr t h e).host v))
-  designate_plan _ es = Refuse Unset
+  designate_plan _ es = Refuse Broken
 
   designate_out : (m : Meaning) (es : List Expr) → (spec.designated Logged on_log (meanings t) (calling t h) h m (map (expr t h) es)).value ≡ run (designate_plan m es)
   designate_out (Called r) es = called_steps r es
@@ -117,16 +118,16 @@ module _ (t : Scoped) (h : Environment) where
       → Is (designated t h x es).value (First (expr t h e).value (λ v. Check (required_value f (expr t h e).host v)))
   designated_required x es f e is some few at = record { is = (designated_steps x es (RequiredFunction f) is).is ∙ ap (λ (ds : List Expr). run (designate_plan (RequiredFunction f) ds)) (only_one es e some few at) }
 
-  required_refuses : (f : Required) (es : List Expr) → (length es ≡ 1 → ⊥) → run (designate_plan (RequiredFunction f) es) ≡ fail Unset
+  required_refuses : (f : Required) (es : List Expr) → (length es ≡ 1 → ⊥) → run (designate_plan (RequiredFunction f) es) ≡ breaks
   required_refuses f [] other = refl
   required_refuses f (e ∷ []) other = absurd (other refl)
   required_refuses f (e ∷ (d ∷ es)) other = refl
 
-  pub designated_wrongly : (x : Name) (es : List Expr) (f : Required) → meanings t x ≡ RequiredFunction f → (length es ≡ 1 → ⊥) → Is (designated t h x es).value (Refuse Unset)
+  pub designated_wrongly : (x : Name) (es : List Expr) (f : Required) → meanings t x ≡ RequiredFunction f → (length es ≡ 1 → ⊥) → Is (designated t h x es).value (Refuse Broken)
   designated_wrongly x es f is other = record { is = (designated_steps x es (RequiredFunction f) is).is ∙ required_refuses f es other }
 
   -- a name that is no function's
-  pub designated_other : (x : Name) (es : List Expr) (m : Meaning) → meanings t x ≡ m → ((r : Routine) → m ≡ Called r → ⊥) → ((f : Required) → m ≡ RequiredFunction f → ⊥) → Is (designated t h x es).value (Refuse Unset)
+  pub designated_other : (x : Name) (es : List Expr) (m : Meaning) → meanings t x ≡ m → ((r : Routine) → m ≡ Called r → ⊥) → ((f : Required) → m ≡ RequiredFunction f → ⊥) → Is (designated t h x es).value (Refuse Broken)
   designated_other x es (Called r) is no_call no_function = absurd (no_call r refl)
   designated_other x es (RequiredFunction f) is no_call no_function = absurd (no_function f refl)
   designated_other x es m is no_call no_function = designated_steps x es m is
@@ -179,7 +180,8 @@ module _ (t : Scoped) (h : Environment) where
       by : (sign : Option Sign) (os : List (Adding × Term)) → (simple_of Logged on_log (meanings t) (calling t h) h (spec.with_sign Logged on_log (meanings t) (calling t h) h sign (term t h (out-Simple x).first)) (map (λ o. (o.0, term t h o.1)) os)).place ≡ place_there (variable_in_simple sign (out-Simple x).first os)
       by None [] = term_place (out-Simple x).first
       by None (o ∷ os) = more_terms (computed (spec.added_host o.0) (spec.added o.0 (term t h (out-Simple x).first).value (term t h o.1).value)) refl (map (λ o. (o.0, term t h o.1)) os)
-      by (Some sign) os = more_terms (spec.with_sign Logged on_log (meanings t) (calling t h) h (Some sign) (term t h (out-Simple x).first)) refl (map (λ o. (o.0, term t h o.1)) os)
+      by (Some sign.Plus) os = more_terms (spec.with_sign Logged on_log (meanings t) (calling t h) h (Some sign.Plus) (term t h (out-Simple x).first)) refl (map (λ o. (o.0, term t h o.1)) os)
+      by (Some sign.Minus) os = more_terms (spec.with_sign Logged on_log (meanings t) (calling t h) h (Some sign.Minus) (term t h (out-Simple x).first)) refl (map (λ o. (o.0, term t h o.1)) os)
 
   expr_place : (x : Expr) → (expr t h x).place ≡ place_there (variable_in x)
   unfolding expr simple
@@ -192,7 +194,7 @@ module _ (t : Scoped) (h : Environment) where
   -- ---- arguments
 
   abbrev variable_place : Option Variable → Step Logged Place
-  variable_place None = fail Unset
+  variable_place None = breaks
   variable_place (Some v) = accessed t h (meanings t (out-Variable v).name) (out-Variable v).selectors >>= λ l. pure l.place
 
   accessed_place : (o : Option (Access Logged)) → place_of_operand (spec.of_access Logged on_log (meanings t) (calling t h) h o).place ≡ (located o >>= λ l. pure l.place)
@@ -211,7 +213,7 @@ module _ (t : Scoped) (h : Environment) where
   place_out (Some v) = valued_place (meanings t (out-Variable v).name) (out-Variable v).selectors
 
   abbrev pub reference_plan : Option Variable → ActualParameters → Plan ActualParameters
-  reference_plan None g = Refuse Unset
+  reference_plan None g = Refuse Broken
   reference_plan (Some v) g = First (accessed t h (meanings t (out-Variable v).name) (out-Variable v).selectors) (λ l. Check (with_reference g l.place))
 
   reference_out : (o : Option Variable) (g : ActualParameters) → (variable_place o >>= λ p. checked (with_reference g p)) ≡ run (reference_plan o g)
@@ -222,12 +224,12 @@ module _ (t : Scoped) (h : Environment) where
   give_plan (ByValue d) e g = First (expr t h e).value (λ v. plan.Given (fitted d v) (λ w. Check (with_value g w)))
   give_plan ByPlace e g = reference_plan (variable_in e) g
 
-  fitting : (fit : Result (Unit {0}) Fault) (v : Value) (g : ActualParameters) → (checked {S = Logged} fit >>= λ ok. pure (record g { values = g.values ++ v ∷ [] })) ≡ (checked (fit >>> λ ok. Ok v) >>= λ w. checked (with_value g w))
+  fitting : (fit : Result (Unit {0}) model.Stop) (v : Value) (g : ActualParameters) → (checked {S = Logged} fit >>= λ ok. pure (record g { values = g.values ++ v ∷ [] })) ≡ (checked (fit >>> λ ok. Ok v) >>= λ w. checked (with_value g w))
   fitting (Ok ok) v g = refl
   fitting (Err f) v g = refl
 
   give_out : (p : Passing) (e : Expr) (g : ActualParameters) → give t h p e g ≡ run (give_plan p e g)
-  give_out (ByValue d) e g = λ i. (expr t h e).value >>= λ v. fitting (fit_of (shape_of d) v) v g i
+  give_out (ByValue d) e g = λ i. (expr t h e).value >>= λ v. fitting (stopping (assignable (shape_of d) v)) v g i
   give_out ByPlace e g = ap (λ (p : Step Logged Place). p >>= λ q. pure (record g { references = g.references ++ q ∷ [] })) (ap (λ (o : Option (Step Logged Place)). place_of_operand o) (expr_place e) ∙ place_out (variable_in e)) ∙ reference_out (variable_in e) g
 
   pub give_steps : (p q : Passing) (e : Expr) (g : ActualParameters) → p ≡ q → Is (give t h p e g) (give_plan q e g)
@@ -274,22 +276,22 @@ module _ {t : Scoped} {h : Environment} {ps : List Passing} {es : List Expr} {i 
   }
 
   -- an argument without a parameter
-  pub given_spare : LeftToGive t h ps es i g s s0 → length ps ≤ i → i < length es → arguments t h ps es s0 ≡ Err (Unset, s.left)
+  pub given_spare : LeftToGive t h ps es i g s s0 → length ps ≤ i → i < length es → arguments t h ps es s0 ≡ Err (Broken, s.left)
   given_spare before past inside =
       sym before.same ∙ ap (λ qs. give_all qs (map (expr t h) (drop i es)) g s) (drop_of_length-le ps past)
       ∙ by (drop i es) (omega (arith, length-drop i es, inside))
     where
-      by : (xs : List Expr) → 0 < length xs → give_all [] (map (expr t h) xs) g s ≡ Err (Unset, s.left)
+      by : (xs : List Expr) → 0 < length xs → give_all [] (map (expr t h) xs) g s ≡ Err (Broken, s.left)
       by [] below = absurd (omega (arith, below))
       by (x ∷ xs) below = refl
 
   -- a parameter without an argument
-  pub given_short : LeftToGive t h ps es i g s s0 → length es ≤ i → i < length ps → arguments t h ps es s0 ≡ Err (Unset, s.left)
+  pub given_short : LeftToGive t h ps es i g s s0 → length es ≤ i → i < length ps → arguments t h ps es s0 ≡ Err (Broken, s.left)
   given_short before past inside =
       sym before.same ∙ ap (λ xs. give_all (drop i ps) (map (expr t h) xs) g s) (drop_of_length-le es past)
       ∙ by (drop i ps) (omega (arith, length-drop i ps, inside))
     where
-      by : (qs : List Passing) → 0 < length qs → give_all qs [] g s ≡ Err (Unset, s.left)
+      by : (qs : List Passing) → 0 < length qs → give_all qs [] g s ≡ Err (Broken, s.left)
       by [] below = absurd (omega (arith, below))
       by (q ∷ qs) below = refl
 
@@ -320,7 +322,7 @@ unfolding calling entering
 spend_stops t h r g {s} {u} {e} stops = record { follows = spend_first t (max_depth - h.frame) (pure tt) h.path r g s u e stops }
 
 -- a call that nests too deep
-pub deep_call : (t : Scoped) (h : Environment) (r : Routine) (g : ActualParameters) → max_depth ≤ h.frame → Is (calling t h r g) (First spend (λ u. Refuse CallDepth))
+pub deep_call : (t : Scoped) (h : Environment) (r : Routine) (g : ActualParameters) → max_depth ≤ h.frame → Is (calling t h r g) (First spend (λ u. Refuse (Faults CallDepth)))
 unfolding calling entering
 deep_call t h r g deep =
     let none : max_depth - h.frame ≡ zero = omega (arith, deep) in

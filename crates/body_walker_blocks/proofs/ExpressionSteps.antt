@@ -1,12 +1,12 @@
 -- Expressions step by step, as they are walked.
 use Rattle.std.proofs.Common.{◌≡◌, ◌∙◌, ℕ, Bool, true, false, List, [], ◌∷◌, map, refl, sym, ap, Option, Some, None, ℤ, Result, Ok, Err, cond}
 use Rattle.std.specs.Prelude.{not}
-use Rattle.pascal_values.specs.declared.fault.Fault.{Fault}
 use Rattle.pascal_values.specs.declared.value.Value.{Value}
 use Rattle.pascal_values.specs.declared.value.Value.TheVariants as pascal
 use Rattle.pascal_values.specs.Sets.{union}
 use Rattle.estelle_tree.specs.declared.span.Span.{Span}
 use Rattle.estelle_tree.specs.declared.tree.type_expr.Sign.{Sign}
+use Rattle.estelle_tree.specs.declared.tree.type_expr.Sign.TheVariants as sign
 use Rattle.estelle_tree.specs.declared.tree.expression.Relation.{Relation}
 use Rattle.estelle_tree.specs.declared.tree.expression.Adding.{Adding}
 use Rattle.estelle_tree.specs.declared.tree.expression.Adding.TheVariants as adding
@@ -25,6 +25,7 @@ use Rattle.estelle_model.specs.declared.denoter.Host.TheVariants as hosts
 use Rattle.estelle_model.specs.declared.place.Environment.{Environment}
 use Rattle.estelle_model.specs.Operators.{◌>>>◌, bool_of, plus, minus, times, divided, modulo, negation, related, one_member, members_from}
 use Rattle.estelle_model.specs.States.{Logged, on_log}
+use Rattle.estelle_model.specs.Stops.{Stop}
 use Rattle.estelle_model.specs.Steps.{StepResult, Step, and_then, ◌>>=◌, pure, checked_at, checked}
 use Rattle.estelle_model.specs.Expressions as spec
 use Rattle.estelle_model.specs.Expressions.{Operand, computed, both, bool_step, conjunction, disjunction, simple_of, term_of, set_step, member_step}
@@ -39,7 +40,7 @@ use Rattle.body_walker_blocks.proofs.Followed.{then_pure, then_then}
 -- ---- operators whose left operand is evaluated
 
 -- the left operand, and then the rest with its value
-both_then : (f : Value → Value → Result Value Fault) (p q : Step Logged Value) → both f p q ≡ (p >>= λ v. both f (pure v) q)
+both_then : (f : Value → Value → Result Value Stop) (p q : Step Logged Value) → both f p q ≡ (p >>= λ v. both f (pure v) q)
 both_then f p q = refl
 
 disjunction_then : (p q : Step Logged Value) → disjunction p q ≡ (p >>= λ v. disjunction (pure v) q)
@@ -66,7 +67,7 @@ truth_end : (o : StepResult Logged Value) → and_then (and_then o (λ v. checke
 truth_end (Err e) = refl
 truth_end (Ok r) = by (bool_of r.0)
   where
-    by : (b : Result Bool Fault) → and_then (checked_at b r.1) (λ c. pure (pascal.Bool c)) ≡ checked_at (b >>> λ c. Ok (pascal.Bool c)) r.1
+    by : (b : Result Bool Stop) → and_then (checked_at b r.1) (λ c. pure (pascal.Bool c)) ≡ checked_at (b >>> λ c. Ok (pascal.Bool c)) r.1
     by (Ok c) = refl
     by (Err f) = refl
 
@@ -90,7 +91,7 @@ sum_out adding.Or v q = ap (λ (p : Step Logged Value). checked (bool_of v) >>= 
 pub added_is : (op : Adding) (v : Value) (q : Step Logged Value) → Is (spec.added op (pure v) q) (sum_plan op v q)
 added_is op v q = record { is = sum_out op v q ∙ (λ i. checked (decides_sum op v) >>= λ d. decided d (pascal.Bool true) (First q (λ w. Check (sum op v w))) i) }
 
-negated : (r : Result Bool Fault) (p q : Step Logged Value) → (checked r >>= λ b. cond b p q) ≡ (checked (r >>> λ b. Ok (not b)) >>= λ d. cond d q p)
+negated : (r : Result Bool Stop) (p q : Step Logged Value) → (checked r >>= λ b. cond b p q) ≡ (checked (r >>> λ b. Ok (not b)) >>= λ d. cond d q p)
 negated (Ok true) p q = refl
 negated (Ok false) p q = refl
 negated (Err f) p q = refl
@@ -132,7 +133,8 @@ module _ (t : Scoped) (h : Environment) where
 
   with_sign_then : (sign : Option Sign) (e : Operand Logged) → (spec.with_sign Logged on_log (meanings t) (calling t h) h sign e).value ≡ (e.value >>= λ v. checked (with_sign sign v))
   with_sign_then None e = sym (then_pure e.value)
-  with_sign_then (Some sign) e = refl
+  with_sign_then (Some sign.Plus) e = sym (then_pure e.value)
+  with_sign_then (Some sign.Minus) e = refl
 
   abbrev pub add_term : Value → Adding × Term → Step Logged Value
   add_term v o = added t h o.0 v o.1

@@ -4,6 +4,7 @@ use Rattle.pascal_values.specs.declared.value.Value.{Value}
 use Rattle.estelle_tree.specs.declared.span.Span.{Span}
 use Rattle.estelle_tree.specs.declared.tree.name.Name.{Name}
 use Rattle.estelle_tree.specs.declared.tree.type_expr.Sign.{Sign}
+use Rattle.estelle_tree.specs.declared.tree.type_expr.Sign.TheVariants as sign
 use Rattle.estelle_tree.specs.declared.tree.expression.Relation.{Relation}
 use Rattle.estelle_tree.specs.declared.tree.expression.Adding.{Adding}
 use Rattle.estelle_tree.specs.declared.tree.expression.Multiplying.{Multiplying}
@@ -104,7 +105,8 @@ module _ (t : Scoped) (h : Environment) where
 
   sign_out : (sign : Option Sign) (e : Operand Logged) → (spec.with_sign Logged on_log (meanings t) (calling t h) h sign e).host ≡ signed_host sign e.host
   sign_out None e = refl
-  sign_out (Some sign) e = refl
+  sign_out (Some sign.Plus) e = refl
+  sign_out (Some sign.Minus) e = refl
 
   sums : (e : Operand Logged) (os : List (Adding × Term)) → (simple_of Logged on_log (meanings t) (calling t h) h e (map (λ o. (o.0, term t h o.1)) os)).host ≡ sum_host e.host os
   sums e [] = refl

@@ -3,8 +3,7 @@ use Rattle.std.proofs.Common.{◌≡◌, ◌∙◌, ℕ, zero, suc, ◌+◌, ◌
 use Rattle.std.proofs.Math.Seq.{take-append_seam}
 use Rattle.std.specs.Prelude.{◌&&◌, nat_lt, slice_get, is_some, option_map, option_and_then, unwrap_or}
 use Rattle.std.specs.FinMap as maps
-use Rattle.pascal_values.specs.declared.fault.Fault.{Fault}
-use Rattle.pascal_values.specs.declared.fault.Fault.TheVariants.{Unset, NoModule, CallDepth, StepLimit}
+use Rattle.pascal_values.specs.declared.fault.Fault.TheVariants.{NoModule, CallDepth, StepLimit}
 use Rattle.pascal_values.specs.declared.value.Value.{Value}
 use Rattle.pascal_values.specs.declared.value.Value.TheVariants as value
 use Rattle.estelle_tree.specs.declared.tree.statement.Stmts.{out-roll-Stmts}
@@ -14,6 +13,7 @@ use Rattle.estelle_model.specs.declared.place.Environment.{Environment}
 use Rattle.estelle_model.specs.Belonging.{are_values_of}
 use Rattle.estelle_model.specs.Core.{Instance, Instances}
 use Rattle.estelle_model.specs.States.{Logged, on_log}
+use Rattle.estelle_model.specs.Stops as stops
 use Rattle.estelle_model.specs.Steps.{Running, StepResult, Step, Do, and_then, ◌>>=◌, ◌>>◌, pure, fail, checked, checked_at, all, spend}
 use Rattle.estelle_model.specs.Expressions.{no_arguments}
 use Rattle.estelle_model.specs.Calls as calls
@@ -82,7 +82,7 @@ module _ (t : Scoped) (h : Environment) (m k : ℕ) (vs : List Value) where
 
   -- the instance, where the tests hold
   abbrev passed : Bool → Instance → Step Logged Instance
-  passed b i = λ s. and_then (checked_at (stops_unless b Unset) s) (λ u. pure i)
+  passed b i = λ s. and_then (checked_at (stops_unless b stops.Broken) s) (λ u. pure i)
 
   abbrev create_by : Option Instance → Do Logged
   create_by o = λ s. and_then (and_then (checked_at (or_no_module o) s) (λ i. passed (tests i) i)) creating
@@ -91,17 +91,18 @@ module _ (t : Scoped) (h : Environment) (m k : ℕ) (vs : List Value) where
   unfolding create
   create_tested w i there may = ap (λ o. create_by o (running w)) there ∙ ap (λ b. and_then (passed b i (running w)) creating) may
 
-  create_fails : (w : Progress) (o : Option Instance) (f : Fault) → beginning t.subject m k vs o ≡ Err f → create_by o (running w) ≡ Err (f, w.left)
-  create_fails w None f e = let same : NoModule ≡ f = cc in ap (λ g. Err (g, w.left)) same
+  create_fails : (w : Progress) (o : Option Instance) (f : stops.Stop) → beginning t.subject m k vs o ≡ Err f → create_by o (running w) ≡ Err (f, w.left)
+  create_fails w None f e = let same : stops.Faults NoModule ≡ f = cc in ap (λ g. Err (g, w.left)) same
   create_fails w (Some i) f e = by (tests i) e
     where
-      by : (b : Bool) → ◌≡◌ {A = Result (Unit {0}) Fault} (cond b (Ok tt) (Err Unset)) (Err f) → and_then (passed b i (running w)) creating ≡ Err (f, w.left)
+      by : (b : Bool) → ◌≡◌ {A = Result (Unit {0}) stops.Stop} (cond b (Ok tt) (Err stops.Broken)) (Err f) → and_then (passed b i (running w)) creating ≡ Err (f, w.left)
       by true e = absurd (cc)
-      by false e = let same : Unset ≡ f = cc in ap (λ g. Err (g, w.left)) same
+      by false e = let same : stops.Broken ≡ f = cc in ap (λ g. Err (g, w.left)) same
 
   pub create_refused : (w : Progress) (e : Stop) → Gives (beginning t.subject m k vs (maps.get w.instances h.path)) (Err e) → Follows (create t h m k vs) w (Err e) w
   unfolding create
-  create_refused w (stop.Fault f) g = create_fails w (maps.get w.instances h.path) f g
+  create_refused w (stop.Fault f) g = create_fails w (maps.get w.instances h.path) (stops.Faults f) g
+  create_refused w stop.Broken g = create_fails w (maps.get w.instances h.path) stops.Broken g
   create_refused w stop.Memory g = tt
 
   -- what may be made is of a body that is there
@@ -130,7 +131,7 @@ module _ (t : Scoped) (h : Environment) (m k : ℕ) (vs : List Value) where
   unfolding entering
   created i = refl
 
-  pub deep_create : (i : Instance) → max_depth ≤ h.frame → Is (creating i) (First spend (λ u. Refuse CallDepth))
+  pub deep_create : (i : Instance) → max_depth ≤ h.frame → Is (creating i) (First spend (λ u. Refuse (stops.Faults CallDepth)))
   deep_create i deep =
       let none : max_depth - h.frame ≡ zero = omega (arith, deep) in
       let new : Instance = (child_of t.subject k).with_parameters vs in
@@ -218,7 +219,7 @@ spend_keeps w n e = by (nat_lt 0 w.left) e
     instances_in (Ok r) = r.1.state.image.instances
     instances_in (Err f) = w.instances
 
-    by : (b : Bool) → cond {A = StepResult Logged (Unit {0})} b (Ok (tt, record (running w) { left = w.left - 1 })) (Err (StepLimit, w.left)) ≡ Ok (tt, running n) → n.instances ≡ w.instances
+    by : (b : Bool) → cond {A = StepResult Logged (Unit {0})} b (Ok (tt, record (running w) { left = w.left - 1 })) (Err (stops.Faults StepLimit, w.left)) ≡ Ok (tt, running n) → n.instances ≡ w.instances
     by true e = sym (ap instances_in e)
     by false e = sym (ap instances_in e)
 

@@ -4,7 +4,6 @@ use Rattle.std.specs.Prelude.{nat_lt, nat_abs}
 use Rattle.std.proofs.lemmas.Bool.Decides.{nat_tests}
 use Rattle.std.proofs.lemmas.Int.{ints}
 use Rattle.pascal_values.specs.declared.fault.Fault.TheVariants.{StepLimit}
-use Rattle.pascal_values.specs.declared.value.Value.TheVariants as pascal
 use Rattle.estelle_tree.specs.declared.tree.expression.Expr.{Expr}
 use Rattle.estelle_tree.specs.declared.tree.statement.Direction.{Direction}
 use Rattle.estelle_tree.specs.declared.tree.statement.Direction.TheVariants as direction
@@ -14,10 +13,11 @@ use Rattle.estelle_model.specs.declared.denoter.Denoter.{Denoter}
 use Rattle.estelle_model.specs.declared.place.Place.{Place}
 use Rattle.estelle_model.specs.declared.place.Environment.{Environment}
 use Rattle.estelle_model.specs.States.{Logged, on_log}
+use Rattle.estelle_model.specs.Stops.{Faults}
 use Rattle.estelle_model.specs.Steps.{Running, StepResult, Step, Do, and_then, ◌>>=◌, ◌>>◌, pure, spend}
 use Rattle.estelle_model.specs.Operators.{bool_of}
 use Rattle.estelle_model.specs.Calls.{max_depth}
-use Rattle.estelle_model.specs.Places.{store_ordinal, put}
+use Rattle.estelle_model.specs.Places.{store_ordinal, blank_at}
 use Rattle.estelle_model.specs.Loops as loops
 use Rattle.estelle_model.specs.Loops.{next_of, comes_to, turns_of, count_turns}
 use Rattle.estelle_model.proofs.LoopLaws.{AtMost, NeverRaises, while_unrolls, repeat_unrolls}
@@ -46,7 +46,7 @@ pub spend_takes : (s u : Running Logged) → spend s ≡ Ok (tt, u) → u.left <
 unfolding spend
 spend_takes s u does = by (nat_lt 0 s.left) refl does
   where
-    by : (b : Bool) → nat_lt 0 s.left ≡ b → cond {A = StepResult Logged (Unit {0})} b (Ok (tt, record s { left = s.left - 1 })) (Err (StepLimit, s.left)) ≡ Ok (tt, u) → u.left < s.left
+    by : (b : Bool) → nat_lt 0 s.left ≡ b → cond {A = StepResult Logged (Unit {0})} b (Ok (tt, record s { left = s.left - 1 })) (Err (Faults StepLimit, s.left)) ≡ Ok (tt, u) → u.left < s.left
     by true some e = let l : s.left - 1 ≡ u.left = ap left_after e in grind (arith, nat_tests)
     by false none e = cc
 
@@ -239,7 +239,7 @@ module _ (t : Scoped) (h : Environment) (d : Denoter) (p : Place) (first : ℤ) 
   set_to n = store_ordinal Logged on_log d p n
 
   abbrev unset : Do Logged
-  unset = put Logged on_log p pascal.Unset
+  unset = blank_at Logged on_log p
 
   abbrev turn_body : Do Logged
   turn_body = stmt t h x

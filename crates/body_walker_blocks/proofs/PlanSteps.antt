@@ -1,11 +1,11 @@
 -- Plans of the model on a log: one after another.
 use Rattle.std.proofs.Common.{◌≡◌, ◌∙◌, ℕ, Result, Ok, Err, refl, sym, subst}
-use Rattle.pascal_values.specs.declared.fault.Fault.{Fault}
 use Rattle.estelle_tree.specs.Paths.{Path}
 use Rattle.estelle_model.specs.Core.{Core}
 use Rattle.estelle_model.specs.declared.meaning.Meaning.{Meaning}
 use Rattle.estelle_model.specs.declared.meaning.Meaning.TheVariants.{Module}
 use Rattle.estelle_model.specs.States.{Logged, on_log}
+use Rattle.estelle_model.specs.Stops as model
 use Rattle.estelle_model.specs.Steps.{Running, StepResult, and_then, checked_at, pure}
 use Rattle.estelle_model.specs.Plans.{Plan, ◌>>=◌, reads}
 use Rattle.estelle_model.specs.Places.{child_at, child_step}
@@ -26,7 +26,7 @@ pub carried_then : {A B : Type 0} (p : Plan A) (f : A → Plan B) → carried (f
 carried_then p f = λ i s. carry_then Logged on_log p f s i
 
 -- what is read, and no more
-read_only : {A : Type 0} (x : Result A Fault) (s : Running Logged) → and_then (checked_at x s) (λ a. pure a) ≡ checked_at x s
+read_only : {A : Type 0} (x : Result A model.Stop) (s : Running Logged) → and_then (checked_at x s) (λ a. pure a) ≡ checked_at x s
 read_only (Ok a) s = refl
 read_only (Err e) s = refl
 
@@ -38,4 +38,5 @@ child_follows s p x m w r is h = subst (λ (y : Meaning). Follows (carried (chil
     by : (r : Result Path Stop) → Follows (child_step Logged on_log p m) w r w → Follows (carried (reads (child_at p m))) w r w
     by (Ok q) e = read_only (child_at p m (running w).state.image) (running w) ∙ e
     by (Err (stop.Fault f)) e = read_only (child_at p m (running w).state.image) (running w) ∙ e
+    by (Err stop.Broken) e = read_only (child_at p m (running w).state.image) (running w) ∙ e
     by (Err stop.Memory) e = tt

@@ -2,7 +2,6 @@
 use Rattle.std.proofs.Common.{◌≡◌, ◌∙◌, Bool, true, false, List, [], ◌∷◌, map, refl, sym, ap, Option, Some, None, ℤ, cond}
 use Rattle.std.specs.Prelude.{slice_get}
 use Rattle.pascal_values.specs.declared.fault.Fault.TheVariants as fault
-use Rattle.pascal_values.specs.declared.value.Value.TheVariants as pascal
 use Rattle.estelle_tree.specs.declared.tree.name.Name.{Name}
 use Rattle.estelle_tree.specs.declared.tree.type_expr.Const.{Const}
 use Rattle.estelle_tree.specs.declared.tree.expression.Expr.{Expr}
@@ -15,6 +14,8 @@ use Rattle.estelle_tree.specs.declared.tree.statement.Stmts.{Stmts, out-Stmts}
 use Rattle.estelle_tree.specs.declared.tree.statement.Case.{Case, out-Case}
 use Rattle.estelle_tree.specs.declared.tree.statement.Stmt.TheOpen.{Stmt-F}
 use Rattle.estelle_model.specs.declared.denoter.Denoter.{Denoter}
+use Rattle.estelle_model.specs.declared.denoter.Host.{Host}
+use Rattle.estelle_model.specs.Types.{host_of}
 use Rattle.estelle_model.specs.declared.meaning.Meaning.{Meaning}
 use Rattle.estelle_model.specs.declared.meaning.Meaning.TheVariants.{Own, Exported, Local, Var, Called}
 use Rattle.estelle_model.specs.declared.meaning.Routine.{Routine}
@@ -22,8 +23,9 @@ use Rattle.estelle_model.specs.declared.place.Place.{Place}
 use Rattle.estelle_model.specs.declared.place.Place.TheVariants.{Of, In}
 use Rattle.estelle_model.specs.declared.place.Environment.{Environment}
 use Rattle.estelle_model.specs.States.{Logged, on_log}
-use Rattle.estelle_model.specs.Steps.{Do, ◌>>=◌, ◌>>◌, pure, fail, checked, all}
-use Rattle.estelle_model.specs.Places.{store, store_ordinal, put}
+use Rattle.estelle_model.specs.Stops.{Faults, Broken}
+use Rattle.estelle_model.specs.Steps.{Do, ◌>>=◌, ◌>>◌, pure, breaks, checked, all}
+use Rattle.estelle_model.specs.Places.{store, store_ordinal, blank_at}
 use Rattle.estelle_model.specs.Loops as loops
 use Rattle.estelle_model.specs.Expressions as spec
 use Rattle.estelle_model.specs.Expressions.{Operand, Access, reference_at}
@@ -33,9 +35,9 @@ use Rattle.estelle_model.proofs.ExpressionEquations.{args_opened}
 use Rattle.estelle_model.proofs.StatementEquations.{stmt_at, stmt_opened, branch_opened, stmts_opened}
 use Rattle.body_walker_blocks.specs.Scopes.{Scoped, meanings}
 use Rattle.body_walker_blocks.specs.Located.{Located}
-use Rattle.body_walker_blocks.specs.Accesses.{is_variable}
+use Rattle.body_walker_blocks.specs.Accesses.{is_variable, variable_host}
 use Rattle.body_walker_blocks.specs.Labels.{exprs_of, labelled}
-use Rattle.body_walker_blocks.specs.Walked.{acting, calling, expr, condition, ordinal, invoked, located, accessed, target, stmt, stmts, branch, assign, procedure, select, count, while_loop, repeat_loop, count_loop, init, release, connect, disconnect, attach, detach, output}
+use Rattle.body_walker_blocks.specs.Walked.{acting, calling, expr, condition, bound, selector_of, invoked, located, accessed, target, stmt, stmts, branch, assign, procedure, select, count, while_loop, repeat_loop, count_loop, init, release, connect, disconnect, attach, detach, output}
 use Rattle.body_walker_blocks.proofs.Plans.{Plan, First, Last, Finish, Refuse, run, either, Is}
 use Rattle.body_walker_blocks.proofs.Chains.{chain}
 use Rattle.body_walker_blocks.proofs.Followed.{then_then}
@@ -57,7 +59,7 @@ module _ (t : Scoped) (h : Environment) where
   -- ---- what an access comes to, and then something at its place
 
   at_place : (o : Option (Access Logged)) (f : Denoter → Place → Do Logged) → Do Logged
-  at_place None f = fail fault.Unset
+  at_place None f = breaks
   at_place (Some a) f = a.place >>= λ p. f a.denoter p
 
   located_then : (o : Option (Access Logged)) (f : Denoter → Place → Do Logged) → at_place o f ≡ (located o >>= λ l. f l.denoter l.place)
@@ -78,7 +80,7 @@ module _ (t : Scoped) (h : Environment) where
 
   abbrev pub procedure_plan : Meaning → List Expr → Plan (Unit {0})
   procedure_plan (Called r) es = First (invoked t h r es) (λ v. Finish tt)
-  procedure_plan _ es = Refuse fault.Unset
+  procedure_plan _ es = Refuse Broken
 
   invoke_out : (m : Meaning) (es : List Expr) → statements.invoke_of Logged on_log (meanings t) (acting t h) (calling t h) h m (map (expr t h) es) ≡ run (procedure_plan m es)
   invoke_out (Called r) es = sym (then_then (λ given. calling t h r given) (λ v. pure tt) (spec.give_all r.parameters (map (expr t h) es) spec.no_arguments))
@@ -94,14 +96,14 @@ module _ (t : Scoped) (h : Environment) where
   procedure_steps x es m is = record { is = ap (λ (fs : List (Operand Logged)). statements.invoke_of Logged on_log (meanings t) (acting t h) (calling t h) h (meanings t x) fs) (arguments_out es) ∙ invoke_out (meanings t x) (exprs_of es) ∙ ap (λ (k : Meaning). run (procedure_plan k (exprs_of es))) is }
 
   -- what is no routine's name
-  pub procedure_other : (x : Name) (es : Option Args) (m : Meaning) → meanings t x ≡ m → ((r : Routine) → m ≡ Called r → ⊥) → Is (procedure t h x es) (Refuse fault.Unset)
+  pub procedure_other : (x : Name) (es : Option Args) (m : Meaning) → meanings t x ≡ m → ((r : Routine) → m ≡ Called r → ⊥) → Is (procedure t h x es) (Refuse Broken)
   procedure_other x es (Called r) is no_call = absurd (no_call r refl)
   procedure_other x es m is no_call = procedure_steps x es m is
 
   -- ---- `case`
 
   abbrev pub select_plan : Option Stmt → Plan (Unit {0})
-  select_plan None = Refuse fault.NoCase
+  select_plan None = Refuse (Faults fault.NoCase)
   select_plan (Some x) = Last (stmt t h x)
 
   choice : (b : Bool) (x : Stmt) (o : Option Stmt) → cond b (stmt t h x) (run (select_plan o)) ≡ run (select_plan (cond b (Some x) o))
@@ -116,26 +118,26 @@ module _ (t : Scoped) (h : Environment) where
       ∙ ap (λ (p : Do Logged). cond (is_labelled (meanings t) n (out-Case c).labels) (stmt t h (out-Case c).body) p) (chosen_out n cs)
       ∙ choice (is_labelled (meanings t) n (out-Case c).labels) (out-Case c).body (labelled (meanings t) n cs)
 
-  pub select_steps : (e : Expr) (cs : List Case) → Is (select t h e cs) (First (ordinal t h e) (λ n. select_plan (labelled (meanings t) n cs)))
+  pub select_steps : (e : Expr) (cs : List Case) → Is (select t h e cs) (First (selector_of t h e) (λ n. select_plan (labelled (meanings t) n cs)))
   unfolding select statements.select expr
-  select_steps e cs = record { is = λ i. ordinal t h e >>= λ n. chosen_out n cs i }
+  select_steps e cs = record { is = λ i. selector_of t h e >>= λ n. chosen_out n cs i }
 
   -- ---- `for`
 
-  abbrev pub counted_plan : Meaning → Expr → Direction → Expr → Stmt → Plan (Unit {0})
-  counted_plan m first dir last body = First (ordinal t h first) (λ i. First (ordinal t h last) (λ j. First (accessed t h m []) (λ l. Last (count_loop t h l.denoter l.place i dir j body))))
+  abbrev pub counted_plan : Host → Meaning → Expr → Direction → Expr → Stmt → Plan (Unit {0})
+  counted_plan k m first dir last body = First (bound t h k first) (λ i. First (bound t h k last) (λ j. First (accessed t h m []) (λ l. Last (count_loop t h l.denoter l.place i dir j body))))
 
-  abbrev pub count_plan : Bool → Meaning → Expr → Direction → Expr → Stmt → Plan (Unit {0})
-  count_plan b m first dir last body = either b (counted_plan m first dir last body) (Refuse fault.Unset)
+  abbrev pub count_plan : Bool → Host → Meaning → Expr → Direction → Expr → Stmt → Plan (Unit {0})
+  count_plan b k m first dir last body = either b (counted_plan k m first dir last body) (Refuse Broken)
 
   abbrev over : Option (Access Logged) → Expr → Direction → Expr → Stmt → Do Logged
-  over o first dir last body = statements.count_over Logged on_log (meanings t) (acting t h) (calling t h) h o (ordinal t h first) dir (ordinal t h last) (stmt t h body)
+  over o first dir last body = statements.count_over Logged on_log (meanings t) (acting t h) (calling t h) h o (expr t h first).value dir (expr t h last).value (stmt t h body)
 
-  count_some : (a : Access Logged) (first : Expr) (dir : Direction) (last : Expr) (body : Stmt) → over (Some a) first dir last body ≡ (ordinal t h first >>= λ i. ordinal t h last >>= λ j. located (Some a) >>= λ l. count_loop t h l.denoter l.place i dir j body)
+  count_some : (a : Access Logged) (first : Expr) (dir : Direction) (last : Expr) (body : Stmt) → over (Some a) first dir last body ≡ (bound t h (host_of a.denoter) first >>= λ i. bound t h (host_of a.denoter) last >>= λ j. located (Some a) >>= λ l. count_loop t h l.denoter l.place i dir j body)
   unfolding at_place
-  count_some a first dir last body = λ k. ordinal t h first >>= λ i. ordinal t h last >>= λ j. located_then (Some a) (λ d p. loops.count_loop dir i j (λ n. store_ordinal Logged on_log d p n) (put Logged on_log p pascal.Unset) (stmt t h body)) k
+  count_some a first dir last body = λ k. bound t h (host_of a.denoter) first >>= λ i. bound t h (host_of a.denoter) last >>= λ j. located_then (Some a) (λ d p. loops.count_loop dir i j (λ n. store_ordinal Logged on_log d p n) (blank_at Logged on_log p) (stmt t h body)) k
 
-  count_out : (m : Meaning) (first : Expr) (dir : Direction) (last : Expr) (body : Stmt) → over (spec.accessed Logged on_log (meanings t) (calling t h) h m []) first dir last body ≡ run (count_plan (is_variable m) m first dir last body)
+  count_out : (m : Meaning) (first : Expr) (dir : Direction) (last : Expr) (body : Stmt) → over (spec.accessed Logged on_log (meanings t) (calling t h) h m []) first dir last body ≡ run (count_plan (is_variable m) (variable_host m) m first dir last body)
   unfolding accessed
   count_out (Own k d) first dir last body = count_some (record { denoter = d; place = pure (Of h.path k []) }) first dir last body
   count_out (Exported k d) first dir last body = count_some (record { denoter = d; place = pure (Of h.path k []) }) first dir last body
@@ -143,9 +145,9 @@ module _ (t : Scoped) (h : Environment) where
   count_out (Var k d) first dir last body = count_some (record { denoter = d; place = checked (reference_at (slice_get h.references k)) }) first dir last body
   count_out _ first dir last body = refl
 
-  pub count_steps : (x : Name) (first : Expr) (dir : Direction) (last : Expr) (body : Stmt) (b : Bool) → is_variable (meanings t x) ≡ b → Is (count t h x first dir last body) (count_plan b (meanings t x) first dir last body)
+  pub count_steps : (x : Name) (first : Expr) (dir : Direction) (last : Expr) (body : Stmt) (k : Host) (b : Bool) → k ≡ variable_host (meanings t x) → is_variable (meanings t x) ≡ b → Is (count t h x first dir last body) (count_plan b k (meanings t x) first dir last body)
   unfolding count statements.count expr
-  count_steps x first dir last body b is = record { is = count_out (meanings t x) first dir last body ∙ ap (λ (c : Bool). run (count_plan c (meanings t x) first dir last body)) is }
+  count_steps x first dir last body k b host is = record { is = count_out (meanings t x) first dir last body ∙ (λ i. run (count_plan (is i) (sym host i) (meanings t x) first dir last body)) }
 
   -- ---- statements
 

@@ -1,8 +1,6 @@
 -- What each function of the walk does: the definitions of the model on the private part with a log, for what names mean and what is known of bodies.
 use Rattle.std.specs.Prelude.{◌≡◌, ℕ, ◌-◌, Bool, List, [], map, option_map, Option, Some, None, ℤ}
-use Rattle.pascal_values.specs.declared.fault.Fault.TheVariants.{Unset}
 use Rattle.pascal_values.specs.declared.value.Value.{Value}
-use Rattle.pascal_values.specs.declared.value.Value.TheVariants as pascal
 use Rattle.estelle_tree.specs.declared.link.IpAddr.{IpAddr}
 use Rattle.estelle_tree.specs.declared.tree.name.Name.{Name}
 use Rattle.estelle_tree.specs.declared.tree.expression.Adding.{Adding}
@@ -22,6 +20,7 @@ use Rattle.estelle_tree.specs.declared.tree.statement.Stmt.{Stmt}
 use Rattle.estelle_tree.specs.declared.tree.statement.Stmts.{Stmts}
 use Rattle.estelle_tree.specs.declared.tree.statement.Case.{Case}
 use Rattle.estelle_model.specs.declared.denoter.Denoter.{Denoter}
+use Rattle.estelle_model.specs.declared.denoter.Host.{Host}
 use Rattle.estelle_model.specs.declared.meaning.Meaning.{Meaning}
 use Rattle.estelle_model.specs.declared.meaning.Meaning.TheVariants.{Called}
 use Rattle.estelle_model.specs.declared.meaning.Routine.{Routine}
@@ -31,14 +30,14 @@ use Rattle.estelle_model.specs.declared.place.Place.{Place}
 use Rattle.estelle_model.specs.declared.place.Environment.{Environment}
 use Rattle.estelle_model.specs.declared.place.ActualParameters.{ActualParameters}
 use Rattle.estelle_model.specs.States.{Logged, on_log}
-use Rattle.estelle_model.specs.Steps.{Step, Do, ◌>>=◌, ◌>>◌, pure, fail}
-use Rattle.estelle_model.specs.Places.{put, store_ordinal, child_step}
+use Rattle.estelle_model.specs.Steps.{Step, Do, ◌>>=◌, ◌>>◌, pure, breaks}
+use Rattle.estelle_model.specs.Places.{blank_at, store_ordinal, child_step}
 use Rattle.estelle_model.specs.Subject.{body, child_of}
 use Rattle.body_state.specs.declared.bodies.ModuleBody.{ModuleBody}
 use Rattle.body_state.specs.Bodies.{module_body, block_of}
 use Rattle.body_state.specs.Follows.{carried}
 use Rattle.estelle_model.specs.Expressions as spec
-use Rattle.estelle_model.specs.Expressions.{Operand, Access, Selecting, Call, bool_step, ordinal_step, give_all, no_arguments}
+use Rattle.estelle_model.specs.Expressions.{Operand, Access, Selecting, Call, bool_step, ordinal_step, bound_step, selector_step, give_all, no_arguments}
 use Rattle.estelle_model.specs.Loops as loops
 use Rattle.estelle_model.specs.Statements as statements
 use Rattle.estelle_model.specs.Statements.{Acts, Init, Release, Connect, Disconnect, Attach, Detach, Output}
@@ -99,6 +98,12 @@ condition t h e = bool_step (expr t h e).value
 abbrev pub ordinal : Scoped → Environment → Expr → Step Logged ℤ
 ordinal t h e = ordinal_step (expr t h e).value
 
+abbrev pub bound : Scoped → Environment → Host → Expr → Step Logged ℤ
+bound t h k e = bound_step k (expr t h e).value
+
+abbrev pub selector_of : Scoped → Environment → Expr → Step Logged ℤ
+selector_of t h e = selector_step (expr t h e).value
+
 -- one more term behind a value, and one more factor
 abbrev pub added : Scoped → Environment → Adding → Value → Term → Step Logged Value
 added t h op v e = spec.added op (pure v) (term t h e).value
@@ -132,9 +137,9 @@ within t h r vs = calls.within Logged on_log (meanings t) (actions t) (entering 
 
 -- ---- variable accesses
 
--- what an access comes to; a name of another kind is none
+-- what an access comes to; a name of another kind breaks a rule
 abbrev pub located : Option (Access Logged) → Step Logged Located
-located None = fail Unset
+located None = breaks
 located (Some a) = a.place >>= λ p. pure (record { place = p; denoter = a.denoter })
 
 -- an access that has come to a place
@@ -184,7 +189,7 @@ count t h x first dir last body = statements.count Logged on_log (meanings t) (a
 
 -- the turns of a `for` whose variable is at a place
 abbrev pub count_loop : Scoped → Environment → Denoter → Place → ℤ → Direction → ℤ → Stmt → Do Logged
-count_loop t h d p first dir last body = loops.count_loop dir first last (λ k. store_ordinal Logged on_log d p k) (put Logged on_log p pascal.Unset) (stmt t h body)
+count_loop t h d p first dir last body = loops.count_loop dir first last (λ k. store_ordinal Logged on_log d p k) (blank_at Logged on_log p) (stmt t h body)
 
 -- ---- the statements of Estelle
 

@@ -40,17 +40,16 @@ pub fn block(
     Ok(())
 }
 
-/// An expression in a clause, in a frame with the values of the interaction.
+/// An expression in a clause.
 pub fn clause(
     table: &Table,
     bodies: &ModuleBodies,
     alloc: Global,
     walk: &mut Walk,
     path: &Path,
-    values: Values,
     node: &Expr,
 ) -> Result<Value, Stop>
-    ensures { Follows (clause_value Logged on_log (meanings_of table.now) (act Logged on_log bodies.now (meanings_of table.now)) path.now values node.now) walk.old result walk.new }
+    ensures { Follows (clause_value Logged on_log (meanings_of table.now) (act Logged on_log bodies.now (meanings_of table.now)) path.now node.now) walk.old result walk.new }
 {
     let scope = Scope::new(table, bodies);
     let here = Environment {
@@ -58,8 +57,5 @@ pub fn clause(
         frame: 0,
         references: Items::new(alloc),
     };
-    walk.enter_values(alloc, values)?;
-    let value = expr(&scope, alloc, &here, walk, node)?;
-    walk.leave_values(alloc);
-    Ok(value)
+    expr(&scope, alloc, &here, walk, node)
 }

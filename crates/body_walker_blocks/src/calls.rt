@@ -69,13 +69,13 @@ pub fn designated(
         }
         Meaning::RequiredFunction(required) => {
             if exprs.len() != 1 {
-                return Err(Stop::Fault(Fault::Unset));
+                return Err(Stop::Broken);
             }
             let argument = &exprs[0];
             let value = expr(scope, alloc, here, walk, argument)?;
             required_value(*required, host(scope, argument), &value)
         }
-        _ => Err(Stop::Fault(Fault::Unset)),
+        _ => Err(Stop::Broken),
     }
 }
 
@@ -114,12 +114,12 @@ fn arguments(
     };
     for i in 0..exprs.len() {
         if i >= parameters.len() {
-            return Err(Stop::Fault(Fault::Unset));
+            return Err(Stop::Broken);
         }
         given = give(scope, alloc, here, walk, &parameters[i], &exprs[i], given)?;
     }
     if exprs.len() < parameters.len() {
-        return Err(Stop::Fault(Fault::Unset));
+        return Err(Stop::Broken);
     }
     Ok(given)
 }
@@ -142,7 +142,7 @@ fn give(
             give_value(scope, alloc, here, walk, denoter, actual, given)
         }
         Passing::ByPlace => match variable_in(actual) {
-            None => Err(Stop::Fault(Fault::Unset)),
+            None => Err(Stop::Broken),
             Some(variable) => {
                 let meaning = scope.meaning(&variable.name);
                 let reached = accessed(
@@ -195,12 +195,12 @@ pub fn value_arguments(
     };
     for i in 0..exprs.len() {
         if i >= types.len() {
-            return Err(Stop::Fault(Fault::Unset));
+            return Err(Stop::Broken);
         }
         given = give_value(scope, alloc, here, walk, &types[i], &exprs[i], given)?;
     }
     if exprs.len() < types.len() {
-        return Err(Stop::Fault(Fault::Unset));
+        return Err(Stop::Broken);
     }
     Ok(given)
 }

@@ -29,10 +29,10 @@ pub fn init(
     ensures { Follows (walked.init scope.now here.now modvar.now body.now args.now) walk.old result walk.new }
 {
     let Meaning::Module(variable) = scope.meaning(modvar) else {
-        return Err(Stop::Fault(Fault::Unset));
+        return Err(Stop::Broken);
     };
     let Meaning::Body(number) = scope.meaning(body) else {
-        return Err(Stop::Fault(Fault::Unset));
+        return Err(Stop::Broken);
     };
     let types = scope.bodies().parameters(*number);
     let given = value_arguments(scope, alloc, here, walk, types, exprs_of(args))?;
@@ -55,7 +55,7 @@ fn create(
 {
     may_begin(scope.bodies(), walk, &here.path, variable, number, &values)?;
     let Some(body) = scope.bodies().get(number) else {
-        return Err(Stop::Fault(Fault::Unset));
+        return Err(Stop::Broken);
     };
     walk.spend()?;
     if here.frame >= MAX_DEPTH {

@@ -7,8 +7,10 @@ use crate::calls::{designated, valued};
 use crate::operands::{decides_product, decides_sum, product, sum, with_members, with_sign};
 use crate::scope::Scope;
 use body_state::Walk;
-use body_values::{Stop, bool_of, members_from, negation, one_member, ordinal_of, related};
-use estelle_model::Environment;
+use body_values::{
+    Stop, bool_of, bound_of, members_from, negation, one_member, ordinal_of, related, selector_of,
+};
+use estelle_model::{Environment, Host};
 use estelle_tree::{Adding, Elem, Expr, Factor, Multiplying, Sequence, SequenceMut, Simple, Term};
 use pascal_values::{Members, Value};
 use std::alloc::Global;
@@ -62,6 +64,37 @@ pub fn ordinal(
 {
     let value = expr(scope, alloc, here, walk, node)?;
     ordinal_of(&value)
+}
+
+/// A bound of a `for` whose variable has this host, by its ordinal.
+#[cycle(walk)]
+pub fn bound(
+    scope: &Scope,
+    alloc: Global,
+    here: &Environment,
+    walk: &mut Walk,
+    host: Host,
+    node: &Expr,
+) -> Result<i64, Stop>
+    ensures { Follows (walked.bound scope.now here.now host node.now) walk.old result walk.new }
+{
+    let value = expr(scope, alloc, here, walk, node)?;
+    bound_of(host, &value)
+}
+
+/// The selector of a `case`, by its ordinal.
+#[cycle(walk)]
+pub fn selector_ordinal(
+    scope: &Scope,
+    alloc: Global,
+    here: &Environment,
+    walk: &mut Walk,
+    node: &Expr,
+) -> Result<i64, Stop>
+    ensures { Follows (walked.selector_of scope.now here.now node.now) walk.old result walk.new }
+{
+    let value = expr(scope, alloc, here, walk, node)?;
+    selector_of(&value)
 }
 
 #[cycle(walk)]

@@ -11,7 +11,7 @@ use crate::scope::Scope;
 use body_values::{Stop, ordinal_of, signed};
 use estelle_model::Meaning;
 use estelle_tree::{Args, Case, Const, Expr, Name, Sequence, Sign, Stmt};
-use pascal_values::{Fault, Value};
+use pascal_values::Value;
 use std::alloc::AllocError;
 
 /// The arguments of a procedure statement.
@@ -43,7 +43,7 @@ fn named_ordinal(scope: &Scope, sign: Option<Sign>, name: &Name) -> Result<i64, 
 {
     match scope.meaning(name) {
         Meaning::Constant { value, .. } => signed_ordinal(sign, value),
-        _ => Err(Stop::Fault(Fault::Unset)),
+        _ => Err(Stop::Broken),
     }
 }
 
@@ -65,6 +65,7 @@ fn is_label(scope: &Scope, number: i64, label: &Const) -> Result<bool, AllocErro
     match label_ordinal(scope, label) {
         Ok(ordinal) => Ok(ordinal == number),
         Err(Stop::Fault(_)) => Ok(false),
+        Err(Stop::Broken) => Ok(false),
         Err(Stop::Memory) => Err(AllocError),
     }
 }

@@ -12,7 +12,6 @@ use body_state::Walk;
 use body_values::Stop;
 use estelle_model::{Environment, Meaning};
 use estelle_tree::{Ip, Name};
-use pascal_values::Fault;
 use std::alloc::Global;
 
 pub fn connect(
@@ -119,6 +118,6 @@ pub fn release(
             let child = walk.child(alloc, &here.path, *number)?;
             release_child(alloc, scope.bodies(), walk, &here.path, *number, &child)
         }
-        _ => Err(Stop::Fault(Fault::Unset)),
+        _ => Err(Stop::Broken),
     }
 }

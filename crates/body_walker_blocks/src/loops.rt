@@ -5,8 +5,8 @@ ghost use Rattle.body_state.specs.Follows.{Follows};
 ghost use Rattle.body_walker_blocks.specs.Walked as walked;
 ghost use Rattle.body_walker_blocks.specs.Turns as turns;
 
-use crate::expressions::{condition, ordinal};
-use crate::places::is_variable;
+use crate::expressions::{bound, condition};
+use crate::places::{is_variable, variable_host};
 use crate::scope::Scope;
 use crate::statements::{stmt, stmts};
 use crate::variables::accessed;
@@ -14,7 +14,6 @@ use body_state::Walk;
 use body_values::Stop;
 use estelle_model::{Denoter, Environment, Place};
 use estelle_tree::{Direction, Expr, Name, Stmt, Stmts};
-use pascal_values::{Fault, Value};
 use std::alloc::Global;
 
 #[cycle(walk)]
@@ -72,10 +71,11 @@ pub fn count(
 {
     let meaning = scope.meaning(variable);
     if !is_variable(meaning) {
-        return Err(Stop::Fault(Fault::Unset));
+        return Err(Stop::Broken);
     }
-    let first = ordinal(scope, alloc, here, walk, first)?;
-    let last = ordinal(scope, alloc, here, walk, last)?;
+    let host = variable_host(meaning);
+    let first = bound(scope, alloc, here, walk, host, first)?;
+    let last = bound(scope, alloc, here, walk, host, last)?;
     let to = accessed(scope, alloc, here, walk, meaning, &[])?;
     count_loop(
         scope, alloc, here, walk, to.denoter, &to.place, first, direction, last, body,
@@ -105,7 +105,7 @@ fn count_loop(
         stmt(scope, alloc, here, walk, body)?;
         coming = following(direction, number, last);
     }
-    walk.put(alloc, place, Value::Unset)
+    walk.blank(alloc, place)
 }
 
 /// The value of the first turn, if there is one.

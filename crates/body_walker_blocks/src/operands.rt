@@ -79,8 +79,8 @@ pub fn with_sign(sign: Option<Sign>, first: Value) -> Result<Value, Stop>
     ensures { Gives (spec.with_sign sign first) result }
 {
     match sign {
-        None => Ok(first),
-        Some(sign) => signed(sign, &first),
+        None | Some(Sign::Plus) => Ok(first),
+        Some(Sign::Minus) => signed(Sign::Minus, &first),
     }
 }
 

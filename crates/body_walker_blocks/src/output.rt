@@ -10,7 +10,7 @@ use crate::scope::Scope;
 use body_actions::{output_at, types_received};
 use body_state::Walk;
 use body_values::Stop;
-use estelle_model::Environment;
+use estelle_model::{Environment, Meaning};
 use estelle_tree::{Args, Name};
 use std::alloc::Global;
 
@@ -32,14 +32,17 @@ pub fn output(
     let given = value_arguments(scope, alloc, here, walk, types, exprs_of(args))?;
     walk.spend()?;
     let a = own_ip(scope, alloc, here, ip)?;
-    output_at(
-        alloc,
-        scope.bodies(),
-        walk,
-        ip,
-        interaction,
-        meaning,
-        given.values,
-        a,
-    )
+    match meaning {
+        Meaning::Interaction(kind) => output_at(
+            alloc,
+            scope.bodies(),
+            walk,
+            &ip.word,
+            &interaction.word,
+            kind,
+            given.values,
+            a,
+        ),
+        _ => Err(Stop::Broken),
+    }
 }

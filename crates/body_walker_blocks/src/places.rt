@@ -8,10 +8,9 @@ ghost use Rattle.body_walker_blocks.specs.Accesses as spec;
 use crate::reached::Reached;
 use crate::scope::Scope;
 use body_state::Walk;
-use body_values::{Stop, bounds_of, copy_place, deeper, field_of, item_of};
-use estelle_model::{Environment, Meaning, Passing, Place, Routine, Type};
+use body_values::{Stop, copy_place, deeper, field_of, item_of, item_place};
+use estelle_model::{Environment, Host, Meaning, Passing, Place, Routine, Type, host_of};
 use estelle_tree::{Items, Path, Selector, Sequence};
-use pascal_values::{Fault, position};
 use std::alloc::{AllocError, Global};
 
 /// A variable of an instance.
@@ -57,7 +56,7 @@ fn referred<'t>(
     ensures { Gives (spec.referred here.now number denoter.now) result }
 {
     match here.references.items().get(number as usize) {
-        None => Err(Stop::Fault(Fault::Unset)),
+        None => Err(Stop::Broken),
         Some(place) => {
             let place = copy_place(alloc, place)?;
             Ok(Reached {
@@ -90,7 +89,7 @@ fn exported<'t>(
                 denoter: denoter.denoter(),
             })
         }
-        _ => Err(Stop::Fault(Fault::Unset)),
+        _ => Err(Stop::Broken),
     }
 }
 
@@ -107,7 +106,7 @@ fn behind_module<'t>(
 {
     match selectors {
         [Selector::Field(name), ..] => { exported(alloc, here, walk, holder, scope.meaning(name)) }
-        _ => Err(Stop::Fault(Fault::Unset)),
+        _ => Err(Stop::Broken),
     }
 }
 
@@ -134,7 +133,7 @@ pub fn begun<'t>(
         Meaning::Local { number, denoter } => Ok(in_frame(alloc, here, *number, denoter)),
         Meaning::Var { number, denoter } => referred(alloc, here, *number, denoter),
         Meaning::Module(holder) => behind_module(scope, alloc, here, walk, *holder, selectors),
-        _ => Err(Stop::Fault(Fault::Unset)),
+        _ => Err(Stop::Broken),
     }
 }
 
@@ -156,6 +155,19 @@ pub fn is_variable(meaning: &Meaning) -> bool
         meaning,
         Meaning::Own { .. } | Meaning::Exported { .. } | Meaning::Local { .. } | Meaning::Var { .. }
     )
+}
+
+/// The host of the type of a variable that a name alone names.
+pub fn variable_host(meaning: &Meaning) -> Host
+    ensures { result ≡ spec.variable_host meaning.now }
+{
+    match meaning {
+        Meaning::Own { denoter, .. }
+        | Meaning::Exported { denoter, .. }
+        | Meaning::Local { denoter, .. }
+        | Meaning::Var { denoter, .. } => host_of(denoter.denoter()),
+        _ => Host::Integer,
+    }
 }
 
 /// The number of a function's result in its frame, behind its value parameters and its own variables.
@@ -192,7 +204,7 @@ pub fn result_of<'t>(
     ensures { Gives (spec.result_of here.now routine.now) result }
 {
     match &routine.result {
-        None => Err(Stop::Fault(Fault::Unset)),
+        None => Err(Stop::Broken),
         Some(denoter) => {
             let number = result_number(routine)?;
             Ok(in_frame(alloc, here, number, denoter))
@@ -200,7 +212,7 @@ pub fn result_of<'t>(
     }
 }
 
-/// A field of a record; a name of another kind selects nothing.
+/// A field of a record; a name of another kind breaks a rule.
 pub fn field<'t>(meaning: &Meaning, reached: Reached<'t>) -> Result<Reached<'t>, Stop>
     ensures { Gives (spec.field meaning.now reached.entry) result }
 {
@@ -212,7 +224,7 @@ pub fn field<'t>(meaning: &Meaning, reached: Reached<'t>) -> Result<Reached<'t>,
                 denoter: field_of(reached.denoter, *number),
             })
         }
-        _ => Ok(reached),
+        _ => Err(Stop::Broken),
     }
 }
 
@@ -220,15 +232,10 @@ pub fn field<'t>(meaning: &Meaning, reached: Reached<'t>) -> Result<Reached<'t>,
 pub fn item<'t>(reached: Reached<'t>, index: i64) -> Result<Reached<'t>, Stop>
     ensures { Gives (spec.item reached.entry index) result }
 {
-    let (low, high) = bounds_of(reached.denoter);
-    match position(low, high, index) {
-        Err(fault) => Err(Stop::Fault(fault)),
-        Ok(number) => {
-            let place = deeper(reached.place, number)?;
-            Ok(Reached {
-                place,
-                denoter: item_of(reached.denoter),
-            })
-        }
-    }
+    let number = item_place(reached.denoter, index)?;
+    let place = deeper(reached.place, number)?;
+    Ok(Reached {
+        place,
+        denoter: item_of(reached.denoter),
+    })
 }

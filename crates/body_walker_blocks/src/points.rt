@@ -12,7 +12,6 @@ use body_state::Walk;
 use body_values::Stop;
 use estelle_model::{Environment, Meaning};
 use estelle_tree::{IpAddr, Name, Path};
-use pascal_values::Fault;
 use std::alloc::Global;
 
 /// The child that a module variable holds.
@@ -27,7 +26,7 @@ fn child_named(
 {
     match scope.meaning(name) {
         Meaning::Module(number) => walk.child(alloc, &here.path, *number),
-        _ => Err(Stop::Fault(Fault::Unset)),
+        _ => Err(Stop::Broken),
     }
 }
 
@@ -37,7 +36,7 @@ fn ip_of(path: Path, meaning: &Meaning) -> Result<IpAddr, Stop>
 {
     match meaning {
         Meaning::Ip(ip) => Ok(IpAddr { path, ip: *ip }),
-        _ => Err(Stop::Fault(Fault::Unset)),
+        _ => Err(Stop::Broken),
     }
 }
 

@@ -5,7 +5,7 @@ ghost use Rattle.body_walker_blocks.specs.Walked as walked;
 
 use crate::calls::invoke;
 use crate::children::init;
-use crate::expressions::{condition, expr, ordinal};
+use crate::expressions::{condition, expr, selector_ordinal};
 use crate::labels::{exprs_of, labelled};
 use crate::linking::{attach, connect, detach, disconnect, release};
 use crate::loops::{count, repeat_loop, while_loop};
@@ -162,7 +162,7 @@ fn procedure(
             invoke(scope, alloc, here, walk, routine, exprs_of(args))?;
             Ok(())
         }
-        _ => Err(Stop::Fault(Fault::Unset)),
+        _ => Err(Stop::Broken),
     }
 }
 
@@ -178,7 +178,7 @@ fn select(
 ) -> Result<(), Stop>
     ensures { Follows (walked.select scope.now here.now selector.now cases.now) walk.old result walk.new }
 {
-    let number = ordinal(scope, alloc, here, walk, selector)?;
+    let number = selector_ordinal(scope, alloc, here, walk, selector)?;
     match labelled(scope, number, cases)? {
         None => Err(Stop::Fault(Fault::NoCase)),
         Some(body) => stmt(scope, alloc, here, walk, body),

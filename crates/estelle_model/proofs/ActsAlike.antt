@@ -1,13 +1,13 @@
 -- The statements of Estelle do alike on two states that each effect and each change keeps related.
 use Rattle.std.proofs.Common.{◌≡◌, ℕ, suc, true, ◌&&◌, List, map, Ok, Err, Some, subst}
 use Rattle.std.specs.FinMap as fin
-use Rattle.pascal_values.specs.declared.fault.Fault.TheVariants as fault
 use Rattle.pascal_values.specs.declared.value.Value.{Value}
 use Rattle.estelle_tree.specs.Paths.{Path, child, is_inside}
 use Rattle.estelle_model.specs.Belonging.{are_values_of}
 use Rattle.estelle_model.specs.Core.{Instance, Core}
 use Rattle.estelle_model.specs.Effects.{Create}
 use Rattle.estelle_model.specs.States.{Offers}
+use Rattle.estelle_model.specs.Stops.{Broken}
 use Rattle.estelle_model.specs.Steps.{Running, StepResult, Do, and_then, ◌>>=◌}
 use Rattle.estelle_model.specs.Plans.{Plan, Spends, carry}
 use Rattle.estelle_model.specs.declared.meaning.Passing.TheVariants.{ByValue}
@@ -17,11 +17,11 @@ use Rattle.estelle_model.specs.declared.place.ActualParameters.{ActualParameters
 use Rattle.estelle_model.specs.Meant.{Meanings}
 use Rattle.estelle_model.specs.Subject.{Subject, child_of}
 use Rattle.estelle_model.specs.Expressions.{Operand, give_all, no_arguments}
-use Rattle.estelle_model.specs.Statements.{Statement, Init, Release, Connect, Disconnect, Attach, Detach, Output}
+use Rattle.estelle_model.specs.Statements.{Statement, Init}
 use Rattle.estelle_model.specs.Calls.{Enters}
 use Rattle.estelle_model.specs.Actions.{may_hold, may_begin, begins_child, holds_child, given_types, plan_of}
 use Rattle.estelle_model.specs.Acts.{create, init, init_of, act}
-use Rattle.estelle_model.proofs.Alike.{Same, EachAlike, RunningAlike, OutcomeAlike, DoAlike, and_then_alike, then_alike, fail_alike}
+use Rattle.estelle_model.proofs.Alike.{Same, EachAlike, RunningAlike, OutcomeAlike, DoAlike, and_then_alike, then_alike, stop_alike}
 use Rattle.estelle_model.proofs.AlikeOperands.{GivenAlike, OperandAlike, give_all_alike}
 use Rattle.estelle_model.proofs.AlikeCalls.{EntersAlike, ActsAlike}
 use Rattle.estelle_model.proofs.PrivateParts.{child_inside}
@@ -82,8 +82,8 @@ module _ (S T : Type 0) (on : Offers S) (on' : Offers T) (m : Path) (R : S → T
 
     init_of_alike : (p : Path) → is_inside m p ≡ true → (st : Statement) → ((q : Path) (j : ℕ) (z : Instance) → IsBy st (Create q j z)) → (x b : Meaning) (es : List (Operand S)) (fs : List (Operand T)) → EachAlike (OperandAlike S T on on' m R) es fs → DoAlike S T R (init_of S on s meant enters p x b es) (init_of T on' s meant enters' p x b fs)
     init_of_alike p inside st begins (Module v) (Body k) es fs alike = init_alike p inside st begins v k es fs alike
-    init_of_alike p inside st begins (Module v) _ es fs alike = fail_alike S T R (Same {A = Unit {0}}) fault.Unset
-    init_of_alike p inside st begins _ b es fs alike = fail_alike S T R (Same {A = Unit {0}}) fault.Unset
+    init_of_alike p inside st begins (Module v) _ es fs alike = stop_alike S T R (Same {A = Unit {0}}) Broken
+    init_of_alike p inside st begins _ b es fs alike = stop_alike S T R (Same {A = Unit {0}}) Broken
 
     planned : (p : Path) → is_inside m p ≡ true → (st : Statement) (es : List (Operand S)) (fs : List (Operand T)) → EachAlike (OperandAlike S T on on' m R) es fs → DoAlike S T R
         (give_all (map ByValue (given_types s meant st)) es no_arguments >>= λ g. carry S on (plan_of s meant p st g.values)) (give_all (map ByValue (given_types s meant st)) fs no_arguments >>= λ g. carry T on' (plan_of s meant p st g.values))
@@ -95,9 +95,4 @@ module _ (S T : Type 0) (on : Offers S) (on' : Offers T) (m : Path) (R : S → T
   pub act_alike : ActsAlike S T on on' m R (act S on s meant) (act T on' s meant)
   unfolding act
   act_alike enters enters' into here within (Init x b) es fs alike = init_of_alike enters enters' into here.path within.0 (Init x b) (λ q j z. tt) (meant x) (meant b) es fs alike
-  act_alike enters enters' into here within (Release x) es fs alike = planned enters enters' into here.path within.0 (Release x) es fs alike
-  act_alike enters enters' into here within (Connect x y) es fs alike = planned enters enters' into here.path within.0 (Connect x y) es fs alike
-  act_alike enters enters' into here within (Disconnect x) es fs alike = planned enters enters' into here.path within.0 (Disconnect x) es fs alike
-  act_alike enters enters' into here within (Attach x y z) es fs alike = planned enters enters' into here.path within.0 (Attach x y z) es fs alike
-  act_alike enters enters' into here within (Detach x) es fs alike = planned enters enters' into here.path within.0 (Detach x) es fs alike
-  act_alike enters enters' into here within (Output x y) es fs alike = planned enters enters' into here.path within.0 (Output x y) es fs alike
+  act_alike enters enters' into here within st es fs alike = planned enters enters' into here.path within.0 st es fs alike

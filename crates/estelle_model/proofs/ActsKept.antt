@@ -1,7 +1,6 @@
 -- A property of steps that plans and expressions have every statement of Estelle has.
 use Rattle.std.proofs.Common.{◌≡◌, ℕ, suc, Bool, true, false, ◌&&◌, List, map, Err, Option, Some, None, refl}
 use Rattle.std.specs.FinMap as fin
-use Rattle.pascal_values.specs.declared.fault.Fault.{Fault}
 use Rattle.pascal_values.specs.declared.fault.Fault.TheVariants as fault
 use Rattle.pascal_values.specs.declared.value.Value.{Value}
 use Rattle.estelle_tree.specs.declared.tree.name.Name.{Name}
@@ -10,6 +9,7 @@ use Rattle.estelle_model.specs.Belonging.{are_values_of}
 use Rattle.estelle_model.specs.Core.{Instance}
 use Rattle.estelle_model.specs.Effects.{Create}
 use Rattle.estelle_model.specs.States.{Offers}
+use Rattle.estelle_model.specs.Stops.{Stop, Faults, Broken}
 use Rattle.estelle_model.specs.Steps.{Running, StepResult, Do, and_then, ◌>>=◌, ◌>>◌, checked_at, pure, spend}
 use Rattle.estelle_model.specs.Plans.{Plan, Spends, stops_unless, carry}
 use Rattle.estelle_model.specs.declared.meaning.Passing.TheVariants.{ByValue}
@@ -21,7 +21,7 @@ use Rattle.estelle_model.specs.declared.place.ActualParameters.{ActualParameters
 use Rattle.estelle_model.specs.Meant.{Meanings}
 use Rattle.estelle_model.specs.Subject.{Subject, child_of}
 use Rattle.estelle_model.specs.Expressions.{Operand, give_all, no_arguments}
-use Rattle.estelle_model.specs.Statements.{Statement, Init, Release, Connect, Disconnect, Attach, Detach, Output}
+use Rattle.estelle_model.specs.Statements.{Statement, Init}
 use Rattle.estelle_model.specs.Calls.{Enters}
 use Rattle.estelle_model.specs.Actions.{or_no_module, may_hold, may_begin, begins_child, holds_child, given_types, plan_of}
 use Rattle.estelle_model.specs.Acts.{create, init_of, act}
@@ -41,19 +41,19 @@ module _ (S : Type 0) (on : Offers S) (Q : (A : Type 0) → Running S → StepRe
   PlansKept = (p : Path) (st : Statement) (given : List Value) (plan : Plan (Unit {0})) (x : Running S) → Fits (stated s meant p st given) Any plan 0 (on.core x.state) → Q (Unit {0}) x (carry S on plan x)
 
 module _ (S : Type 0) (on : Offers S) (s : Subject) where
-  -- the instance that may begin a child is there, and the tests hold; else there is a fault
-  pub begun_keeps : (p : Path) (v k : ℕ) (given : List Value) (rest : Instance → Do S) (x : Running S) (P : StepResult S (Unit {0}) → Type 0) → ((f : Fault) → P (Err (f, x.left)))
+  -- the instance that may begin a child is there, and the tests hold; else it stops
+  pub begun_keeps : (p : Path) (v k : ℕ) (given : List Value) (rest : Instance → Do S) (x : Running S) (P : StepResult S (Unit {0}) → Type 0) → ((e : Stop) → P (Err (e, x.left)))
       → ((i : Instance) → fin.get (on.core x.state).instances p ≡ Some i → (may_hold s i.body v k && are_values_of (child_of s k).parameters given) ≡ true → P (rest i x)) → P ((carry S on (may_begin s p v k given) >>= rest) x)
   begun_keeps p v k given rest x P fails h = from (fin.get (on.core x.state).instances p) refl
     where
       tested : (i : Instance) → fin.get (on.core x.state).instances p ≡ Some i → (b : Bool) → (may_hold s i.body v k && are_values_of (child_of s k).parameters given) ≡ b
-          → P (and_then (and_then (checked_at (stops_unless b fault.Unset) x) (λ u. pure i)) rest)
+          → P (and_then (and_then (checked_at (stops_unless b Broken) x) (λ u. pure i)) rest)
       tested i there true is = h i there is
-      tested i there false is = fails fault.Unset
+      tested i there false is = fails Broken
 
       from : (o : Option Instance) → fin.get (on.core x.state).instances p ≡ o
-          → P (and_then (and_then (checked_at (or_no_module o) x) (λ i y. and_then (checked_at (stops_unless (may_hold s i.body v k && are_values_of (child_of s k).parameters given) fault.Unset) y) (λ u. pure i))) rest)
-      from None is = fails fault.NoModule
+          → P (and_then (and_then (checked_at (or_no_module o) x) (λ i y. and_then (checked_at (stops_unless (may_hold s i.body v k && are_values_of (child_of s k).parameters given) Broken) y) (λ u. pure i))) rest)
+      from None is = fails (Faults fault.NoModule)
       from (Some i) is = tested i is (may_hold s i.body v k && are_values_of (child_of s k).parameters given) refl
 
 module _ (S : Type 0) (on : Offers S) (Q : (A : Type 0) → Running S → StepResult S A → Type 0) (closed : IsClosed S on Q) (s : Subject) (meant : Meanings) where
@@ -66,12 +66,7 @@ module _ (S : Type 0) (on : Offers S) (Q : (A : Type 0) → Running S → StepRe
       → ((st : Statement) (given : List Value) → Has Q (carry S on (plan_of s meant here.path st given))) → ActKept S on Q closed (act S on s meant enters) here
   unfolding act
   acts_by enters here begins plan (Init x b) es h = begins x b es h
-  acts_by enters here begins plan (Release x) es h = given_keeps here.path (Release x) (plan (Release x)) es h
-  acts_by enters here begins plan (Connect x y) es h = given_keeps here.path (Connect x y) (plan (Connect x y)) es h
-  acts_by enters here begins plan (Disconnect x) es h = given_keeps here.path (Disconnect x) (plan (Disconnect x)) es h
-  acts_by enters here begins plan (Attach x y z) es h = given_keeps here.path (Attach x y z) (plan (Attach x y z)) es h
-  acts_by enters here begins plan (Detach x) es h = given_keeps here.path (Detach x) (plan (Detach x)) es h
-  acts_by enters here begins plan (Output x y) es h = given_keeps here.path (Output x y) (plan (Output x y)) es h
+  acts_by enters here begins plan st es h = given_keeps here.path st (plan st) es h
 
 module _ (S : Type 0) (on : Offers S) (Q : (A : Type 0) → Running S → StepResult S A → Type 0) (closed : IsClosed S on Q) (s : Subject) (meant : Meanings) (plans : PlansKept S on Q s meant) where
   -- ---- init, where what it enters has the property
@@ -79,15 +74,15 @@ module _ (S : Type 0) (on : Offers S) (Q : (A : Type 0) → Running S → StepRe
   pub init_of_keeps : (enters : Enters S) → EntersKept S Q enters → (p : Path) (st : Statement) → ((q : Path) (j : ℕ) (z : Instance) → IsBy st (Create q j z)) → (x b : Meaning) (es : List (Operand S)) → Each (OperandKept S on Q closed) es → Has Q (init_of S on s meant enters p x b es)
   init_of_keeps enters into p st begins (Module v) (Body k) es h = then_kept S on Q closed ActualParameters (Unit {0}) (give_all (map ByValue (child_of s k).parameters) es no_arguments) (λ g. carry S on (may_begin s p v k g.values) >>= λ i. create S on s meant enters p v (child_of s k) g.values i)
       (give_all_kept S on Q closed (map ByValue (child_of s k).parameters) es no_arguments h)
-      (λ g x. begun_keeps S on s p v k g.values (λ i. create S on s meant enters p v (child_of s k) g.values i) x (Q (Unit {0}) x) (λ f. closed.fail (Unit {0}) f x)
+      (λ g x. begun_keeps S on s p v k g.values (λ i. create S on s meant enters p v (child_of s k) g.values i) x (Q (Unit {0}) x) (λ e. closed.stop (Unit {0}) e x)
       (λ i there allowed.
       let plan : Plan (Unit {0}) = begins_child s p v i ((child_of s k).with_parameters g.values) in
       let c : Path = child p (suc i.births) in
       closed.then Value (Unit {0}) x (enters (carry S on plan) c (child_of s k).block no_arguments x) (λ ran. carry S on (holds_child s p v (child_of s k).to c))
       (into (carry S on plan) c (child_of s k).block no_arguments x (plans p st g.values (Spends plan) x (begins_fits s meant p st g.values begins v k i 0 (on.core x.state) there allowed)))
       (λ ran y. plans p st g.values (holds_child s p v (child_of s k).to c) y (holds_fits s meant p st g.values (creates_changes st p 0 i (begins p 0 i)) v (suc i.births) (child_of s k).to 0 (on.core y.state)))))
-  init_of_keeps enters into p st begins (Module v) _ es h = closed.fail (Unit {0}) fault.Unset
-  init_of_keeps enters into p st begins _ b es h = closed.fail (Unit {0}) fault.Unset
+  init_of_keeps enters into p st begins (Module v) _ es h = closed.stop (Unit {0}) Broken
+  init_of_keeps enters into p st begins _ b es h = closed.stop (Unit {0}) Broken
 
   -- every statement of Estelle has the property
   pub act_keeps : (enters : Enters S) → EntersKept S Q enters → (here : Environment) → ActKept S on Q closed (act S on s meant enters) here

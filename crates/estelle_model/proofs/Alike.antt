@@ -1,11 +1,11 @@
 -- Steps on two states that do the same: from related states they come to related states and related values, or to one fault.
 use Rattle.std.proofs.Common.{◌≡◌, ℕ, Bool, true, false, List, [], ◌∷◌, map, Result, Ok, Err, Option, Some, None, refl, ap, subst, cond}
 use Rattle.std.specs.Prelude.{◌-◌, nat_lt}
-use Rattle.pascal_values.specs.declared.fault.Fault.{Fault}
 use Rattle.pascal_values.specs.declared.fault.Fault.TheVariants.{StepLimit}
 use Rattle.pascal_values.specs.declared.value.Value.{Value}
 use Rattle.estelle_tree.proofs.Folds.{Related}
-use Rattle.estelle_model.specs.Steps.{Running, StepResult, Step, Do, and_then, ◌>>=◌, pure, fail, checked, all, spend}
+use Rattle.estelle_model.specs.Stops.{Stop, Faults}
+use Rattle.estelle_model.specs.Steps.{Running, StepResult, Step, Do, and_then, ◌>>=◌, pure, checked, all, spend, stop}
 
 -- the same value
 abbrev pub Same : {A : Type 0} → A → A → Type 0
@@ -73,12 +73,12 @@ module _ (S T : Type 0) (R : S → T → Type 0) where
   pub pure_alike : {A B : Type 0} (V : A → B → Type 0) (a : A) (b : B) → V a b → StepAlike V (pure a) (pure b)
   pure_alike V a b v s t r = (v, r)
 
-  pub fail_alike : {A B : Type 0} (V : A → B → Type 0) (f : Fault) → StepAlike V (fail f) (fail f)
-  fail_alike V f s t r = ap (λ n. (f, n)) r.left
+  pub stop_alike : {A B : Type 0} (V : A → B → Type 0) (e : Stop) → StepAlike V (stop e) (stop e)
+  stop_alike V e s t r = ap (λ n. (e, n)) r.left
 
-  pub checked_alike : {A : Type 0} (x : Result A Fault) → StepAlike (Same {A = A}) (checked x) (checked x)
+  pub checked_alike : {A : Type 0} (x : Result A Stop) → StepAlike (Same {A = A}) (checked x) (checked x)
   checked_alike (Ok a) s t r = (refl, r)
-  checked_alike (Err f) s t r = ap (λ n. (f, n)) r.left
+  checked_alike (Err e) s t r = ap (λ n. (e, n)) r.left
 
   pub if_alike : {A B : Type 0} (V : A → B → Type 0) (b : Bool) (p p' : Step S A) (q q' : Step T B) → StepAlike V p q → StepAlike V p' q' → StepAlike V (cond b p p') (cond b q q')
   if_alike V true p p' q q' h k = h
@@ -92,8 +92,8 @@ module _ (S T : Type 0) (R : S → T → Type 0) where
 
   pub spend_alike : DoAlike spend spend
   unfolding spend
-  spend_alike s t r = subst (λ (k : ℕ). OutcomeAlike (Same {A = Unit {0}}) (cond (nat_lt 0 s.left) (Ok (tt, record s { left = s.left - 1 })) (Err (StepLimit, s.left))) (cond (nat_lt 0 k) (Ok (tt, record t { left = k - 1 })) (Err (StepLimit, k)))) r.left (go (nat_lt 0 s.left))
+  spend_alike s t r = subst (λ (k : ℕ). OutcomeAlike (Same {A = Unit {0}}) (cond (nat_lt 0 s.left) (Ok (tt, record s { left = s.left - 1 })) (Err (Faults StepLimit, s.left))) (cond (nat_lt 0 k) (Ok (tt, record t { left = k - 1 })) (Err (Faults StepLimit, k)))) r.left (go (nat_lt 0 s.left))
     where
-      go : (b : Bool) → OutcomeAlike (Same {A = Unit {0}}) (cond b (Ok (tt, record s { left = s.left - 1 })) (Err (StepLimit, s.left))) (cond b (Ok (tt, record t { left = s.left - 1 })) (Err (StepLimit, s.left)))
+      go : (b : Bool) → OutcomeAlike (Same {A = Unit {0}}) (cond b (Ok (tt, record s { left = s.left - 1 })) (Err (Faults StepLimit, s.left))) (cond b (Ok (tt, record t { left = s.left - 1 })) (Err (Faults StepLimit, s.left)))
       go true = (refl, record { state = r.state; frames = r.frames; left = refl })
       go false = refl

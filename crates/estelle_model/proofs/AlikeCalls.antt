@@ -8,7 +8,8 @@ use Rattle.pascal_values.specs.Values.{parts_of}
 use Rattle.estelle_tree.specs.declared.tree.expression.Expr.{Expr}
 use Rattle.estelle_tree.specs.Paths.{Path, is_inside}
 use Rattle.estelle_model.specs.States.{Offers}
-use Rattle.estelle_model.specs.Steps.{Running, Do, ◌>>◌, pure, fail, spend}
+use Rattle.estelle_model.specs.Stops.{Faults}
+use Rattle.estelle_model.specs.Steps.{Running, Step, Do, ◌>>◌, pure, fail, spend}
 use Rattle.estelle_model.specs.declared.meaning.Routine.{Routine}
 use Rattle.estelle_model.specs.Meant.{Meanings, result_number}
 use Rattle.estelle_model.specs.declared.place.Environment.{Environment}
@@ -16,8 +17,8 @@ use Rattle.estelle_model.specs.declared.place.ActualParameters.{ActualParameters
 use Rattle.estelle_model.specs.Expressions.{Call, expr}
 use Rattle.estelle_model.specs.Statements.{Acts, stmts}
 use Rattle.estelle_model.specs.Calls.{Enters, call_by, frame_of, last_or, enter, leave, within, nested, max_depth}
-use Rattle.estelle_model.specs.Blocks.{given_values, enter_values, leave_values, from_block, block_step, clause_value}
-use Rattle.estelle_model.proofs.Alike.{Same, RunningAlike, OutcomeAlike, DoAlike, ValueAlike, and_then_alike, then_same, pure_alike, fail_alike, spend_alike}
+use Rattle.estelle_model.specs.Blocks.{given_values, enter_values, leave_values, with_values, from_block, block_step, clause_value}
+use Rattle.estelle_model.proofs.Alike.{Same, RunningAlike, OutcomeAlike, StepAlike, DoAlike, ValueAlike, and_then_alike, then_same, pure_alike, stop_alike, spend_alike}
 use Rattle.estelle_model.proofs.AlikePlaces.{ShowAlike}
 use Rattle.estelle_model.proofs.AlikeOperands.{AllWithin, CallAlike}
 use Rattle.estelle_model.proofs.AlikeExpressions.{expr_alike}
@@ -46,8 +47,10 @@ module _ (S T : Type 0) (on : Offers S) (on' : Offers T) (m : Path) (R : S → T
   enter_values_alike : (vs : List Value) → DoAlike S T R (enter_values vs) (enter_values vs)
   enter_values_alike vs s t a = (refl, record { state = a.state; frames = refl; left = a.left })
 
-  leave_values_alike : (v : Value) → ValueAlike S T R (leave_values v) (leave_values v)
-  leave_values_alike v s t a = (refl, record { state = a.state; frames = refl; left = a.left })
+  pub with_values_alike : {A : Type 0} (vs : List Value) (p : Step S A) (q : Step T A) → StepAlike S T R (Same {A = A}) p q → StepAlike S T R (Same {A = A}) (with_values vs p) (with_values vs q)
+  with_values_alike {A} vs p q h = then_same S T R (Same {A = A}) (enter_values vs >> p) (enter_values vs >> q) leave_values leave_values
+      (then_same S T R (Same {A = A}) (enter_values vs) (enter_values vs) (λ _. p) (λ _. q) (enter_values_alike vs) (λ _. h))
+      (λ a s t r. (refl, record { state = r.state; frames = refl; left = r.left }))
 
 module _ (S T : Type 0) (on : Offers S) (on' : Offers T) (m : Path) (R : S → T → Type 0) (show : ShowAlike S T on on' m R) (meant : Meanings) (act : Enters S → Acts S) (act' : Enters T → Acts T) (acts : ActsAlike S T on on' m R act act') where
   call_by_alike : (enters : Enters S) (enters' : Enters T) → EntersAlike S T on on' m R enters enters' → (p : Path) → is_inside m p ≡ true → CallAlike S T on on' m R (call_by enters p) (call_by enters' p)
@@ -61,7 +64,7 @@ module _ (S T : Type 0) (on : Offers S) (on' : Offers T) (m : Path) (R : S → T
       (λ _. leave_alike S T on on' m R r)
 
   pub nested_alike : (n : ℕ) → EntersAlike S T on on' m R (nested S on meant act n) (nested T on' meant act' n)
-  nested_alike zero before before' p inside r g w s t a b = then_same S T R (Same {A = Value}) spend spend (λ _. fail CallDepth) (λ _. fail CallDepth) (spend_alike S T R) (λ _. fail_alike S T R (Same {A = Value}) CallDepth) s t a
+  nested_alike zero before before' p inside r g w s t a b = then_same S T R (Same {A = Value}) spend spend (λ _. fail CallDepth) (λ _. fail CallDepth) (spend_alike S T R) (λ _. stop_alike S T R (Same {A = Value}) (Faults CallDepth)) s t a
   nested_alike (suc n) before before' p inside r g w s t a b = and_then_alike S T R (Same {A = Unit {0}}) (Same {A = Value}) ((spend >> before) s) ((spend >> before') t) (λ _. within S on meant act (nested S on meant act n) (max_depth - n) p r g) (λ _. within T on' meant act' (nested T on' meant act' n) (max_depth - n) p r g)
       b (λ x y e. within_alike (nested S on meant act n) (nested T on' meant act' n) (nested_alike n) (max_depth - n) p inside r g w)
 
@@ -72,13 +75,7 @@ module _ (S T : Type 0) (on : Offers S) (on' : Offers T) (m : Path) (R : S → T
       (within_alike (from_block S on meant act) (from_block T on' meant act') (nested_alike max_depth) 0 p inside r (given_values vs) tt) (λ _. pure_alike S T R (Same {A = Unit {0}}) tt tt refl)
 
   -- and every expression in its clauses
-  pub clause_alike : (p : Path) → is_inside m p ≡ true → (vs : List Value) (e : Expr) → ValueAlike S T R (clause_value S on meant act p vs e) (clause_value T on' meant act' p vs e)
+  pub clause_alike : (p : Path) → is_inside m p ≡ true → (e : Expr) → ValueAlike S T R (clause_value S on meant act p e) (clause_value T on' meant act' p e)
   unfolding clause_value
-  clause_alike p inside vs e =
-      let here : Environment = record { path = p; frame = 0; references = [] } in
-      let call : Call S = call_by (from_block S on meant act) p in
-      let call' : Call T = call_by (from_block T on' meant act') p in
-      then_same S T R (Same {A = Value}) (enter_values vs >> (expr S on meant call here e).value) (enter_values vs >> (expr T on' meant call' here e).value) (λ v. leave_values v) (λ v. leave_values v)
-      (then_same S T R (Same {A = Value}) (enter_values vs) (enter_values vs) (λ _. (expr S on meant call here e).value) (λ _. (expr T on' meant call' here e).value) (enter_values_alike S T on on' m R vs)
-      (λ _. (expr_alike S T on on' m R show meant call call' (call_by_alike (from_block S on meant act) (from_block T on' meant act') (nested_alike max_depth) p inside) here (inside, tt) e).value))
-      (λ v. leave_values_alike S T on on' m R v)
+  clause_alike p inside e =
+      (expr_alike S T on on' m R show meant (call_by (from_block S on meant act) p) (call_by (from_block T on' meant act') p) (call_by_alike (from_block S on meant act) (from_block T on' meant act') (nested_alike max_depth) p inside) (record { path = p; frame = 0; references = [] }) (inside, tt) e).value

@@ -1,13 +1,12 @@
 -- Expressions mean alike on two states that show the same.
 use Rattle.std.proofs.Common.{◌≡◌, ℕ, List, [], ◌∷◌, Option, Some, None, refl, ap, subst}
 use Rattle.std.specs.Prelude.{slice_get}
-use Rattle.pascal_values.specs.declared.fault.Fault.TheVariants.{Unset}
 use Rattle.pascal_values.specs.declared.value.Value.{Value}
 use Rattle.pascal_values.specs.declared.value.Value.TheVariants as pascal
-use Rattle.pascal_values.specs.Shapes.{place_of}
 use Rattle.estelle_tree.specs.declared.span.Span.{Span}
 use Rattle.estelle_tree.specs.declared.tree.name.Name.{Name}
 use Rattle.estelle_tree.specs.declared.tree.type_expr.Sign.{Sign}
+use Rattle.estelle_tree.specs.declared.tree.type_expr.Sign.TheVariants as sign
 use Rattle.estelle_tree.specs.declared.tree.expression.Relation.{Relation}
 use Rattle.estelle_tree.specs.declared.tree.expression.Adding.{Adding}
 use Rattle.estelle_tree.specs.declared.tree.expression.Multiplying.{Multiplying}
@@ -21,12 +20,13 @@ use Rattle.estelle_tree.proofs.ExpressionFolds.{Kind, Layer, expressions}
 use Rattle.estelle_model.specs.declared.denoter.Host.{Host}
 use Rattle.estelle_model.specs.declared.denoter.Host.TheVariants as hosts
 use Rattle.estelle_model.specs.declared.denoter.Denoter.{Denoter}
-use Rattle.estelle_model.specs.Types.{host_of, item_of, field_of, bounds_of}
+use Rattle.estelle_model.specs.Types.{host_of, item_of, field_of, item_place}
 use Rattle.estelle_tree.specs.declared.required.Required.{Required}
 use Rattle.estelle_model.specs.Operators.{negation, signed, related, required_value, required_host}
 use Rattle.estelle_tree.specs.Paths.{Path}
 use Rattle.estelle_model.specs.States.{Offers}
-use Rattle.estelle_model.specs.Steps.{◌>>=◌, pure, fail, checked}
+use Rattle.estelle_model.specs.Stops.{Broken}
+use Rattle.estelle_model.specs.Steps.{◌>>=◌, pure, checked, breaks}
 use Rattle.estelle_model.specs.declared.meaning.Routine.{Routine}
 use Rattle.estelle_model.specs.declared.meaning.Meaning.{Meaning}
 use Rattle.estelle_model.specs.declared.meaning.Meaning.TheVariants.{Constant, Own, Exported, Local, Var, Field, Called, RequiredFunction, Module}
@@ -37,7 +37,7 @@ use Rattle.estelle_model.specs.Places.{deeper, set_value, child_step}
 use Rattle.estelle_model.specs.declared.place.Environment.{Environment}
 use Rattle.estelle_model.specs.declared.place.ActualParameters.{ActualParameters}
 use Rattle.estelle_model.specs.Expressions.{Call, Operand, Access, Selecting, ordinal_step, multiplied, multiplied_host, added, added_host, computed, give_all, no_arguments, result_host, reference_at, index_step, indexed, fielded, selected, exported, behind_dot, behind_module, accessed, of_access, called, valued, required_of, designated, term_of, with_sign, simple_of, related_to, factor, selector, args, elem, expr, simple, term, variable}
-use Rattle.estelle_model.proofs.Alike.{Same, EachAlike, MaybeAlike, each_related, each_marked, StepAlike, ValueAlike, then_alike, then_same, pure_alike, fail_alike, checked_alike}
+use Rattle.estelle_model.proofs.Alike.{Same, EachAlike, MaybeAlike, each_related, each_marked, StepAlike, ValueAlike, then_alike, then_same, pure_alike, stop_alike, checked_alike}
 use Rattle.estelle_model.proofs.AlikePlaces.{IsWithin, PlaceAlike, PathAlike, deeper_within, ShowAlike, load_alike, child_alike}
 use Rattle.estelle_model.proofs.AlikeOperands.{within_at, GivenAlike, IsHereWithin, OperandAlike, AccessAlike, SelectingAlike, WrittenAlike, CallAlike, ordinal_alike, of_value_alike, both_alike, multiplied_alike, added_alike, computed_alike, computed_with, give_all_alike, member_alike, set_alike}
 use Rattle.estelle_model.proofs.ExpressionEquations.{Results, layers}
@@ -51,8 +51,8 @@ module _ (S T : Type 0) (on : Offers S) (on' : Offers T) (m : Path) (R : S → T
   index_alike : (a : Access S) (b : Access T) (e : Operand S) (f : Operand T) → AccessAlike S T on on' m R a b → OperandAlike S T on on' m R e f → StepAlike S T R (PlaceAlike m) (index_step S on meant call here a e) (index_step T on' meant call' here b f)
   index_alike a b e f h k = then_alike S T R (PlaceAlike m) (PlaceAlike m) a.place b.place _ _ h.place
       (λ p q pq. then_same S T R (PlaceAlike m) (ordinal_step e.value) (ordinal_step f.value) _ _ (ordinal_alike S T on on' m R e.value f.value k.value)
-      (λ n. subst (λ (d : Denoter). StepAlike S T R (PlaceAlike m) (checked (place_of (bounds_of a.denoter).0 (bounds_of a.denoter).1 n) >>= λ j. pure (deeper p j)) (checked (place_of (bounds_of d).0 (bounds_of d).1 n) >>= λ j. pure (deeper q j))) h.denoter
-      (then_same S T R (PlaceAlike m) (checked (place_of (bounds_of a.denoter).0 (bounds_of a.denoter).1 n)) (checked (place_of (bounds_of a.denoter).0 (bounds_of a.denoter).1 n)) _ _ (checked_alike S T R (place_of (bounds_of a.denoter).0 (bounds_of a.denoter).1 n))
+      (λ n. subst (λ (d : Denoter). StepAlike S T R (PlaceAlike m) (checked (item_place a.denoter n) >>= λ j. pure (deeper p j)) (checked (item_place d n) >>= λ j. pure (deeper q j))) h.denoter
+      (then_same S T R (PlaceAlike m) (checked (item_place a.denoter n)) (checked (item_place a.denoter n)) _ _ (checked_alike S T R (item_place a.denoter n))
       (λ j. pure_alike S T R (PlaceAlike m) (deeper p j) (deeper q j) (place_deeper j p q pq)))))
 
   indexed_alike : (es : List (Operand S)) (fs : List (Operand T)) (a : Access S) (b : Access T) → EachAlike (OperandAlike S T on on' m R) es fs → AccessAlike S T on on' m R a b → AccessAlike S T on on' m R (indexed S on meant call here es a) (indexed T on' meant call' here fs b)
@@ -66,7 +66,10 @@ module _ (S T : Type 0) (on : Offers S) (on' : Offers T) (m : Path) (R : S → T
     denoter = ap (λ (d : Denoter). field_of d k) h.denoter;
     place = then_alike S T R (PlaceAlike m) (PlaceAlike m) a.place b.place _ _ h.place (λ p q pq. pure_alike S T R (PlaceAlike m) (deeper p k) (deeper q k) (place_deeper k p q pq));
   }
-  fielded_alike _ a b h = h
+  fielded_alike _ a b h = record {
+    denoter = h.denoter;
+    place = then_alike S T R (PlaceAlike m) (PlaceAlike m) a.place b.place _ _ h.place (λ p q pq. stop_alike S T R (PlaceAlike m) Broken);
+  }
 
   selected_alike : (xs : List (Selecting S)) (ys : List (Selecting T)) (a : Access S) (b : Access T) → EachAlike (SelectingAlike S T on on' m R) xs ys → AccessAlike S T on on' m R a b → AccessAlike S T on on' m R (selected S on meant call here xs a) (selected T on' meant call' here ys b)
   selected_alike [] [] a b h k = k
@@ -79,7 +82,7 @@ module _ (S T : Type 0) (on : Offers S) (on' : Offers T) (m : Path) (R : S → T
   at_place d p h = record { denoter = refl; place = pure_alike S T R (PlaceAlike m) p p (refl, h) }
 
   reference_alike : (o : Option Place) → ((a : Place) → o ≡ Some a → IsWithin m a) → StepAlike S T R (PlaceAlike m) (checked (reference_at o)) (checked (reference_at o))
-  reference_alike None h = fail_alike S T R (PlaceAlike m) Unset
+  reference_alike None h = stop_alike S T R (PlaceAlike m) Broken
   reference_alike (Some a) h = pure_alike S T R (PlaceAlike m) a a (refl, h a refl)
 
   exported_alike : (k : ℕ) (x : Meaning) (xs : List (Selecting S)) (ys : List (Selecting T)) → EachAlike (SelectingAlike S T on on' m R) xs ys → MaybeAlike (AccessAlike S T on on' m R) (exported S on meant call here k x xs) (exported T on' meant call' here k x ys)
@@ -111,7 +114,7 @@ module _ (S T : Type 0) (on : Offers S) (on' : Offers T) (m : Path) (R : S → T
   -- ---- names and functions in expressions
 
   of_access_alike : (o : Option (Access S)) (o' : Option (Access T)) → MaybeAlike (AccessAlike S T on on' m R) o o' → OperandAlike S T on on' m R (of_access S on meant call here o) (of_access T on' meant call' here o')
-  of_access_alike None None h = computed_alike S T on on' m R hosts.Integer (fail Unset) (fail Unset) (fail_alike S T R (Same {A = Value}) Unset)
+  of_access_alike None None h = computed_alike S T on on' m R hosts.Integer breaks breaks (stop_alike S T R (Same {A = Value}) Broken)
   of_access_alike (Some a) (Some b) h = record {
     value = then_alike S T R (PlaceAlike m) (Same {A = Value}) a.place b.place _ _ h.place (λ p q pq. load_alike S T on on' m R show p q pq);
     host = ap (λ (d : Denoter). host_of d) h.denoter;
@@ -136,19 +139,19 @@ module _ (S T : Type 0) (on : Offers S) (on' : Offers T) (m : Path) (R : S → T
   valued_alike _ xs ys k = of_access_alike None None tt
 
   required_alike : (f : Required) (es : List (Operand S)) (fs : List (Operand T)) → EachAlike (OperandAlike S T on on' m R) es fs → OperandAlike S T on on' m R (required_of S on meant call here f es) (required_of T on' meant call' here f fs)
-  required_alike f [] [] h = computed_alike S T on on' m R hosts.Integer (fail Unset) (fail Unset) (fail_alike S T R (Same {A = Value}) Unset)
+  required_alike f [] [] h = computed_alike S T on on' m R hosts.Integer breaks breaks (stop_alike S T R (Same {A = Value}) Broken)
   required_alike f [] (b ∷ bs) h = absurd h
   required_alike f (a ∷ xs) [] h = absurd h
   required_alike f (a ∷ []) (b ∷ []) h = computed_with S T on on' m R (required_host f a.host) (required_host f b.host) _ _ (ap (λ (g : Host). required_host f g) h.0.host)
       (subst (λ (g : Host). ValueAlike S T R (a.value >>= λ v. checked (required_value f a.host v)) (b.value >>= λ v. checked (required_value f g v))) h.0.host (of_value_alike S T on on' m R (λ v. required_value f a.host v) a.value b.value h.0.value))
   required_alike f (a ∷ []) (b ∷ (c ∷ bs)) h = absurd h.1
   required_alike f (a ∷ (c ∷ xs)) (b ∷ []) h = absurd h.1
-  required_alike f (a ∷ (c ∷ xs)) (b ∷ (d ∷ bs)) h = computed_alike S T on on' m R hosts.Integer (fail Unset) (fail Unset) (fail_alike S T R (Same {A = Value}) Unset)
+  required_alike f (a ∷ (c ∷ xs)) (b ∷ (d ∷ bs)) h = computed_alike S T on on' m R hosts.Integer breaks breaks (stop_alike S T R (Same {A = Value}) Broken)
 
   designated_alike : (x : Meaning) (es : List (Operand S)) (fs : List (Operand T)) → EachAlike (OperandAlike S T on on' m R) es fs → OperandAlike S T on on' m R (designated S on meant call here x es) (designated T on' meant call' here x fs)
   designated_alike (Called r) es fs h = computed_alike S T on on' m R (result_host r.result) (called S on meant call here r es) (called T on' meant call' here r fs) (called_alike r es fs h)
   designated_alike (RequiredFunction f) es fs h = required_alike f es fs h
-  designated_alike _ es fs h = computed_alike S T on on' m R hosts.Integer (fail Unset) (fail Unset) (fail_alike S T R (Same {A = Value}) Unset)
+  designated_alike _ es fs h = computed_alike S T on on' m R hosts.Integer breaks breaks (stop_alike S T R (Same {A = Value}) Broken)
 
   -- ---- operators in a row
 
@@ -179,7 +182,8 @@ module _ (S T : Type 0) (on : Offers S) (on' : Offers T) (m : Path) (R : S → T
 
   with_sign_alike : (sign : Option Sign) (e : Operand S) (f : Operand T) → OA e f → OA (with_sign S on meant call here sign e) (with_sign T on' meant call' here sign f)
   with_sign_alike None e f h = h
-  with_sign_alike (Some sign) e f h = computed_alike S T on on' m R hosts.Integer _ _ (of_value_alike S T on on' m R (λ v. signed sign v) e.value f.value h.value)
+  with_sign_alike (Some sign.Plus) e f h = computed_alike S T on on' m R hosts.Integer _ _ h.value
+  with_sign_alike (Some sign.Minus) e f h = computed_alike S T on on' m R hosts.Integer _ _ (of_value_alike S T on on' m R (signed sign.Minus) e.value f.value h.value)
 
   related_to_alike : (op : Relation) (e a : Operand S) (f b : Operand T) → OA e f → OA a b → OA (related_to S on meant call here e (Some (op, a))) (related_to T on' meant call' here f (Some (op, b)))
   related_to_alike op e a f b h k = computed_alike S T on on' m R hosts.Boolean _ _ (both_alike S T on on' m R (related op) e.value a.value f.value b.value h.value k.value)

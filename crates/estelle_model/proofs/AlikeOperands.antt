@@ -1,21 +1,19 @@
 -- Operands, arguments and variable accesses alike on two states.
 use Rattle.std.proofs.Common.{◌≡◌, ℕ, zero, suc, Bool, true, false, List, [], ◌∷◌, ◌++◌, ℤ, Result, Option, Some, None, refl, ap, subst}
 use Rattle.std.specs.Prelude.{slice_get}
-use Rattle.pascal_values.specs.declared.fault.Fault.{Fault}
-use Rattle.pascal_values.specs.declared.fault.Fault.TheVariants.{Unset}
 use Rattle.pascal_values.specs.declared.value.Value.{Value}
 use Rattle.pascal_values.specs.declared.value.Value.TheVariants as pascal
 use Rattle.pascal_values.specs.Sets.{union}
-use Rattle.pascal_values.specs.Shapes.{fit_of}
 use Rattle.estelle_tree.specs.declared.tree.expression.Adding.{Adding}
 use Rattle.estelle_tree.specs.declared.tree.expression.Adding.TheVariants as adding
 use Rattle.estelle_tree.specs.declared.tree.expression.Multiplying.{Multiplying}
 use Rattle.estelle_tree.specs.declared.tree.expression.Multiplying.TheVariants as multiplying
 use Rattle.estelle_model.specs.declared.denoter.Host.{Host}
-use Rattle.estelle_model.specs.Types.{ordinal_of, shape_of}
+use Rattle.estelle_model.specs.Types.{ordinal_of, shape_of, assignable}
 use Rattle.estelle_model.specs.Operators.{bool_of, plus, minus, times, divided, modulo, one_member, members_from}
 use Rattle.estelle_tree.specs.Paths.{Path, is_inside}
 use Rattle.estelle_model.specs.States.{Offers}
+use Rattle.estelle_model.specs.Stops.{Stop, Broken, stopping}
 use Rattle.estelle_model.specs.Steps.{Step, ◌>>=◌, pure, checked}
 use Rattle.estelle_model.specs.declared.meaning.Routine.{Routine}
 use Rattle.estelle_model.specs.declared.meaning.Passing.{Passing}
@@ -23,8 +21,8 @@ use Rattle.estelle_model.specs.declared.meaning.Passing.TheVariants.{ByValue, By
 use Rattle.estelle_model.specs.declared.place.Place.{Place}
 use Rattle.estelle_model.specs.declared.place.Environment.{Environment}
 use Rattle.estelle_model.specs.declared.place.ActualParameters.{ActualParameters}
-use Rattle.estelle_model.specs.Expressions.{Call, Operand, Access, Selecting, Written, bool_step, ordinal_step, both, conjunction, disjunction, multiplied, added, computed, place_of_operand, give, give_all, member_step, set_step}
-use Rattle.estelle_model.proofs.Alike.{Same, EachAlike, MaybeAlike, StepAlike, ValueAlike, then_alike, then_same, pure_alike, fail_alike, checked_alike, if_alike}
+use Rattle.estelle_model.specs.Expressions.{Call, Operand, Access, Selecting, Written, bool_step, ordinal_step, bound_of, bound_step, both, conjunction, disjunction, multiplied, added, computed, place_of_operand, give, give_all, member_step, set_step}
+use Rattle.estelle_model.proofs.Alike.{Same, EachAlike, MaybeAlike, StepAlike, ValueAlike, then_alike, then_same, pure_alike, stop_alike, checked_alike, if_alike}
 use Rattle.estelle_model.proofs.AlikePlaces.{IsWithin, PlaceAlike}
 
 -- each of the places is within
@@ -80,10 +78,13 @@ module _ (S T : Type 0) (on : Offers S) (on' : Offers T) (m : Path) (R : S → T
   ordinal_alike p q h = then_same S T R (Same {A = ℤ}) p q (λ v. checked (ordinal_of v)) (λ v. checked (ordinal_of v)) h (λ v. checked_alike S T R (ordinal_of v))
 
   -- a value, and then something of it
-  pub of_value_alike : (f : Value → Result Value Fault) (p : Step S Value) (q : Step T Value) → ValueAlike S T R p q → ValueAlike S T R (p >>= λ v. checked (f v)) (q >>= λ v. checked (f v))
-  of_value_alike f p q h = then_same S T R (Same {A = Value}) p q (λ v. checked (f v)) (λ v. checked (f v)) h (λ v. checked_alike S T R (f v))
+  pub of_value_alike : {A : Type 0} (f : Value → Result A Stop) (p : Step S Value) (q : Step T Value) → ValueAlike S T R p q → StepAlike S T R (Same {A = A}) (p >>= λ v. checked (f v)) (q >>= λ v. checked (f v))
+  of_value_alike {A} f p q h = then_same S T R (Same {A = A}) p q (λ v. checked (f v)) (λ v. checked (f v)) h (λ v. checked_alike S T R (f v))
 
-  pub both_alike : (f : Value → Value → Result Value Fault) (p p' : Step S Value) (q q' : Step T Value) → ValueAlike S T R p q → ValueAlike S T R p' q' → ValueAlike S T R (both f p p') (both f q q')
+  pub bound_alike : (g h : Host) (p : Step S Value) (q : Step T Value) → g ≡ h → ValueAlike S T R p q → StepAlike S T R (Same {A = ℤ}) (bound_step g p) (bound_step h q)
+  bound_alike g h p q e k = subst (λ (x : Host). StepAlike S T R (Same {A = ℤ}) (bound_step g p) (bound_step x q)) e (of_value_alike (bound_of g) p q k)
+
+  pub both_alike : (f : Value → Value → Result Value Stop) (p p' : Step S Value) (q q' : Step T Value) → ValueAlike S T R p q → ValueAlike S T R p' q' → ValueAlike S T R (both f p p') (both f q q')
   both_alike f p p' q q' h k = then_same S T R (Same {A = Value}) p q (λ v. p' >>= λ w. checked (f v w)) (λ v. q' >>= λ w. checked (f v w)) h (λ v. of_value_alike (f v) p' q' k)
 
   as_bool_alike : (p : Step S Value) (q : Step T Value) → ValueAlike S T R p q → ValueAlike S T R (bool_step p >>= λ c. pure (pascal.Bool c)) (bool_step q >>= λ c. pure (pascal.Bool c))
@@ -119,14 +120,14 @@ module _ (S T : Type 0) (on : Offers S) (on' : Offers T) (m : Path) (R : S → T
   -- ---- arguments
 
   place_of_alike : (o : Option (Step S Place)) (o' : Option (Step T Place)) → MaybeAlike (StepAlike S T R (PlaceAlike m)) o o' → StepAlike S T R (PlaceAlike m) (place_of_operand o) (place_of_operand o')
-  place_of_alike None None h = fail_alike S T R (PlaceAlike m) Unset
+  place_of_alike None None h = stop_alike S T R (PlaceAlike m) Broken
   place_of_alike (Some p) (Some q) h = h
   place_of_alike None (Some q) h = absurd h
   place_of_alike (Some p) None h = absurd h
 
   give_alike : (p : Passing) (e : Operand S) (f : Operand T) (g : ActualParameters) → OperandAlike e f → AllWithin m g.references → StepAlike S T R (GivenAlike m) (give p e g) (give p f g)
   give_alike (ByValue t) e f g h w = then_same S T R (GivenAlike m) e.value f.value _ _ h.value
-      (λ v. then_same S T R (GivenAlike m) (checked (fit_of (shape_of t) v)) (checked (fit_of (shape_of t) v)) _ _ (checked_alike S T R (fit_of (shape_of t) v))
+      (λ v. then_same S T R (GivenAlike m) (checked (stopping (assignable (shape_of t) v))) (checked (stopping (assignable (shape_of t) v))) _ _ (checked_alike S T R (stopping (assignable (shape_of t) v)))
       (λ ok. pure_alike S T R (GivenAlike m) _ _ (refl, w)))
   give_alike ByPlace e f g h w = then_alike S T R (PlaceAlike m) (GivenAlike m) (place_of_operand e.place) (place_of_operand f.place) _ _ (place_of_alike e.place f.place h.place)
       (λ a b ab. pure_alike S T R (GivenAlike m) _ _ (ap (λ (c : Place). record g { references = g.references ++ c ∷ [] }) ab.0, all_within_more m g.references a w ab.1))
@@ -135,8 +136,8 @@ module _ (S T : Type 0) (on : Offers S) (on' : Offers T) (m : Path) (R : S → T
   give_all_alike [] [] [] g h w = pure_alike S T R (GivenAlike m) g g (refl, w)
   give_all_alike [] [] (f ∷ fs) g h w = absurd h
   give_all_alike [] (e ∷ es) [] g h w = absurd h
-  give_all_alike [] (e ∷ es) (f ∷ fs) g h w = fail_alike S T R (GivenAlike m) Unset
-  give_all_alike (p ∷ ps) [] [] g h w = fail_alike S T R (GivenAlike m) Unset
+  give_all_alike [] (e ∷ es) (f ∷ fs) g h w = stop_alike S T R (GivenAlike m) Broken
+  give_all_alike (p ∷ ps) [] [] g h w = stop_alike S T R (GivenAlike m) Broken
   give_all_alike (p ∷ ps) [] (f ∷ fs) g h w = absurd h
   give_all_alike (p ∷ ps) (e ∷ es) [] g h w = absurd h
   give_all_alike (p ∷ ps) (e ∷ es) (f ∷ fs) g h w = then_alike S T R (GivenAlike m) (GivenAlike m) (give p e g) (give p f g) (λ k. give_all ps es k) (λ k. give_all ps fs k) (give_alike p e f g h.0 w)

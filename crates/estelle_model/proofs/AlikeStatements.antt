@@ -1,8 +1,7 @@
 -- Statements mean alike on two states that show the same.
-use Rattle.std.proofs.Common.{◌≡◌, ℕ, zero, suc, Bool, List, [], ◌∷◌, ℤ, Option, Some, None, refl, subst, cond}
+use Rattle.std.proofs.Common.{◌≡◌, ℕ, zero, suc, Bool, List, [], ◌∷◌, ℤ, Option, Some, None, refl, ap, subst, cond}
 use Rattle.pascal_values.specs.declared.fault.Fault.TheVariants as fault
 use Rattle.pascal_values.specs.declared.value.Value.{Value}
-use Rattle.pascal_values.specs.declared.value.Value.TheVariants as pascal
 use Rattle.estelle_tree.specs.declared.tree.name.Name.{Name}
 use Rattle.estelle_tree.specs.declared.tree.type_expr.Const.{Const}
 use Rattle.estelle_tree.specs.declared.tree.expression.Expr.{Expr}
@@ -16,8 +15,10 @@ use Rattle.estelle_tree.proofs.Folds.{Pairs, KeepsAt, folds_related}
 use Rattle.estelle_tree.proofs.StatementFolds as kind
 use Rattle.estelle_tree.proofs.StatementFolds.{Kind, Layer, statements}
 use Rattle.estelle_model.specs.declared.denoter.Denoter.{Denoter}
+use Rattle.estelle_model.specs.Types.{host_of}
 use Rattle.estelle_tree.specs.Paths.{Path}
 use Rattle.estelle_model.specs.States.{Offers}
+use Rattle.estelle_model.specs.Stops.{Faults, Broken}
 use Rattle.estelle_model.specs.Steps.{Step, Do, ◌>>◌, spend}
 use Rattle.estelle_model.specs.declared.meaning.Routine.{Routine}
 use Rattle.estelle_model.specs.declared.meaning.Meaning.{Meaning}
@@ -27,12 +28,12 @@ use Rattle.estelle_model.specs.declared.place.Place.TheVariants.{In}
 use Rattle.estelle_model.specs.Places.{store, store_ordinal}
 use Rattle.estelle_model.specs.declared.place.Environment.{Environment}
 use Rattle.estelle_model.specs.declared.place.ActualParameters.{ActualParameters}
-use Rattle.estelle_model.specs.Expressions.{Call, Operand, Access, Selecting, ordinal_step, give_all, no_arguments, result_of, assigned, target, variable}
+use Rattle.estelle_model.specs.Expressions.{Call, Operand, Access, Selecting, selector_of, give_all, no_arguments, result_of, assigned, target, variable}
 use Rattle.estelle_model.specs.Loops.{while_turns, repeat_turns, while_loop, repeat_loop, next_of, turns_of, count_turns, count_loop}
-use Rattle.estelle_model.specs.Statements.{Statement, Acts, Init, Release, Connect, Disconnect, Attach, Detach, Output, is_labelled, chosen, or_nothing, value_of_expr, arguments, assign_to, assign, invoke_of, invoke, choose, count_over, count, select, stmt, branch, stmts}
-use Rattle.estelle_model.proofs.Alike.{Same, EachAlike, MaybeAlike, each_related, OutcomeAlike, StepAlike, DoAlike, ValueAlike, then_alike, then_same, pure_alike, fail_alike, if_alike, all_alike, spend_alike}
-use Rattle.estelle_model.proofs.AlikePlaces.{PlaceAlike, ShowAlike, put_alike, store_alike, store_ordinal_alike}
-use Rattle.estelle_model.proofs.AlikeOperands.{GivenAlike, IsHereWithin, OperandAlike, AccessAlike, SelectingAlike, CallAlike, bool_alike, ordinal_alike, give_all_alike}
+use Rattle.estelle_model.specs.Statements.{Statement, statement_of, Acts, is_labelled, chosen, or_nothing, value_of_expr, arguments, assign_to, assign, invoke_of, invoke, choose, count_over, count, select, acted, stmt, branch, stmts}
+use Rattle.estelle_model.proofs.Alike.{Same, EachAlike, MaybeAlike, each_related, OutcomeAlike, StepAlike, DoAlike, ValueAlike, then_alike, then_same, pure_alike, stop_alike, if_alike, all_alike, spend_alike}
+use Rattle.estelle_model.proofs.AlikePlaces.{PlaceAlike, ShowAlike, store_alike, store_ordinal_alike, blank_alike}
+use Rattle.estelle_model.proofs.AlikeOperands.{GivenAlike, IsHereWithin, OperandAlike, AccessAlike, SelectingAlike, CallAlike, bool_alike, of_value_alike, bound_alike, give_all_alike}
 use Rattle.estelle_model.proofs.AlikeExpressions.{accessed_alike, expr_alike, args_alike, variable_alike}
 use Rattle.estelle_model.proofs.StatementEquations.{Results, layers}
 
@@ -44,7 +45,7 @@ module _ (S T : Type 0) (R : S → T → Type 0) where
   seq_alike p p' q q' h k = then_same S T R (Same {A = Unit {0}}) p q (λ _. p') (λ _. q') h (λ _. k)
 
   while_turns_alike : (n : ℕ) (p : Step S Bool) (q : Step T Bool) (b : Do S) (c : Do T) → StepAlike S T R (Same {A = Bool}) p q → DoAlike S T R b c → DoAlike S T R (while_turns n p b) (while_turns n q c)
-  while_turns_alike zero p q b c h k = then_same S T R (Same {A = Unit {0}}) p q _ _ h (λ again. if_alike S T R (Same {A = Unit {0}}) again _ _ _ _ (fail_alike S T R (Same {A = Unit {0}}) fault.StepLimit) (pure_alike S T R (Same {A = Unit {0}}) tt tt refl))
+  while_turns_alike zero p q b c h k = then_same S T R (Same {A = Unit {0}}) p q _ _ h (λ again. if_alike S T R (Same {A = Unit {0}}) again _ _ _ _ (stop_alike S T R (Same {A = Unit {0}}) (Faults fault.StepLimit)) (pure_alike S T R (Same {A = Unit {0}}) tt tt refl))
   while_turns_alike (suc n) p q b c h k = then_same S T R (Same {A = Unit {0}}) p q _ _ h (λ again. if_alike S T R (Same {A = Unit {0}}) again _ _ _ _
       (seq_alike (spend >> b) (while_turns n p b) (spend >> c) (while_turns n q c) (seq_alike spend b spend c (spend_alike S T R) k) (while_turns_alike n p q b c h k)) (pure_alike S T R (Same {A = Unit {0}}) tt tt refl))
 
@@ -53,7 +54,7 @@ module _ (S T : Type 0) (R : S → T → Type 0) where
   while_alike p q b c h k s t r = subst (λ (n : ℕ). OutcomeAlike S T R (Same {A = Unit {0}}) (while_turns s.left p b s) (while_turns n q c t)) r.left (while_turns_alike s.left p q b c h k s t r)
 
   repeat_turns_alike : (n : ℕ) (b : Do S) (c : Do T) (p : Step S Bool) (q : Step T Bool) → DoAlike S T R b c → StepAlike S T R (Same {A = Bool}) p q → DoAlike S T R (repeat_turns n b p) (repeat_turns n c q)
-  repeat_turns_alike zero b c p q h k = fail_alike S T R (Same {A = Unit {0}}) fault.StepLimit
+  repeat_turns_alike zero b c p q h k = stop_alike S T R (Same {A = Unit {0}}) (Faults fault.StepLimit)
   repeat_turns_alike (suc n) b c p q h k = then_same S T R (Same {A = Unit {0}}) (spend >> b >> p) (spend >> c >> q) _ _
       (then_same S T R (Same {A = Bool}) (spend >> b) (spend >> c) (λ _. p) (λ _. q) (seq_alike spend b spend c (spend_alike S T R) h) (λ _. k))
       (λ done. if_alike S T R (Same {A = Unit {0}}) done _ _ _ _ (pure_alike S T R (Same {A = Unit {0}}) tt tt refl) (repeat_turns_alike n b c p q h k))
@@ -88,7 +89,7 @@ module _ (S T : Type 0) (on : Offers S) (on' : Offers T) (m : Path) (R : S → T
   arguments_alike (Some es) = args_alike S T on on' m R show meant call call' calls here within es
 
   assign_to_alike : (o : Option (Access S)) (o' : Option (Access T)) (p : Step S Value) (q : Step T Value) → MaybeAlike (AccessAlike S T on on' m R) o o' → ValueAlike S T R p q → DoAlike S T R (assign_to S on meant act call here o p) (assign_to T on' meant act' call' here o' q)
-  assign_to_alike None None p q h k = fail_alike S T R (Same {A = Unit {0}}) fault.Unset
+  assign_to_alike None None p q h k = stop_alike S T R (Same {A = Unit {0}}) Broken
   assign_to_alike None (Some b) p q h k = absurd h
   assign_to_alike (Some a) None p q h k = absurd h
   assign_to_alike (Some a) (Some b) p q h k = then_alike S T R (PlaceAlike m) (Same {A = Unit {0}}) a.place b.place _ _ h.place
@@ -115,7 +116,7 @@ module _ (S T : Type 0) (on : Offers S) (on' : Offers T) (m : Path) (R : S → T
   invoke_of_alike : (x : Meaning) (es : List (Operand S)) (fs : List (Operand T)) → EachAlike (OperandAlike S T on on' m R) es fs → DoAlike S T R (invoke_of S on meant act call here x es) (invoke_of T on' meant act' call' here x fs)
   invoke_of_alike (Called r) es fs h = then_alike S T R (GivenAlike m) (Same {A = Unit {0}}) (give_all r.parameters es no_arguments) (give_all r.parameters fs no_arguments) _ _ (give_all_alike S T on on' m R r.parameters es fs no_arguments h tt)
       (λ g k gk. then_same S T R (Same {A = Unit {0}}) (call r g) (call' r k) _ _ (subst (λ (c : ActualParameters). ValueAlike S T R (call r g) (call' r c)) gk.0 (calls r g gk.1)) (λ v. pure_alike S T R (Same {A = Unit {0}}) tt tt refl))
-  invoke_of_alike _ es fs h = fail_alike S T R (Same {A = Unit {0}}) fault.Unset
+  invoke_of_alike _ es fs h = stop_alike S T R (Same {A = Unit {0}}) Broken
 
   invoke_alike : (x : Name) (es : Option Args) → DoAlike S T R (invoke S on meant act call here x es) (invoke T on' meant act' call' here x es)
   unfolding invoke
@@ -131,16 +132,16 @@ module _ (S T : Type 0) (on : Offers S) (on' : Offers T) (m : Path) (R : S → T
   unfolding choose
   choose_alike e p q o o' h k = then_same S T R (Same {A = Unit {0}}) _ _ _ _ (bool_alike S T on on' m R _ _ (value_alike e)) (λ b. if_alike S T R (Same {A = Unit {0}}) b _ _ _ _ h (or_nothing_alike o o' k))
 
-  count_over_alike : (o : Option (Access S)) (o' : Option (Access T)) (dir : Direction) (first last : Expr) (b : Do S) (c : Do T) → MaybeAlike (AccessAlike S T on on' m R) o o' → DoAlike S T R b c → DoAlike S T R (count_over S on meant act call here o (ordinal_step (value_of_expr S on meant act call here first)) dir (ordinal_step (value_of_expr S on meant act call here last)) b) (count_over T on' meant act' call' here o' (ordinal_step (value_of_expr T on' meant act' call' here first)) dir (ordinal_step (value_of_expr T on' meant act' call' here last)) c)
-  count_over_alike None None dir first last b c h k = fail_alike S T R (Same {A = Unit {0}}) fault.Unset
+  count_over_alike : (o : Option (Access S)) (o' : Option (Access T)) (dir : Direction) (first last : Expr) (b : Do S) (c : Do T) → MaybeAlike (AccessAlike S T on on' m R) o o' → DoAlike S T R b c → DoAlike S T R (count_over S on meant act call here o (value_of_expr S on meant act call here first) dir (value_of_expr S on meant act call here last) b) (count_over T on' meant act' call' here o' (value_of_expr T on' meant act' call' here first) dir (value_of_expr T on' meant act' call' here last) c)
+  count_over_alike None None dir first last b c h k = stop_alike S T R (Same {A = Unit {0}}) Broken
   count_over_alike None (Some y) dir first last b c h k = absurd h
   count_over_alike (Some x) None dir first last b c h k = absurd h
-  count_over_alike (Some x) (Some y) dir first last b c h k = then_same S T R (Same {A = Unit {0}}) _ _ _ _ (ordinal_alike S T on on' m R _ _ (value_alike first))
-      (λ i. then_same S T R (Same {A = Unit {0}}) _ _ _ _ (ordinal_alike S T on on' m R _ _ (value_alike last))
+  count_over_alike (Some x) (Some y) dir first last b c h k = then_same S T R (Same {A = Unit {0}}) _ _ _ _ (bound_alike S T on on' m R _ _ _ _ (ap host_of h.denoter) (value_alike first))
+      (λ i. then_same S T R (Same {A = Unit {0}}) _ _ _ _ (bound_alike S T on on' m R _ _ _ _ (ap host_of h.denoter) (value_alike last))
       (λ j. then_alike S T R (PlaceAlike m) (Same {A = Unit {0}}) x.place y.place _ _ h.place
       (λ p q pq. count_alike S T R dir i j _ _ _ _ _ _
       (λ n. subst (λ (d : Denoter). DoAlike S T R (store_ordinal S on x.denoter p n) (store_ordinal T on' d q n)) h.denoter (store_ordinal_alike S T on on' m R show x.denoter p q n pq))
-      (put_alike S T on on' m R show p q pascal.Unset pq) k)))
+      (blank_alike S T on on' m R show p q pq) k)))
 
   for_alike : (x : Name) (first : Expr) (dir : Direction) (last : Expr) (b : Do S) (c : Do T) → DoAlike S T R b c → DoAlike S T R (count S on meant act call here x first dir last b) (count T on' meant act' call' here x first dir last c)
   unfolding count
@@ -150,7 +151,7 @@ module _ (S T : Type 0) (on : Offers S) (on' : Offers T) (m : Path) (R : S → T
   CaseAlike x y = (x.0 ≡ y.0) × DoAlike S T R x.1 y.1
 
   chosen_alike : (n : ℤ) (xs : List (List Const × Do S)) (ys : List (List Const × Do T)) → EachAlike CaseAlike xs ys → DoAlike S T R (chosen meant n xs) (chosen meant n ys)
-  chosen_alike n [] [] h = fail_alike S T R (Same {A = Unit {0}}) fault.NoCase
+  chosen_alike n [] [] h = stop_alike S T R (Same {A = Unit {0}}) (Faults fault.NoCase)
   chosen_alike n [] (y ∷ ys) h = absurd h
   chosen_alike n (x ∷ xs) [] h = absurd h
   chosen_alike n (x ∷ xs) (y ∷ ys) h = subst (λ (cs : List Const). DoAlike S T R (cond (is_labelled meant n x.0) x.1 (chosen meant n xs)) (cond (is_labelled meant n cs) y.1 (chosen meant n ys))) h.0.0
@@ -158,7 +159,11 @@ module _ (S T : Type 0) (on : Offers S) (on' : Offers T) (m : Path) (R : S → T
 
   select_alike : (e : Expr) (xs : List (List Const × Do S)) (ys : List (List Const × Do T)) → EachAlike CaseAlike xs ys → DoAlike S T R (select S on meant act call here e xs) (select T on' meant act' call' here e ys)
   unfolding select
-  select_alike e xs ys h = then_same S T R (Same {A = Unit {0}}) _ _ _ _ (ordinal_alike S T on on' m R _ _ (value_alike e)) (λ n. chosen_alike n xs ys h)
+  select_alike e xs ys h = then_same S T R (Same {A = Unit {0}}) _ _ _ _ (of_value_alike S T on on' m R selector_of _ _ (value_alike e)) (λ n. chosen_alike n xs ys h)
+
+  acted_alike : (o : Option (Statement × Option Args)) → DoAlike S T R (acted S on meant act call here o) (acted T on' meant act' call' here o)
+  acted_alike None = stop_alike S T R (Same {A = Unit {0}}) Broken
+  acted_alike (Some x) = acts here within x.0 _ _ (arguments_alike x.1)
 
   -- ---- trees
 
@@ -178,13 +183,7 @@ module _ (S T : Type 0) (on : Offers S) (on' : Offers T) (m : Path) (R : S → T
   keeps kind.stmt (Stmt-F.Repeat body test span) = repeat_alike S T R _ _ _ _ body.holds (bool_alike S T on on' m R _ _ (value_alike test))
   keeps kind.stmt (Stmt-F.Count x first dir last body span) = for_alike x first dir last _ _ body.holds
   keeps kind.stmt (Stmt-F.Case e cases semicolon span) = select_alike e _ _ (each_related CaseAlike cases)
-  keeps kind.stmt (Stmt-F.Init x b es span) = acts here within (Init x b) _ _ (arguments_alike es)
-  keeps kind.stmt (Stmt-F.Release x span) = acts here within (Release x) [] [] tt
-  keeps kind.stmt (Stmt-F.Connect p q span) = acts here within (Connect p q) [] [] tt
-  keeps kind.stmt (Stmt-F.Disconnect p span) = acts here within (Disconnect p) [] [] tt
-  keeps kind.stmt (Stmt-F.Attach p x q span) = acts here within (Attach p x q) [] [] tt
-  keeps kind.stmt (Stmt-F.Detach p span) = acts here within (Detach p) [] [] tt
-  keeps kind.stmt (Stmt-F.Output p n es span) = acts here within (Output p n) _ _ (arguments_alike es)
+  keeps kind.stmt l = acted_alike (statement_of l)
   keeps kind.branch l = (refl, l.body.holds)
   keeps kind.stmts l = all_alike S T R _ _ (each_related (DoAlike S T R) l.stmts)
 

@@ -7,6 +7,7 @@ use Rattle.pascal_values.specs.declared.value.Value.TheVariants as value
 use Rattle.pascal_values.specs.Values.{parts_of}
 use Rattle.estelle_tree.specs.Paths.{Path}
 use Rattle.estelle_model.specs.States.{Offers}
+use Rattle.estelle_model.specs.Stops.{Faults}
 use Rattle.estelle_model.specs.Steps.{Running, StepResult, ◌>>◌, pure, fail, spend}
 use Rattle.estelle_model.specs.declared.meaning.Routine.{Routine}
 use Rattle.estelle_model.specs.Meant.{Meanings, result_number}
@@ -15,7 +16,7 @@ use Rattle.estelle_model.specs.declared.place.ActualParameters.{ActualParameters
 use Rattle.estelle_model.specs.Statements.{Acts, stmts}
 use Rattle.estelle_model.specs.Calls.{Enters, call_by, frame_of, last_or, enter, leave, within, nested, max_depth}
 use Rattle.estelle_model.specs.Blocks.{given_values, from_block, block_step}
-use Rattle.estelle_model.proofs.Kept.{Has, IsClosed, CallKept, then_kept, pure_kept, fail_kept, spend_kept, seq_kept}
+use Rattle.estelle_model.proofs.Kept.{Has, IsClosed, CallKept, then_kept, pure_kept, stop_kept, spend_kept, seq_kept}
 use Rattle.estelle_model.proofs.KeptStatements.{ActKept, stmts_kept}
 use Rattle.estelle_model.proofs.ActsKept.{EntersKept}
 
@@ -39,7 +40,7 @@ module _ (S : Type 0) (on : Offers S) (Q : (A : Type 0) → Running S → StepRe
     entered_kept enters into depth p r g = within_kept enters depth p r g (acts enters into (record { path = p; frame = depth; references = g.references })) (call_by_kept enters into p)
 
     pub nested_kept : (n : ℕ) → EntersKept S Q (nested S on meant act n)
-    nested_kept zero before p r g x b = seq_kept S on Q closed Value spend (fail fault.CallDepth) (spend_kept S on Q closed) (fail_kept S on Q closed Value fault.CallDepth) x
+    nested_kept zero before p r g x b = seq_kept S on Q closed Value spend (fail fault.CallDepth) (spend_kept S on Q closed) (stop_kept S on Q closed Value (Faults fault.CallDepth)) x
     nested_kept (suc n) before p r g x b = closed.then (Unit {0}) Value x ((spend >> before) x) (λ u. within S on meant act (nested S on meant act n) (max_depth - n) p r g) b (λ u. entered_kept (nested S on meant act n) (nested_kept n) (max_depth - n) p r g)
 
     pub block_kept : (p : Path) (r : Routine) (vs : List Value) → Has Q (block_step S on meant act p r vs)

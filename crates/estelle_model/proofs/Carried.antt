@@ -2,13 +2,13 @@
 use Rattle.std.proofs.Common.{◌≡◌, ℕ, suc, ◌+◌, ◌-◌, ◌≤◌, ◌<◌, true, false, Bool, Result, Ok, Err, refl, sym, ap, subst, cond, arith}
 use Rattle.std.proofs.lemmas.Bool.{ltb-true}
 use Rattle.std.specs.Prelude.{nat_lt}
-use Rattle.pascal_values.specs.declared.fault.Fault.{Fault}
 use Rattle.pascal_values.specs.declared.fault.Fault.TheVariants.{StepLimit}
 use Rattle.estelle_tree.specs.Paths.{Path}
 use Rattle.estelle_model.specs.Core.{Core}
 use Rattle.estelle_model.specs.Effects.{StatementEffect, Change, core_after, core_kept}
 use Rattle.estelle_model.specs.Effects as effect
 use Rattle.estelle_model.specs.States.{Offers, IsFaithful}
+use Rattle.estelle_model.specs.Stops.{Stop, Faults}
 use Rattle.estelle_model.specs.Steps.{Running, StepResult, Step, and_then, checked_at, spend}
 use Rattle.estelle_model.specs.Plans.{Plan, Done, Fails, Reads, Spends, Makes, Keeps, ◌>>=◌, carry}
 use Rattle.estelle_model.proofs.Alike.{Same, RunningAlike, OutcomeAlike, spend_alike}
@@ -99,14 +99,14 @@ module _ (asks : Asks) (S T : Type 0) (on : Offers S) (on' : Offers T) (R : S �
     unfolding spend
     carried_alike Post (Done b) n s t r h = (refl, r, h)
     carried_alike Post (Fails e) n s t r h = ap (λ k. (e, k)) r.left
-    carried_alike Post (Reads {A} f k) n s t r h = subst (λ (x : Result A Fault). CarriedAlike Post (and_then (checked_at (f (on.core s.state)) s) (λ a. carry S on (k a))) (and_then (checked_at x t) (λ a. carry T on' (k a)))) (h.0 (on'.core t.state) (keeps.sees s.state t.state r.state)) (go (f (on.core s.state)) (λ a is. carried_alike Post (k a) n s t r (h.1 a is)))
+    carried_alike Post (Reads {A} f k) n s t r h = subst (λ (x : Result A Stop). CarriedAlike Post (and_then (checked_at (f (on.core s.state)) s) (λ a. carry S on (k a))) (and_then (checked_at x t) (λ a. carry T on' (k a)))) (h.0 (on'.core t.state) (keeps.sees s.state t.state r.state)) (go (f (on.core s.state)) (λ a is. carried_alike Post (k a) n s t r (h.1 a is)))
       where
-        go : (x : Result A Fault) → ((a : A) → x ≡ Ok a → CarriedAlike Post (carry S on (k a) s) (carry T on' (k a) t)) → CarriedAlike Post (and_then (checked_at x s) (λ a. carry S on (k a))) (and_then (checked_at x t) (λ a. carry T on' (k a)))
+        go : (x : Result A Stop) → ((a : A) → x ≡ Ok a → CarriedAlike Post (carry S on (k a) s) (carry T on' (k a) t)) → CarriedAlike Post (and_then (checked_at x s) (λ a. carry S on (k a))) (and_then (checked_at x t) (λ a. carry T on' (k a)))
         go (Ok a) i = i a refl
         go (Err e) i = ap (λ m. (e, m)) r.left
-    carried_alike Post (Spends p) n s t r h = subst (λ (k : ℕ). CarriedAlike Post (and_then (cond (nat_lt 0 s.left) (Ok (tt, record s { left = s.left - 1 })) (Err (StepLimit, s.left))) (λ taken. carry S on p)) (and_then (cond (nat_lt 0 k) (Ok (tt, record t { left = k - 1 })) (Err (StepLimit, k))) (λ taken. carry T on' p))) r.left (go (nat_lt 0 s.left) (carried_alike Post p (suc n) (record s { left = s.left - 1 }) (record t { left = s.left - 1 }) (record { state = r.state; frames = r.frames; left = refl }) h))
+    carried_alike Post (Spends p) n s t r h = subst (λ (k : ℕ). CarriedAlike Post (and_then (cond (nat_lt 0 s.left) (Ok (tt, record s { left = s.left - 1 })) (Err (Faults StepLimit, s.left))) (λ taken. carry S on p)) (and_then (cond (nat_lt 0 k) (Ok (tt, record t { left = k - 1 })) (Err (Faults StepLimit, k))) (λ taken. carry T on' p))) r.left (go (nat_lt 0 s.left) (carried_alike Post p (suc n) (record s { left = s.left - 1 }) (record t { left = s.left - 1 }) (record { state = r.state; frames = r.frames; left = refl }) h))
       where
-        go : (b : Bool) → CarriedAlike Post (carry S on p (record s { left = s.left - 1 })) (carry T on' p (record t { left = s.left - 1 })) → CarriedAlike Post (and_then (cond b (Ok (tt {0}, record s { left = s.left - 1 })) (Err (StepLimit, s.left))) (λ taken. carry S on p)) (and_then (cond b (Ok (tt {0}, record t { left = s.left - 1 })) (Err (StepLimit, s.left))) (λ taken. carry T on' p))
+        go : (b : Bool) → CarriedAlike Post (carry S on p (record s { left = s.left - 1 })) (carry T on' p (record t { left = s.left - 1 })) → CarriedAlike Post (and_then (cond b (Ok (tt {0}, record s { left = s.left - 1 })) (Err (Faults StepLimit, s.left))) (λ taken. carry S on p)) (and_then (cond b (Ok (tt {0}, record t { left = s.left - 1 })) (Err (Faults StepLimit, s.left))) (λ taken. carry T on' p))
         go true i = i
         go false i = refl
     carried_alike Post (Makes e p) n s t r h =
@@ -142,12 +142,12 @@ module _ (asks : Asks) (S : Type 0) (on : Offers S) (K : ℕ → Running S → T
     carried_holds Post (Fails e) n s k h = tt
     carried_holds Post (Reads {A} f g) n s k h = go (f (on.core s.state)) (λ a is. carried_holds Post (g a) n s k (h.1 a is))
       where
-        go : (x : Result A Fault) → ((a : A) → x ≡ Ok a → Holding Post (carry S on (g a) s)) → Holding Post (and_then (checked_at x s) (λ a. carry S on (g a)))
+        go : (x : Result A Stop) → ((a : A) → x ≡ Ok a → Holding Post (carry S on (g a) s)) → Holding Post (and_then (checked_at x s) (λ a. carry S on (g a)))
         go (Ok a) i = i a refl
         go (Err e) i = tt
     carried_holds Post (Spends p) n s k h = go (nat_lt 0 s.left) refl (λ some. carried_holds Post p (suc n) (record s { left = s.left - 1 }) (keeps.spends n s k some) h)
       where
-        go : (b : Bool) → nat_lt 0 s.left ≡ b → (0 < s.left → Holding Post (carry S on p (record s { left = s.left - 1 }))) → Holding Post (and_then (cond b (Ok (tt {0}, record s { left = s.left - 1 })) (Err (StepLimit, s.left))) (λ taken. carry S on p))
+        go : (b : Bool) → nat_lt 0 s.left ≡ b → (0 < s.left → Holding Post (carry S on p (record s { left = s.left - 1 }))) → Holding Post (and_then (cond b (Ok (tt {0}, record s { left = s.left - 1 })) (Err (Faults StepLimit, s.left))) (λ taken. carry S on p))
         go true is i = i (ltb-true 0 s.left is)
         go false is i = tt
     carried_holds Post (Makes e p) n s k h =

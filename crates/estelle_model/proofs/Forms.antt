@@ -2,7 +2,7 @@
 use Rattle.std.proofs.Common.{◌≡◌, ℕ, false, List, [], map, ℤ, Some, None, ap, ◌∙◌}
 use Rattle.pascal_values.specs.declared.value.Value.{Value}
 use Rattle.pascal_values.specs.declared.value.Value.TheVariants as pascal
-use Rattle.estelle_tree.specs.declared.tree.type_expr.Sign.{Sign}
+use Rattle.estelle_tree.specs.declared.tree.type_expr.Sign.TheVariants as sign
 use Rattle.estelle_tree.specs.declared.tree.expression.Relation.{Relation}
 use Rattle.estelle_tree.specs.declared.tree.expression.Adding.{Adding}
 use Rattle.estelle_tree.specs.declared.tree.expression.Multiplying.{Multiplying}
@@ -21,7 +21,7 @@ use Rattle.estelle_model.specs.States.{Offers}
 use Rattle.estelle_model.specs.Steps.{Step, Do, ◌>>=◌, pure, checked, all}
 use Rattle.estelle_model.specs.Meant.{Meanings}
 use Rattle.estelle_model.specs.declared.place.Environment.{Environment}
-use Rattle.estelle_model.specs.Expressions.{Call, Operand, Written, computed, multiplied, multiplied_host, added, added_host, both, valued, designated, assigned, accessed, indexed, bool_step, ordinal_step, member_step, set_step, expr, args, elem, term, factor, variable, selector, target}
+use Rattle.estelle_model.specs.Expressions.{Call, Operand, Written, computed, multiplied, multiplied_host, added, added_host, both, valued, designated, assigned, accessed, indexed, bool_step, selector_step, member_step, set_step, expr, args, elem, term, factor, variable, selector, target}
 use Rattle.estelle_model.specs.Loops.{while_loop}
 use Rattle.estelle_model.specs.Statements.{Acts, assign_to, invoke_of, count_over, chosen, stmt, branch, stmts, assign, invoke, count, select}
 use Rattle.estelle_model.proofs.ExpressionEquations.{factor_made, selector_made, args_made, elem_made, expr_made, simple_made, term_made, variable_made}
@@ -76,11 +76,11 @@ module _ (S : Type 0) (on : Offers S) (meant : Meanings) (call : Call S) (here :
   relation_is f op g = simp (expr_made, simple_made, term_made)
 
   -- a sign applies to the whole first term
-  pub signed_is : (sign : Sign) (f : Factor) (op : Multiplying) (g : Factor) → mean (tree.signed_product sign f op g) ≡ computed host.Integer (multiplied op (mean_factor f).value (mean_factor g).value >>= λ v. checked (signed sign v))
-  signed_is sign f op g = simp (expr_made, simple_made, term_made)
+  pub minus_is : (f : Factor) (op : Multiplying) (g : Factor) → mean (tree.signed_product sign.Minus f op g) ≡ computed host.Integer (multiplied op (mean_factor f).value (mean_factor g).value >>= λ v. checked (signed sign.Minus v))
+  minus_is f op g = simp (expr_made, simple_made, term_made)
 
-  pub signed_alone_is : (sign : Sign) (f : Factor) → mean (tree.signed_alone sign f) ≡ computed host.Integer ((mean_factor f).value >>= λ v. checked (signed sign v))
-  signed_alone_is sign f = simp (expr_made, simple_made, term_made)
+  pub minus_alone_is : (f : Factor) → mean (tree.signed_alone sign.Minus f) ≡ computed host.Integer ((mean_factor f).value >>= λ v. checked (signed sign.Minus v))
+  minus_alone_is f = simp (expr_made, simple_made, term_made)
 
   pub range_is : (a b : Expr) → elem S on meant call here (tree.member a (Some b)) ≡ member_step (mean a) (Some (mean b))
   range_is a b = elem_made S on meant call here (record { first = a; last = Some b; span = tree.nowhere })
@@ -116,11 +116,11 @@ module _ (S : Type 0) (on : Offers S) (meant : Meanings) (act : Acts S) (call : 
   pub while_is : (e : Expr) (p : Stmt) → run (tree.while e p) ≡ while_loop (bool_step (value_of e)) (run p)
   while_is e p = stmt_made S on meant act call here (Stmt-F.While e p tree.nowhere)
 
-  pub for_is : (x : ℕ) (first : Expr) (dir : Direction) (last : Expr) (p : Stmt) → run (tree.for x first dir last p) ≡ count_over S on meant act call here (accessed S on meant call here (meant (tree.name x)) []) (ordinal_step (value_of first)) dir (ordinal_step (value_of last)) (run p)
+  pub for_is : (x : ℕ) (first : Expr) (dir : Direction) (last : Expr) (p : Stmt) → run (tree.for x first dir last p) ≡ count_over S on meant act call here (accessed S on meant call here (meant (tree.name x)) []) (value_of first) dir (value_of last) (run p)
   unfolding count
   for_is x first dir last p = stmt_made S on meant act call here (Stmt-F.Count (tree.name x) first dir last p tree.nowhere)
 
-  pub case_is : (e : Expr) (cases : List Case) → run (tree.case_of e cases) ≡ (ordinal_step (value_of e) >>= λ n. chosen meant n (map (branch S on meant act call here) cases))
+  pub case_is : (e : Expr) (cases : List Case) → run (tree.case_of e cases) ≡ (selector_step (value_of e) >>= λ n. chosen meant n (map (branch S on meant act call here) cases))
   unfolding select
   case_is e cases = stmt_made S on meant act call here (Stmt-F.Case e cases false tree.nowhere)
 

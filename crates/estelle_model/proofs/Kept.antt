@@ -3,29 +3,27 @@
 use Rattle.std.proofs.Common.{ℕ, Bool, true, false, List, [], ◌∷◌, ◌++◌, map, ℤ, Result, Ok, Err, Option, Some, None, cond}
 use Rattle.std.specs.Prelude.{slice_get, ℤ}
 use Rattle.std.specs.FinMap as fin
-use Rattle.pascal_values.specs.declared.fault.Fault.{Fault}
-use Rattle.pascal_values.specs.declared.fault.Fault.TheVariants.{Unset}
 use Rattle.pascal_values.specs.declared.value.Value.{Value}
 use Rattle.pascal_values.specs.declared.value.Value.TheVariants as pascal
 use Rattle.pascal_values.specs.Values.{changed_at, with_part}
 use Rattle.pascal_values.specs.Sets.{union}
-use Rattle.pascal_values.specs.Shapes.{fit_of}
 use Rattle.estelle_tree.specs.declared.tree.expression.Adding.{Adding}
 use Rattle.estelle_tree.specs.declared.tree.expression.Adding.TheVariants as adding
 use Rattle.estelle_tree.specs.declared.tree.expression.Multiplying.{Multiplying}
 use Rattle.estelle_tree.specs.declared.tree.expression.Multiplying.TheVariants as multiplying
 use Rattle.estelle_tree.proofs.Folds.{Related}
 use Rattle.estelle_model.specs.declared.denoter.Denoter.{Denoter}
-use Rattle.estelle_model.specs.Types.{ordinal_of, shape_of, host_of, value_in}
+use Rattle.estelle_model.specs.Types.{ordinal_of, shape_of, host_of, value_in, assignable}
 use Rattle.estelle_model.specs.Operators.{bool_of, plus, minus, times, divided, modulo, one_member, members_from}
 use Rattle.estelle_model.specs.States.{Offers}
-use Rattle.estelle_model.specs.Steps.{Running, StepResult, Step, Do, and_then, ◌>>=◌, ◌>>◌, pure, fail, checked, all, spend}
+use Rattle.estelle_model.specs.Stops.{Stop, Broken, stopping}
+use Rattle.estelle_model.specs.Steps.{Running, StepResult, Step, Do, and_then, ◌>>=◌, ◌>>◌, pure, checked, all, spend, stop}
 use Rattle.estelle_model.specs.declared.meaning.Routine.{Routine}
 use Rattle.estelle_model.specs.declared.meaning.Passing.{Passing}
 use Rattle.estelle_model.specs.declared.meaning.Passing.TheVariants.{ByValue, ByPlace}
 use Rattle.estelle_model.specs.declared.place.Place.{Place}
 use Rattle.estelle_model.specs.declared.place.Place.TheVariants.{Of, In}
-use Rattle.estelle_model.specs.Places.{known, held, held_in, module_variables_of, load, put, put_in_instance, store, store_ordinal, child_step}
+use Rattle.estelle_model.specs.Places.{known, blanked, held, held_in, held_step, module_variables_of, load, put, put_in_instance, store, store_ordinal, blank_there, blank_at, child_step}
 use Rattle.estelle_model.specs.declared.place.ActualParameters.{ActualParameters}
 use Rattle.estelle_model.specs.Expressions.{Call, Operand, Access, Selecting, bool_step, ordinal_step, both, conjunction, disjunction, multiplied, added, place_of_operand, give, give_all, member_step, set_step}
 
@@ -55,7 +53,7 @@ Has {S} {A} Q p = (s : Running S) → Q A s (p s)
 pub record IsClosed (S : Type 0) (on : Offers S) (Q : (A : Type 0) → Running S → StepResult S A → Type 0) : Type 1 where
   pub then : (A B : Type 0) (s : Running S) (o : StepResult S A) (f : A → Step S B) → Q A s o → ((a : A) → Has Q (f a)) → Q B s (and_then o f)
   pub pure : (A : Type 0) (a : A) → Has {S = S} {A = A} Q (pure a)
-  pub fail : (A : Type 0) (f : Fault) → Has {S = S} {A = A} Q (fail f)
+  pub stop : (A : Type 0) (e : Stop) → Has {S = S} {A = A} Q (stop e)
   pub spend : Has {S = S} {A = Unit {0}} Q spend
   -- frames may change
   pub framed : (A : Type 0) (f : List Value → A × List Value) → Has {S = S} {A = A} Q (λ s. Ok ((f s.frames).0, record s { frames = (f s.frames).1 }))
@@ -69,18 +67,18 @@ module _ (S : Type 0) (on : Offers S) (Q : (A : Type 0) → Running S → StepRe
   pub pure_kept : (A : Type 0) (a : A) → Has {A = A} Q (pure a)
   pure_kept A a = closed.pure A a
 
-  pub fail_kept : (A : Type 0) (f : Fault) → Has {A = A} Q (fail f)
-  fail_kept A f = closed.fail A f
+  pub stop_kept : (A : Type 0) (e : Stop) → Has {A = A} Q (stop e)
+  stop_kept A e = closed.stop A e
 
   pub spend_kept : Has {A = Unit {0}} Q spend
   spend_kept = closed.spend
 
-  pub checked_kept : (A : Type 0) (x : Result A Fault) → Has {A = A} Q (checked x)
+  pub checked_kept : (A : Type 0) (x : Result A Stop) → Has {A = A} Q (checked x)
   checked_kept A (Ok a) = closed.pure A a
-  checked_kept A (Err f) = closed.fail A f
+  checked_kept A (Err e) = closed.stop A e
 
-  -- what is read of the state, or its fault
-  pub read_kept : (A : Type 0) (f : Running S → Result A Fault) → Has {A = A} Q (λ s. checked (f s) s)
+  -- what is read of the state, or what stops it
+  pub read_kept : (A : Type 0) (f : Running S → Result A Stop) → Has {A = A} Q (λ s. checked (f s) s)
   read_kept A f s = checked_kept A (f s) s
 
   pub if_kept : (A : Type 0) (b : Bool) (p q : Step S A) → Has Q p → Has Q q → Has Q (cond b p q)
@@ -109,10 +107,10 @@ module _ (S : Type 0) (on : Offers S) (Q : (A : Type 0) → Running S → StepRe
   abbrev pub CallKept : Call S → Type 0
   CallKept call = (r : Routine) (g : ActualParameters) → Has Q (call r g)
 
-  pub of_value_kept : (A : Type 0) (f : Value → Result A Fault) (p : Step S Value) → Has Q p → Has Q (p >>= λ v. checked (f v))
+  pub of_value_kept : (A : Type 0) (f : Value → Result A Stop) (p : Step S Value) → Has Q p → Has Q (p >>= λ v. checked (f v))
   of_value_kept A f p h = then_kept Value A p (λ v. checked (f v)) h (λ v. checked_kept A (f v))
 
-  pub both_kept : (f : Value → Value → Result Value Fault) (p q : Step S Value) → Has Q p → Has Q q → Has Q (both f p q)
+  pub both_kept : (f : Value → Value → Result Value Stop) (p q : Step S Value) → Has Q p → Has Q q → Has Q (both f p q)
   both_kept f p q h k = then_kept Value Value p (λ v. q >>= λ w. checked (f v w)) h (λ v. of_value_kept Value (f v) q k)
 
   bool_value_kept : (q : Step S Value) → Has Q q → Has Q (bool_step q >>= λ c. pure (pascal.Bool c))
@@ -140,18 +138,18 @@ module _ (S : Type 0) (on : Offers S) (Q : (A : Type 0) → Running S → StepRe
   added_kept adding.Or p q h k = disjunction_kept p q h k
 
   place_of_kept : (o : Option (Step S Place)) → IfThere (Has {A = Place} Q) o → Has Q (place_of_operand o)
-  place_of_kept None h = fail_kept Place Unset
+  place_of_kept None h = stop_kept Place Broken
   place_of_kept (Some p) h = h
 
   give_kept : (p : Passing) (e : Operand S) (g : ActualParameters) → OperandKept e → Has Q (give p e g)
-  give_kept (ByValue t) e g h = then_kept Value ActualParameters e.value (λ v. checked (fit_of (shape_of t) v) >>= λ ok. pure (record g { values = g.values ++ v ∷ [] })) h.value
-      (λ v. then_kept (Unit {0}) ActualParameters (checked (fit_of (shape_of t) v)) (λ ok. pure (record g { values = g.values ++ v ∷ [] })) (checked_kept (Unit {0}) (fit_of (shape_of t) v)) (λ ok. pure_kept ActualParameters (record g { values = g.values ++ v ∷ [] })))
+  give_kept (ByValue t) e g h = then_kept Value ActualParameters e.value (λ v. checked (stopping (assignable (shape_of t) v)) >>= λ ok. pure (record g { values = g.values ++ v ∷ [] })) h.value
+      (λ v. then_kept (Unit {0}) ActualParameters (checked (stopping (assignable (shape_of t) v))) (λ ok. pure (record g { values = g.values ++ v ∷ [] })) (checked_kept (Unit {0}) (stopping (assignable (shape_of t) v))) (λ ok. pure_kept ActualParameters (record g { values = g.values ++ v ∷ [] })))
   give_kept ByPlace e g h = then_kept Place ActualParameters (place_of_operand e.place) (λ p. pure (record g { references = g.references ++ p ∷ [] })) (place_of_kept e.place h.place) (λ p. pure_kept ActualParameters (record g { references = g.references ++ p ∷ [] }))
 
   pub give_all_kept : (ps : List Passing) (es : List (Operand S)) (g : ActualParameters) → Each OperandKept es → Has Q (give_all ps es g)
   give_all_kept [] [] g h = pure_kept ActualParameters g
-  give_all_kept [] (e ∷ es) g h = fail_kept ActualParameters Unset
-  give_all_kept (p ∷ ps) [] g h = fail_kept ActualParameters Unset
+  give_all_kept [] (e ∷ es) g h = stop_kept ActualParameters Broken
+  give_all_kept (p ∷ ps) [] g h = stop_kept ActualParameters Broken
   give_all_kept (p ∷ ps) (e ∷ es) g h = then_kept ActualParameters ActualParameters (give p e g) (λ k. give_all ps es k) (give_kept p e g h.0) (λ k. give_all_kept ps es k h.1)
 
   pub member_kept : (e : Operand S) (o : Option (Operand S)) → OperandKept e → IfThere OperandKept o → Has Q (member_step e o)
@@ -169,6 +167,9 @@ module _ (S : Type 0) (on : Offers S) (Q : (A : Type 0) → Running S → StepRe
   unfolding load
   load_kept a = read_kept Value (λ s. known (held S on a s))
 
+  held_kept : (a : Place) → Has {A = Option Value} Q (held_step S on a)
+  held_kept a = read_kept (Option Value) (λ s. held S on a s)
+
   pub put_kept : (a : Place) (v : Value) → Has {A = Unit {0}} Q (put S on a v)
   unfolding put
   put_kept (Of p x way) v = closed.stored p x way v
@@ -176,7 +177,16 @@ module _ (S : Type 0) (on : Offers S) (Q : (A : Type 0) → Running S → StepRe
 
   pub store_kept : (d : Denoter) (a : Place) (v : Value) → Has {A = Unit {0}} Q (store S on d a v)
   unfolding store
-  store_kept d a v = seq_kept (Unit {0}) (checked (fit_of (shape_of d) v)) (put S on a v) (checked_kept (Unit {0}) (fit_of (shape_of d) v)) (put_kept a v)
+  store_kept d a v = seq_kept (Unit {0}) (held_step S on a >> checked (stopping (assignable (shape_of d) v))) (put S on a v)
+      (then_kept (Option Value) (Unit {0}) (held_step S on a) (λ o. checked (stopping (assignable (shape_of d) v))) (held_kept a) (λ o. checked_kept (Unit {0}) (stopping (assignable (shape_of d) v)))) (put_kept a v)
+
+  blank_there_kept : (a : Place) (o : Option Value) → Has {A = Unit {0}} Q (blank_there S on a o)
+  blank_there_kept a None = stop_kept (Unit {0}) Broken
+  blank_there_kept a (Some v) = put_kept a (blanked v)
+
+  pub blank_kept : (a : Place) → Has {A = Unit {0}} Q (blank_at S on a)
+  unfolding blank_at
+  blank_kept a = then_kept (Option Value) (Unit {0}) (held_step S on a) (blank_there S on a) (held_kept a) (blank_there_kept a)
 
   pub store_ordinal_kept : (d : Denoter) (a : Place) (n : ℤ) → Has {A = Unit {0}} Q (store_ordinal S on d a n)
   unfolding store_ordinal

@@ -1,13 +1,12 @@
 -- What each step keeps every expression keeps, where every call does.
 use Rattle.std.proofs.Common.{ℕ, List, [], ◌∷◌, map, ℤ, Option, Some, None}
 use Rattle.std.specs.Prelude.{slice_get}
-use Rattle.pascal_values.specs.declared.fault.Fault.TheVariants.{Unset}
 use Rattle.pascal_values.specs.declared.value.Value.{Value}
 use Rattle.pascal_values.specs.declared.value.Value.TheVariants as pascal
-use Rattle.pascal_values.specs.Shapes.{place_of}
 use Rattle.estelle_tree.specs.declared.span.Span.{Span}
 use Rattle.estelle_tree.specs.declared.tree.name.Name.{Name}
 use Rattle.estelle_tree.specs.declared.tree.type_expr.Sign.{Sign}
+use Rattle.estelle_tree.specs.declared.tree.type_expr.Sign.TheVariants as sign
 use Rattle.estelle_tree.specs.declared.tree.expression.Relation.{Relation}
 use Rattle.estelle_tree.specs.declared.tree.expression.Adding.{Adding}
 use Rattle.estelle_tree.specs.declared.tree.expression.Multiplying.{Multiplying}
@@ -18,12 +17,13 @@ use Rattle.estelle_tree.specs.declared.tree.expression.Factor.TheOpen.{Factor-F,
 use Rattle.estelle_tree.proofs.Folds.{Related, Pairs, KeepsAt, folds_related}
 use Rattle.estelle_tree.proofs.ExpressionFolds as kind
 use Rattle.estelle_tree.proofs.ExpressionFolds.{Kind, Layer, expressions}
-use Rattle.estelle_model.specs.Types.{ordinal_of, bounds_of}
+use Rattle.estelle_model.specs.Types.{ordinal_of, item_place}
 use Rattle.estelle_tree.specs.declared.required.Required.{Required}
 use Rattle.estelle_model.specs.Operators.{negation, signed, related, required_value}
 use Rattle.estelle_tree.specs.Paths.{Path}
 use Rattle.estelle_model.specs.States.{Offers}
-use Rattle.estelle_model.specs.Steps.{Step, Running, StepResult, ◌>>=◌, pure, checked}
+use Rattle.estelle_model.specs.Stops.{Broken}
+use Rattle.estelle_model.specs.Steps.{Step, Running, StepResult, ◌>>=◌, pure, checked, breaks}
 use Rattle.estelle_model.specs.declared.meaning.Routine.{Routine}
 use Rattle.estelle_model.specs.declared.meaning.Meaning.{Meaning}
 use Rattle.estelle_model.specs.declared.meaning.Meaning.TheVariants.{Constant, Own, Exported, Local, Var, Field, Called, RequiredFunction, Module}
@@ -34,7 +34,7 @@ use Rattle.estelle_model.specs.Places.{deeper, set_value, load, child_step}
 use Rattle.estelle_model.specs.declared.place.Environment.{Environment}
 use Rattle.estelle_model.specs.declared.place.ActualParameters.{ActualParameters}
 use Rattle.estelle_model.specs.Expressions.{Call, Operand, Access, Selecting, Written, ordinal_step, multiplied, multiplied_host, added, added_host, computed, give_all, no_arguments, reference_at, index_step, indexed, fielded, selected, exported, behind_dot, behind_module, accessed, of_access, called, valued, required_of, designated, term_of, with_sign, simple_of, factor, selector, args, elem, expr, simple, term, variable}
-use Rattle.estelle_model.proofs.Kept.{Each, IfThere, each_has, each_marked_has, Has, IsClosed, OperandKept, AccessKept, SelectingKept, CallKept, then_kept, pure_kept, fail_kept, checked_kept, of_value_kept, both_kept, multiplied_kept, added_kept, give_all_kept, member_kept, set_kept, load_kept, child_kept}
+use Rattle.estelle_model.proofs.Kept.{Each, IfThere, each_has, each_marked_has, Has, IsClosed, OperandKept, AccessKept, SelectingKept, CallKept, then_kept, pure_kept, stop_kept, checked_kept, of_value_kept, both_kept, multiplied_kept, added_kept, give_all_kept, member_kept, set_kept, load_kept, child_kept}
 use Rattle.estelle_model.proofs.ExpressionEquations.{Results, layers}
 
 module _ (S : Type 0) (on : Offers S) (Q : (A : Type 0) → Running S → StepResult S A → Type 0) (closed : IsClosed S on Q) (meant : Meanings) (call : Call S) (calls : CallKept S on Q closed call) (here : Environment) where
@@ -48,9 +48,9 @@ module _ (S : Type 0) (on : Offers S) (Q : (A : Type 0) → Running S → StepRe
   place_kept p = pure_kept S on Q closed Place p
 
   index_kept : (a : Access S) (e : Operand S) → AccessKept S on Q closed a → ON e → Has Q (index_step S on meant call here a e)
-  index_kept a e h k = then_kept S on Q closed Place Place a.place (λ p. ordinal_step e.value >>= λ n. checked (place_of (bounds_of a.denoter).0 (bounds_of a.denoter).1 n) >>= λ j. pure (deeper p j)) h
-      (λ p. then_kept S on Q closed ℤ Place (ordinal_step e.value) (λ n. checked (place_of (bounds_of a.denoter).0 (bounds_of a.denoter).1 n) >>= λ j. pure (deeper p j)) (of_value_kept S on Q closed ℤ ordinal_of e.value k.value)
-      (λ n. then_kept S on Q closed ℕ Place (checked (place_of (bounds_of a.denoter).0 (bounds_of a.denoter).1 n)) (λ j. pure (deeper p j)) (checked_kept S on Q closed ℕ (place_of (bounds_of a.denoter).0 (bounds_of a.denoter).1 n)) (λ j. place_kept (deeper p j))))
+  index_kept a e h k = then_kept S on Q closed Place Place a.place (λ p. ordinal_step e.value >>= λ n. checked (item_place a.denoter n) >>= λ j. pure (deeper p j)) h
+      (λ p. then_kept S on Q closed ℤ Place (ordinal_step e.value) (λ n. checked (item_place a.denoter n) >>= λ j. pure (deeper p j)) (of_value_kept S on Q closed ℤ ordinal_of e.value k.value)
+      (λ n. then_kept S on Q closed ℕ Place (checked (item_place a.denoter n)) (λ j. pure (deeper p j)) (checked_kept S on Q closed ℕ (item_place a.denoter n)) (λ j. place_kept (deeper p j))))
 
   indexed_kept : (es : List (Operand S)) (a : Access S) → Each ON es → AccessKept S on Q closed a → AccessKept S on Q closed (indexed S on meant call here es a)
   indexed_kept [] a h k = k
@@ -58,7 +58,7 @@ module _ (S : Type 0) (on : Offers S) (Q : (A : Type 0) → Running S → StepRe
 
   fielded_kept : (x : Meaning) (a : Access S) → AccessKept S on Q closed a → AccessKept S on Q closed (fielded S on meant call here x a)
   fielded_kept (Field k) a h = then_kept S on Q closed Place Place a.place (λ p. pure (deeper p k)) h (λ p. place_kept (deeper p k))
-  fielded_kept _ a h = h
+  fielded_kept _ a h = then_kept S on Q closed Place Place a.place (λ p. breaks) h (λ p. stop_kept S on Q closed Place Broken)
 
   selected_kept : (xs : List (Selecting S)) (a : Access S) → Each (SelectingKept S on Q closed) xs → AccessKept S on Q closed a → AccessKept S on Q closed (selected S on meant call here xs a)
   selected_kept [] a h k = k
@@ -86,7 +86,7 @@ module _ (S : Type 0) (on : Offers S) (Q : (A : Type 0) → Running S → StepRe
   accessed_kept _ xs h = tt
 
   of_access_kept : (o : Option (Access S)) → IfThere (AccessKept S on Q closed) o → ON (of_access S on meant call here o)
-  of_access_kept None h = record { value = fail_kept S on Q closed Value Unset; place = tt }
+  of_access_kept None h = record { value = stop_kept S on Q closed Value Broken; place = tt }
   of_access_kept (Some a) h = record { value = then_kept S on Q closed Place Value a.place (λ p. load S on p) h (λ p. load_kept S on Q closed p); place = h }
 
   called_kept : (r : Routine) (es : List (Operand S)) → Each ON es → Has Q (called S on meant call here r es)
@@ -105,14 +105,14 @@ module _ (S : Type 0) (on : Offers S) (Q : (A : Type 0) → Running S → StepRe
   valued_kept _ xs k = of_access_kept None tt
 
   required_kept : (f : Required) (es : List (Operand S)) → Each ON es → ON (required_of S on meant call here f es)
-  required_kept f [] h = record { value = fail_kept S on Q closed Value Unset; place = tt }
+  required_kept f [] h = record { value = stop_kept S on Q closed Value Broken; place = tt }
   required_kept f (a ∷ []) h = record { value = of_value_kept S on Q closed Value (λ v. required_value f a.host v) a.value h.0.value; place = tt }
-  required_kept f (a ∷ (b ∷ more)) h = record { value = fail_kept S on Q closed Value Unset; place = tt }
+  required_kept f (a ∷ (b ∷ more)) h = record { value = stop_kept S on Q closed Value Broken; place = tt }
 
   designated_kept : (x : Meaning) (es : List (Operand S)) → Each ON es → ON (designated S on meant call here x es)
   designated_kept (Called r) es h = record { value = called_kept r es h; place = tt }
   designated_kept (RequiredFunction f) es h = required_kept f es h
-  designated_kept _ es h = record { value = fail_kept S on Q closed Value Unset; place = tt }
+  designated_kept _ es h = record { value = stop_kept S on Q closed Value Broken; place = tt }
 
   term_of_kept : (e : Operand S) (xs : List (Multiplying × Operand S)) → ON e → Each (λ (x : Multiplying × Operand S). ON x.1) xs → ON (term_of S on meant call here e xs)
   term_of_kept e [] h k = h
@@ -124,7 +124,8 @@ module _ (S : Type 0) (on : Offers S) (Q : (A : Type 0) → Running S → StepRe
 
   with_sign_kept : (sign : Option Sign) (e : Operand S) → ON e → ON (with_sign S on meant call here sign e)
   with_sign_kept None e h = h
-  with_sign_kept (Some sign) e h = record { value = of_value_kept S on Q closed Value (λ v. signed sign v) e.value h.value; place = tt }
+  with_sign_kept (Some sign.Plus) e h = record { value = h.value; place = tt }
+  with_sign_kept (Some sign.Minus) e h = record { value = of_value_kept S on Q closed Value (signed sign.Minus) e.value h.value; place = tt }
 
   -- ---- trees
 

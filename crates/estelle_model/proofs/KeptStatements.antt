@@ -2,7 +2,6 @@
 use Rattle.std.proofs.Common.{ℕ, zero, suc, Bool, List, [], ◌∷◌, map, ℤ, Option, Some, None, cond}
 use Rattle.pascal_values.specs.declared.fault.Fault.TheVariants as fault
 use Rattle.pascal_values.specs.declared.value.Value.{Value}
-use Rattle.pascal_values.specs.declared.value.Value.TheVariants as pascal
 use Rattle.estelle_tree.specs.declared.tree.name.Name.{Name}
 use Rattle.estelle_tree.specs.declared.tree.type_expr.Const.{Const}
 use Rattle.estelle_tree.specs.declared.tree.expression.Expr.{Expr}
@@ -16,9 +15,11 @@ use Rattle.estelle_tree.proofs.Folds.{Related, Pairs, KeepsAt, folds_related}
 use Rattle.estelle_tree.proofs.StatementFolds as kind
 use Rattle.estelle_tree.proofs.StatementFolds.{Kind, Layer, statements}
 use Rattle.estelle_model.specs.declared.denoter.Denoter.{Denoter}
-use Rattle.estelle_model.specs.Types.{ordinal_of}
+use Rattle.estelle_model.specs.declared.denoter.Host.{Host}
+use Rattle.estelle_model.specs.Types.{host_of}
 use Rattle.estelle_model.specs.Operators.{bool_of}
 use Rattle.estelle_model.specs.States.{Offers}
+use Rattle.estelle_model.specs.Stops.{Faults, Broken}
 use Rattle.estelle_model.specs.Steps.{Running, StepResult, Step, Do, ◌>>=◌, ◌>>◌, pure, fail, spend}
 use Rattle.estelle_model.specs.declared.meaning.Routine.{Routine}
 use Rattle.estelle_model.specs.declared.meaning.Meaning.{Meaning}
@@ -26,13 +27,13 @@ use Rattle.estelle_model.specs.declared.meaning.Meaning.TheVariants.{Called}
 use Rattle.estelle_model.specs.Meant.{Meanings, result_number}
 use Rattle.estelle_model.specs.declared.place.Place.{Place}
 use Rattle.estelle_model.specs.declared.place.Place.TheVariants.{In}
-use Rattle.estelle_model.specs.Places.{put, store, store_ordinal}
+use Rattle.estelle_model.specs.Places.{blank_at, store, store_ordinal}
 use Rattle.estelle_model.specs.declared.place.Environment.{Environment}
 use Rattle.estelle_model.specs.declared.place.ActualParameters.{ActualParameters}
-use Rattle.estelle_model.specs.Expressions.{Call, Operand, Access, Selecting, bool_step, ordinal_step, give_all, no_arguments, accessed, result_of, assigned, target, variable}
+use Rattle.estelle_model.specs.Expressions.{Call, Operand, Access, Selecting, bool_step, bound_of, bound_step, selector_of, selector_step, give_all, no_arguments, accessed, result_of, assigned, target, variable}
 use Rattle.estelle_model.specs.Loops.{while_turns, repeat_turns, while_loop, repeat_loop, next_of, turns_of, count_turns, count_loop}
-use Rattle.estelle_model.specs.Statements.{Statement, Acts, Init, Release, Connect, Disconnect, Attach, Detach, Output, is_labelled, chosen, or_nothing, value_of_expr, arguments, assign_to, assign, invoke_of, invoke, choose, count_over, count, select, stmt, branch, stmts}
-use Rattle.estelle_model.proofs.Kept.{Each, IfThere, each_has, Has, IsClosed, OperandKept, AccessKept, SelectingKept, CallKept, then_kept, pure_kept, fail_kept, if_kept, seq_kept, all_kept, spend_kept, of_value_kept, give_all_kept, put_kept, store_kept, store_ordinal_kept}
+use Rattle.estelle_model.specs.Statements.{Statement, statement_of, Acts, is_labelled, chosen, or_nothing, value_of_expr, arguments, assign_to, assign, invoke_of, invoke, choose, count_over, count, select, acted, stmt, branch, stmts}
+use Rattle.estelle_model.proofs.Kept.{Each, IfThere, each_has, Has, IsClosed, OperandKept, AccessKept, SelectingKept, CallKept, then_kept, pure_kept, stop_kept, if_kept, seq_kept, all_kept, spend_kept, of_value_kept, give_all_kept, blank_kept, store_kept, store_ordinal_kept}
 use Rattle.estelle_model.proofs.KeptExpressions.{accessed_kept, args_kept, expr_kept, variable_kept}
 use Rattle.estelle_model.proofs.StatementEquations.{Results, layers}
 
@@ -40,7 +41,7 @@ use Rattle.estelle_model.proofs.StatementEquations.{Results, layers}
 
 module _ (S : Type 0) (on : Offers S) (Q : (A : Type 0) → Running S → StepResult S A → Type 0) (closed : IsClosed S on Q) where
   turns_kept : (n : ℕ) (p : Step S Bool) (b : Do S) → Has Q p → Has Q b → Has Q (while_turns n p b)
-  turns_kept zero p b h k = then_kept S on Q closed Bool (Unit {0}) p (λ again. cond again (fail fault.StepLimit) (pure tt)) h (λ again. if_kept S on Q closed (Unit {0}) again (fail fault.StepLimit) (pure tt) (fail_kept S on Q closed (Unit {0}) fault.StepLimit) (pure_kept S on Q closed (Unit {0}) tt))
+  turns_kept zero p b h k = then_kept S on Q closed Bool (Unit {0}) p (λ again. cond again (fail fault.StepLimit) (pure tt)) h (λ again. if_kept S on Q closed (Unit {0}) again (fail fault.StepLimit) (pure tt) (stop_kept S on Q closed (Unit {0}) (Faults fault.StepLimit)) (pure_kept S on Q closed (Unit {0}) tt))
   turns_kept (suc n) p b h k = then_kept S on Q closed Bool (Unit {0}) p (λ again. cond again (spend >> b >> while_turns n p b) (pure tt)) h
       (λ again. if_kept S on Q closed (Unit {0}) again (spend >> b >> while_turns n p b) (pure tt) (seq_kept S on Q closed (Unit {0}) (spend >> b) (while_turns n p b) (seq_kept S on Q closed (Unit {0}) spend b (spend_kept S on Q closed) k) (turns_kept n p b h k)) (pure_kept S on Q closed (Unit {0}) tt))
 
@@ -49,7 +50,7 @@ module _ (S : Type 0) (on : Offers S) (Q : (A : Type 0) → Running S → StepRe
   while_kept p b h k s = turns_kept s.left p b h k s
 
   rounds_kept : (n : ℕ) (b : Do S) (p : Step S Bool) → Has Q b → Has Q p → Has Q (repeat_turns n b p)
-  rounds_kept zero b p h k = fail_kept S on Q closed (Unit {0}) fault.StepLimit
+  rounds_kept zero b p h k = stop_kept S on Q closed (Unit {0}) (Faults fault.StepLimit)
   rounds_kept (suc n) b p h k = then_kept S on Q closed Bool (Unit {0}) (spend >> b >> p) (λ done. cond done (pure tt) (repeat_turns n b p)) (seq_kept S on Q closed Bool (spend >> b) p (seq_kept S on Q closed (Unit {0}) spend b (spend_kept S on Q closed) h) k)
       (λ done. if_kept S on Q closed (Unit {0}) done (pure tt) (repeat_turns n b p) (pure_kept S on Q closed (Unit {0}) tt) (rounds_kept n b p h k))
 
@@ -80,7 +81,7 @@ module _ (S : Type 0) (on : Offers S) (Q : (A : Type 0) → Running S → StepRe
   arguments_kept (Some es) = args_kept S on Q closed meant call calls here es
 
   assign_to_kept : (o : Option (Access S)) (p : Step S Value) → IfThere (AccessKept S on Q closed) o → Has Q p → Has Q (assign_to S on meant act call here o p)
-  assign_to_kept None p h k = fail_kept S on Q closed (Unit {0}) fault.Unset
+  assign_to_kept None p h k = stop_kept S on Q closed (Unit {0}) Broken
   assign_to_kept (Some a) p h k = then_kept S on Q closed Place (Unit {0}) a.place (λ x. p >>= λ v. store S on a.denoter x v) h (λ x. then_kept S on Q closed Value (Unit {0}) p (λ v. store S on a.denoter x v) k (λ v. store_kept S on Q closed a.denoter x v))
 
   result_kept : (r : Routine) (o : Option Denoter) → IfThere (AccessKept S on Q closed) (result_of S on meant call here r o)
@@ -98,7 +99,7 @@ module _ (S : Type 0) (on : Offers S) (Q : (A : Type 0) → Running S → StepRe
   invoke_of_kept : (x : Meaning) (es : List (Operand S)) → Each (OperandKept S on Q closed) es → Has Q (invoke_of S on meant act call here x es)
   invoke_of_kept (Called r) es h = then_kept S on Q closed ActualParameters (Unit {0}) (give_all r.parameters es no_arguments) (λ g. call r g >>= λ v. pure tt) (give_all_kept S on Q closed r.parameters es no_arguments h)
       (λ g. then_kept S on Q closed Value (Unit {0}) (call r g) (λ v. pure tt) (calls r g) (λ v. pure_kept S on Q closed (Unit {0}) tt))
-  invoke_of_kept _ es h = fail_kept S on Q closed (Unit {0}) fault.Unset
+  invoke_of_kept _ es h = stop_kept S on Q closed (Unit {0}) Broken
 
   invoke_kept : (x : Name) (es : Option Args) → Has Q (invoke S on meant act call here x es)
   unfolding invoke
@@ -115,15 +116,15 @@ module _ (S : Type 0) (on : Offers S) (Q : (A : Type 0) → Running S → StepRe
   unfolding choose
   choose_kept e p o h k = then_kept S on Q closed Bool (Unit {0}) (bool_step (value_of_expr S on meant act call here e)) (λ b. cond b p (or_nothing o)) (test_kept e) (λ b. if_kept S on Q closed (Unit {0}) b p (or_nothing o) h (or_nothing_kept o k))
 
-  ordinal_kept : (e : Expr) → Has Q (ordinal_step (value_of_expr S on meant act call here e))
-  ordinal_kept e = of_value_kept S on Q closed ℤ ordinal_of (value_of_expr S on meant act call here e) (value_kept e)
+  bound_kept : (h : Host) (e : Expr) → Has Q (bound_step h (value_of_expr S on meant act call here e))
+  bound_kept h e = of_value_kept S on Q closed ℤ (bound_of h) (value_of_expr S on meant act call here e) (value_kept e)
 
-  count_over_kept : (o : Option (Access S)) (first : Expr) (dir : Direction) (last : Expr) (b : Do S) → IfThere (AccessKept S on Q closed) o → Has Q b → Has Q (count_over S on meant act call here o (ordinal_step (value_of_expr S on meant act call here first)) dir (ordinal_step (value_of_expr S on meant act call here last)) b)
-  count_over_kept None first dir last b h k = fail_kept S on Q closed (Unit {0}) fault.Unset
-  count_over_kept (Some a) first dir last b h k = then_kept S on Q closed ℤ (Unit {0}) (ordinal_step (value_of_expr S on meant act call here first)) (λ i. ordinal_step (value_of_expr S on meant act call here last) >>= λ j. a.place >>= λ p. count_loop dir i j (λ n. store_ordinal S on a.denoter p n) (put S on p pascal.Unset) b) (ordinal_kept first)
-      (λ i. then_kept S on Q closed ℤ (Unit {0}) (ordinal_step (value_of_expr S on meant act call here last)) (λ j. a.place >>= λ p. count_loop dir i j (λ n. store_ordinal S on a.denoter p n) (put S on p pascal.Unset) b) (ordinal_kept last)
-      (λ j. then_kept S on Q closed Place (Unit {0}) a.place (λ p. count_loop dir i j (λ n. store_ordinal S on a.denoter p n) (put S on p pascal.Unset) b) h
-      (λ p. count_kept S on Q closed dir i j (λ n. store_ordinal S on a.denoter p n) (put S on p pascal.Unset) b (λ n. store_ordinal_kept S on Q closed a.denoter p n) (put_kept S on Q closed p pascal.Unset) k)))
+  count_over_kept : (o : Option (Access S)) (first : Expr) (dir : Direction) (last : Expr) (b : Do S) → IfThere (AccessKept S on Q closed) o → Has Q b → Has Q (count_over S on meant act call here o (value_of_expr S on meant act call here first) dir (value_of_expr S on meant act call here last) b)
+  count_over_kept None first dir last b h k = stop_kept S on Q closed (Unit {0}) Broken
+  count_over_kept (Some a) first dir last b h k = then_kept S on Q closed ℤ (Unit {0}) (bound_step (host_of a.denoter) (value_of_expr S on meant act call here first)) (λ i. bound_step (host_of a.denoter) (value_of_expr S on meant act call here last) >>= λ j. a.place >>= λ p. count_loop dir i j (λ n. store_ordinal S on a.denoter p n) (blank_at S on p) b) (bound_kept (host_of a.denoter) first)
+      (λ i. then_kept S on Q closed ℤ (Unit {0}) (bound_step (host_of a.denoter) (value_of_expr S on meant act call here last)) (λ j. a.place >>= λ p. count_loop dir i j (λ n. store_ordinal S on a.denoter p n) (blank_at S on p) b) (bound_kept (host_of a.denoter) last)
+      (λ j. then_kept S on Q closed Place (Unit {0}) a.place (λ p. count_loop dir i j (λ n. store_ordinal S on a.denoter p n) (blank_at S on p) b) h
+      (λ p. count_kept S on Q closed dir i j (λ n. store_ordinal S on a.denoter p n) (blank_at S on p) b (λ n. store_ordinal_kept S on Q closed a.denoter p n) (blank_kept S on Q closed p) k)))
 
   for_kept : (x : Name) (first : Expr) (dir : Direction) (last : Expr) (b : Do S) → Has Q b → Has Q (count S on meant act call here x first dir last b)
   unfolding count
@@ -133,12 +134,16 @@ module _ (S : Type 0) (on : Offers S) (Q : (A : Type 0) → Running S → StepRe
   CaseKept x = Has Q x.1
 
   chosen_kept : (n : ℤ) (xs : List (List Const × Do S)) → Each CaseKept xs → Has Q (chosen meant n xs)
-  chosen_kept n [] h = fail_kept S on Q closed (Unit {0}) fault.NoCase
+  chosen_kept n [] h = stop_kept S on Q closed (Unit {0}) (Faults fault.NoCase)
   chosen_kept n (x ∷ xs) h = if_kept S on Q closed (Unit {0}) (is_labelled meant n x.0) x.1 (chosen meant n xs) h.0 (chosen_kept n xs h.1)
 
   select_kept : (e : Expr) (xs : List (List Const × Do S)) → Each CaseKept xs → Has Q (select S on meant act call here e xs)
   unfolding select
-  select_kept e xs h = then_kept S on Q closed ℤ (Unit {0}) (ordinal_step (value_of_expr S on meant act call here e)) (λ n. chosen meant n xs) (ordinal_kept e) (λ n. chosen_kept n xs h)
+  select_kept e xs h = then_kept S on Q closed ℤ (Unit {0}) (selector_step (value_of_expr S on meant act call here e)) (λ n. chosen meant n xs) (of_value_kept S on Q closed ℤ selector_of (value_of_expr S on meant act call here e) (value_kept e)) (λ n. chosen_kept n xs h)
+
+  acted_kept : (o : Option (Statement × Option Args)) → Has Q (acted S on meant act call here o)
+  acted_kept None = stop_kept S on Q closed (Unit {0}) Broken
+  acted_kept (Some x) = acts x.0 _ (arguments_kept x.1)
 
   -- ---- trees
 
@@ -158,13 +163,7 @@ module _ (S : Type 0) (on : Offers S) (Q : (A : Type 0) → Running S → StepRe
   keeps kind.stmt (Stmt-F.Repeat body test span) = repeat_kept S on Q closed body.left (bool_step (value_of_expr S on meant act call here test)) body.holds (test_kept test)
   keeps kind.stmt (Stmt-F.Count x first dir last body span) = for_kept x first dir last body.left body.holds
   keeps kind.stmt (Stmt-F.Case e cases semicolon span) = select_kept e (map (λ (c : Related (List Const × Do S) (List Const × Do S) (λ x y. CaseKept x)). c.left) cases) (each_has CaseKept cases)
-  keeps kind.stmt (Stmt-F.Init x b es span) = acts (Init x b) _ (arguments_kept es)
-  keeps kind.stmt (Stmt-F.Release x span) = acts (Release x) [] tt
-  keeps kind.stmt (Stmt-F.Connect p q span) = acts (Connect p q) [] tt
-  keeps kind.stmt (Stmt-F.Disconnect p span) = acts (Disconnect p) [] tt
-  keeps kind.stmt (Stmt-F.Attach p x q span) = acts (Attach p x q) [] tt
-  keeps kind.stmt (Stmt-F.Detach p span) = acts (Detach p) [] tt
-  keeps kind.stmt (Stmt-F.Output p n es span) = acts (Output p n) _ (arguments_kept es)
+  keeps kind.stmt l = acted_kept (statement_of l)
   keeps kind.branch l = l.body.holds
   keeps kind.stmts l = all_kept S on Q closed (map (λ (x : Related (Do S) (Do S) (λ x y. Has {A = Unit {0}} Q x)). x.left) l.stmts) (each_has (Has {A = Unit {0}} Q) l.stmts)
 

@@ -2,6 +2,7 @@
 use Rattle.std.proofs.Common.{◌≡◌, ℕ, zero, suc, ◌-◌, ◌≤◌, Bool, true, false, Ok, Err, refl, sym, ap, ◌∙◌, arith, cond}
 use Rattle.std.specs.Prelude.{nat_lt}
 use Rattle.pascal_values.specs.declared.fault.Fault.TheVariants.{StepLimit}
+use Rattle.estelle_model.specs.Stops.{Faults}
 use Rattle.estelle_model.specs.Steps.{Running, StepResult, Step, Do, and_then, ◌>>=◌, ◌>>◌, pure, fail, spend}
 use Rattle.estelle_model.specs.Loops.{while_turns, repeat_turns, while_loop, repeat_loop}
 
@@ -22,11 +23,11 @@ pub spend_lowers : {S : Type 0} (s : Running S) (n : ℕ) → s.left ≤ suc n �
 unfolding spend
 spend_lowers s n h = by (nat_lt 0 s.left)
   where
-    by : (b : Bool) → AtMost n (cond b (Ok (tt {0}, record s { left = s.left - 1 })) (Err (StepLimit, s.left)))
+    by : (b : Bool) → AtMost n (cond b (Ok (tt {0}, record s { left = s.left - 1 })) (Err (Faults StepLimit, s.left)))
     by true = omega arith
     by false = tt
 
-pub spend_none : {S : Type 0} (s : Running S) → s.left ≤ 0 → spend s ≡ Err (StepLimit, s.left)
+pub spend_none : {S : Type 0} (s : Running S) → s.left ≤ 0 → spend s ≡ Err (Faults StepLimit, s.left)
 unfolding spend
 spend_none s h = grind (arith)
 

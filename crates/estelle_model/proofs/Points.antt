@@ -13,7 +13,7 @@ use Rattle.estelle_model.specs.States.{Offers}
 use Rattle.estelle_model.specs.Steps.{Running, Do, ◌>>=◌, all}
 use Rattle.estelle_model.specs.Meant.{Meanings}
 use Rattle.estelle_model.specs.declared.place.Environment.{Environment}
-use Rattle.estelle_model.specs.Expressions.{Call, Operand, Access, Selecting, valued, added, designated, assigned, indexed, selector, elem, set_step, member_step, both, ordinal_step}
+use Rattle.estelle_model.specs.Expressions.{Call, Operand, Access, Selecting, valued, added, designated, assigned, indexed, selector, elem, set_step, member_step, both, selector_step}
 use Rattle.estelle_model.specs.Statements.{Acts, assign_to, invoke_of, chosen, branch, stmts}
 use Rattle.estelle_model.proofs.Trees as tree
 use Rattle.estelle_model.proofs.Forms.{mean, mean_factor, run, value_of, set_is, member_is, range_is, relation_is, sum_is, case_is, number_is, index_is, call_is, access_is, alone_is, assignment_is, call_statement_is, plain_call_is, sequence_is, empty_is}
@@ -75,5 +75,5 @@ module _ (S : Type 0) (on : Offers S) (meant : Meanings) (act : Acts S) (call : 
   pub plain_call_at : (p : ℕ) → run S on meant act call here (tree.plain_call p) s ≡ invoke_of S on meant act call here (meant (tree.name p)) [] s
   plain_call_at p = ap (λ q. q s) (plain_call_is S on meant act call here p)
 
-  pub case_at : (e : Expr) (cases : List Case) → run S on meant act call here (tree.case_of e cases) s ≡ (ordinal_step (value_of S on meant act call here e) >>= λ n. chosen meant n (map (branch S on meant act call here) cases)) s
+  pub case_at : (e : Expr) (cases : List Case) → run S on meant act call here (tree.case_of e cases) s ≡ (selector_step (value_of S on meant act call here e) >>= λ n. chosen meant n (map (branch S on meant act call here) cases)) s
   case_at e cases = ap (λ q. q s) (case_is S on meant act call here e cases)

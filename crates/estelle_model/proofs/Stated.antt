@@ -2,13 +2,13 @@
 use Rattle.std.proofs.Common.{◌≡◌, ℕ, suc, Bool, true, false, ◌&&◌, ◌||◌, List, [], ◌∷◌, map, Ok, Option, Some, None, refl, sym, ap, subst, ◌∙◌, inl, inr, arith}
 use Rattle.std.specs.Prelude.{◌⊎◌, slice_get}
 use Rattle.std.specs.FinMap as fin
-use Rattle.pascal_values.specs.declared.fault.Fault.{Fault}
 use Rattle.pascal_values.specs.declared.fault.Fault.TheVariants as fault
 use Rattle.pascal_values.specs.declared.value.Value.{Value}
 use Rattle.estelle_tree.specs.declared.link.IpAddr.{IpAddr}
 use Rattle.estelle_tree.specs.declared.tree.name.Name.{Name}
 use Rattle.estelle_tree.specs.Paths.{Path, child, last_of}
 use Rattle.estelle_tree.specs.Links.{above}
+use Rattle.estelle_model.specs.Stops.{Stop, Faults, Broken}
 use Rattle.estelle_model.specs.Core.{Instance, Core}
 use Rattle.estelle_model.specs.InteractionPoints.{point_of, point, may_join, connectable_at, external_at, may_connect, may_attach_points, may_attach}
 use Rattle.estelle_model.specs.Effects as effect
@@ -142,18 +142,18 @@ module _ (s : Subject) (meant : Meanings) (p : Path) where
 
     -- ---- tests
 
-    passed : (b : Bool) (e : Fault) (u : Unit {0}) → stops_unless b e ≡ Ok u → b ≡ true
+    passed : (b : Bool) (e : Stop) (u : Unit {0}) → stops_unless b e ≡ Ok u → b ≡ true
     passed true e u h = refl
     passed false e u h = absurd (cc)
 
-    passed_by : (b : Bool) (e : Fault) (u : Unit {0}) → stops_if b e ≡ Ok u → b ≡ false
+    passed_by : (b : Bool) (e : Stop) (u : Unit {0}) → stops_if b e ≡ Ok u → b ≡ false
     passed_by false e u h = refl
     passed_by true e u h = absurd (cc)
 
-    unless_fits : {B : Type 0} (Post : B → Core → Type 0) (test : Core → Bool) (e : Fault) (rest : Plan B) (n : ℕ) (c : Core) → ((d : Core) → SeesSame c d → test c ≡ test d) → (test c ≡ true → Fits asks Post rest n c) → Fits asks Post (fails_unless test e >>= λ u. rest) n c
+    unless_fits : {B : Type 0} (Post : B → Core → Type 0) (test : Core → Bool) (e : Stop) (rest : Plan B) (n : ℕ) (c : Core) → ((d : Core) → SeesSame c d → test c ≡ test d) → (test c ≡ true → Fits asks Post rest n c) → Fits asks Post (fails_unless test e >>= λ u. rest) n c
     unless_fits Post test e rest n c same h = (λ d sees. ap (λ b. stops_unless b e) (same d sees), λ u is. h (passed (test c) e u is))
 
-    if_fits : {B : Type 0} (Post : B → Core → Type 0) (test : Core → Bool) (e : Fault) (rest : Plan B) (n : ℕ) (c : Core) → ((d : Core) → SeesSame c d → test c ≡ test d) → (test c ≡ false → Fits asks Post rest n c) → Fits asks Post (fails_if test e >>= λ u. rest) n c
+    if_fits : {B : Type 0} (Post : B → Core → Type 0) (test : Core → Bool) (e : Stop) (rest : Plan B) (n : ℕ) (c : Core) → ((d : Core) → SeesSame c d → test c ≡ test d) → (test c ≡ false → Fits asks Post rest n c) → Fits asks Post (fails_if test e >>= λ u. rest) n c
     if_fits Post test e rest n c same h = (λ d sees. ap (λ b. stops_if b e) (same d sees), λ u is. h (passed_by (test c) e u is))
 
     -- ---- names
@@ -208,32 +208,32 @@ module _ (s : Subject) (meant : Meanings) (p : Path) where
     connect_fits : ((x y : IpAddr) → IsBy st (effect.Connect x y)) → (a b : IpAddr) (n : ℕ) (c : Core) → IsOwnOrHeld c a.path → IsOwnOrHeld c b.path → Fits asks Any (connect_points s p a b) n c
     connect_fits by a b n c first second =
         let q : Core → Bool = λ d. connectable_at p a (point s d.instances a) && connectable_at p b (point s d.instances b) in
-        unless_fits Any (λ d. may_connect s d.instances p a b) fault.Unset (fails_if (λ d. is_bound a d.links || is_bound b d.links) fault.LinkTaken >>= λ u. makes (effect.Connect a b)) n c
+        unless_fits Any (λ d. may_connect s d.instances p a b) Broken (fails_if (λ d. is_bound a d.links || is_bound b d.links) (Faults fault.LinkTaken) >>= λ u. makes (effect.Connect a b)) n c
         (λ d sees i. may_join (point_same c d sees a first i) (point_same c d sees b second i) && (connectable_at p a (point_same c d sees a first i) && connectable_at p b (point_same c d sees b second i)))
         (λ allowed.
         let both : q c ≡ true = right_of (may_join (point s c.instances a) (point s c.instances b)) (q c) allowed in
         let one : IsLinked c a = linked c a first (left_of (connectable_at p a (point s c.instances a)) (connectable_at p b (point s c.instances b)) both) in
         let other : IsLinked c b = linked c b second (right_of (connectable_at p a (point s c.instances a)) (connectable_at p b (point s c.instances b)) both) in
-        if_fits Any (λ d. is_bound a d.links || is_bound b d.links) fault.LinkTaken (makes (effect.Connect a b)) n c
+        if_fits Any (λ d. is_bound a d.links || is_bound b d.links) (Faults fault.LinkTaken) (makes (effect.Connect a b)) n c
         (λ d sees i. sees.bound a one i || sees.bound b other i)
         (λ free. ((by a b, (first, second, allowed, free)), omega arith, tt)))
 
     disconnect_fits : ((x : IpAddr) → IsBy st (effect.Disconnect x)) → (a : IpAddr) (n : ℕ) (c : Core) → IsOwnOrHeld c a.path → Fits asks Any (disconnect_point s p a) n c
-    disconnect_fits by a n c own = unless_fits Any (λ d. connectable_at p a (point s d.instances a)) fault.Unset (fails_unless (λ d. is_connected a d.links) fault.LinkAbsent >>= λ u. makes (effect.Disconnect a)) n c
+    disconnect_fits by a n c own = unless_fits Any (λ d. connectable_at p a (point s d.instances a)) Broken (fails_unless (λ d. is_connected a d.links) (Faults fault.LinkAbsent) >>= λ u. makes (effect.Disconnect a)) n c
         (λ d sees. ap (connectable_at p a) (point_same c d sees a own))
-        (λ allowed. unless_fits Any (λ d. is_connected a d.links) fault.LinkAbsent (makes (effect.Disconnect a)) n c (λ d sees. sees.connected a (linked c a own allowed)) (λ there. ((by a, (own, there)), omega arith, tt)))
+        (λ allowed. unless_fits Any (λ d. is_connected a d.links) (Faults fault.LinkAbsent) (makes (effect.Disconnect a)) n c (λ d sees. sees.connected a (linked c a own allowed)) (λ there. ((by a, (own, there)), omega arith, tt)))
 
     attach_fits : ((x y : IpAddr) → IsBy st (effect.Attach x y)) → (upper lower : IpAddr) (n : ℕ) (c : Core) → upper.path ≡ p → IsHeld c lower.path → Fits asks Any (attach_points s upper lower) n c
-    attach_fits by upper lower n c own held = unless_fits Any (λ d. may_attach s d.instances upper lower) fault.Unset (fails_if (λ d. is_upper upper d.links || is_bound lower d.links) fault.LinkTaken >>= λ u. makes (effect.Attach upper lower)) n c
+    attach_fits by upper lower n c own held = unless_fits Any (λ d. may_attach s d.instances upper lower) Broken (fails_if (λ d. is_upper upper d.links || is_bound lower d.links) (Faults fault.LinkTaken) >>= λ u. makes (effect.Attach upper lower)) n c
         (λ d sees i. may_attach_points (point_same c d sees upper (inl own) i) (point_same c d sees lower (inr held) i))
-        (λ allowed. if_fits Any (λ d. is_upper upper d.links || is_bound lower d.links) fault.LinkTaken (makes (effect.Attach upper lower)) n c
+        (λ allowed. if_fits Any (λ d. is_upper upper d.links || is_bound lower d.links) (Faults fault.LinkTaken) (makes (effect.Attach upper lower)) n c
         (λ d sees i. sees.upper upper own i || sees.bound lower (inl held) i)
         (λ free. ((by upper lower, (own, held, allowed, free)), omega arith, tt)))
 
     detach_fits : ((x : IpAddr) → IsBy st (effect.Detach x)) → (upper : IpAddr) (n : ℕ) (c : Core) → upper.path ≡ p → Fits asks Any (detach_point s upper) n c
-    detach_fits by upper n c own = unless_fits Any (λ d. external_at (point s d.instances upper)) fault.Unset (fails_unless (λ d. is_upper upper d.links) fault.LinkAbsent >>= λ u. makes (effect.Detach upper)) n c
+    detach_fits by upper n c own = unless_fits Any (λ d. external_at (point s d.instances upper)) Broken (fails_unless (λ d. is_upper upper d.links) (Faults fault.LinkAbsent) >>= λ u. makes (effect.Detach upper)) n c
         (λ d sees. ap external_at (point_same c d sees upper (inl own)))
-        (λ allowed. unless_fits Any (λ d. is_upper upper d.links) fault.LinkAbsent (makes (effect.Detach upper)) n c (λ d sees. sees.upper upper own) (λ there. ((by upper, inl (own, allowed, there)), omega arith, tt)))
+        (λ allowed. unless_fits Any (λ d. is_upper upper d.links) (Faults fault.LinkAbsent) (makes (effect.Detach upper)) n c (λ d sees. sees.upper upper own) (λ there. ((by upper, inl (own, allowed, there)), omega arith, tt)))
 
     -- ---- each external point of a child
 
@@ -298,8 +298,8 @@ module _ (s : Subject) (meant : Meanings) (p : Path) where
     pub may_begin_fits : (m k : ℕ) (n : ℕ) (c : Core) → Fits asks (λ i d. (fin.get d.instances p ≡ Some i) × ((may_hold s i.body m k && are_values_of (child_of s k).parameters given) ≡ true)) (may_begin s p m k given) n c
     may_begin_fits m k n c =
         let Post : Instance → Core → Type 0 = λ i d. (fin.get d.instances p ≡ Some i) × ((may_hold s i.body m k && are_values_of (child_of s k).parameters given) ≡ true) in
-        instance_fits Post p (λ i. fails_unless (λ d. may_hold s i.body m k && are_values_of (child_of s k).parameters given) fault.Unset >>= λ allowed. Done i) n c (inl refl)
-        (λ i there. unless_fits Post (λ d. may_hold s i.body m k && are_values_of (child_of s k).parameters given) fault.Unset (Done i) n c (λ d sees. refl) (λ allowed. (there, allowed)))
+        instance_fits Post p (λ i. fails_unless (λ d. may_hold s i.body m k && are_values_of (child_of s k).parameters given) Broken >>= λ allowed. Done i) n c (inl refl)
+        (λ i there. unless_fits Post (λ d. may_hold s i.body m k && are_values_of (child_of s k).parameters given) Broken (Done i) n c (λ d sees. refl) (λ allowed. (there, allowed)))
 
     pub begins_fits : ((q : Path) (j : ℕ) (x : Instance) → IsBy st (effect.Create q j x)) → (m k : ℕ) (i : Instance) (n : ℕ) (c : Core) → fin.get c.instances p ≡ Some i → (may_hold s i.body m k && are_values_of (child_of s k).parameters given) ≡ true → Fits asks Any (begins_child s p m i ((child_of s k).with_parameters given)) (suc n) c
     begins_fits begins m k i n c there allowed = (λ d sees. refl, λ u empty. ((begins p (suc i.births) ((child_of s k).with_parameters given), record { own = refl; parent = i; there = there; next = refl; variable = m; body = k; made = refl; allowed = allowed; empty = empty }), omega arith, tt))
@@ -323,7 +323,7 @@ module _ (s : Subject) (meant : Meanings) (p : Path) where
       (λ upper is. of_child_fits (Attach own x part) given Any (meant x) (meant part) (λ lower. attach_points s upper lower) n c (λ lower held. attach_fits (Attach own x part) given (λ u v. tt) upper lower n c is held))
   plan_fits (Detach own) given n c = own_fits (Detach own) given Any (meant own) (detach_point s) n c (λ a is. detach_fits (Detach own) given (λ u. tt) a n c is)
   plan_fits (Output ip m) given n c = own_fits (Output ip m) given Any (meant ip) (output_at s ip.word m.word (meant m) given) (suc n) c
-      (λ a is. unless_fits (Output ip m) given Any (λ d. is_sent_at (point s d.instances a) m.word (meant m) && are_values_of (types_received (meant m)) given) fault.Unset (makes (effect.Output a ip.word m.word given)) (suc n) c
+      (λ a is. unless_fits (Output ip m) given Any (λ d. is_sent_at (point s d.instances a) m.word (meant m) && are_values_of (types_received (meant m)) given) Broken (makes (effect.Output a ip.word m.word given)) (suc n) c
       (λ d sees. ap (λ o. is_sent_at o m.word (meant m) && are_values_of (types_received (meant m)) given) (point_same (Output ip m) given c d sees a (inl is)))
       (λ allowed. ((tt, record { point_name = ip; name = m; by = refl; ip_is = refl; word_is = refl; values_are = refl; own = is; allowed = allowed }), omega arith, tt)))
   plan_fits (Release x) given n c = release_fits (Release x) given (λ u. tt) (λ u. tt) (λ q k. tt) (meant x) n c

@@ -2,15 +2,15 @@
 use Rattle.std.proofs.Common.{ℕ, ◌-◌, ◌≤◌, Bool, true, false, List, ℤ, Result, Ok, Err, Option, Some, None, arith, cond}
 use Rattle.std.specs.Prelude.{nat_lt, ℤ}
 use Rattle.std.specs.FinMap as fin
-use Rattle.pascal_values.specs.declared.fault.Fault.{Fault}
-use Rattle.pascal_values.specs.declared.fault.Fault.TheVariants.{Unset, StepLimit}
+use Rattle.pascal_values.specs.declared.fault.Fault.TheVariants.{StepLimit}
 use Rattle.pascal_values.specs.declared.value.Value.{Value}
 use Rattle.estelle_model.specs.declared.denoter.Denoter.{Denoter}
 use Rattle.estelle_model.specs.Core.{Instance}
 use Rattle.estelle_model.specs.Effects.{Store}
 use Rattle.estelle_model.specs.Belonging.{may_store}
 use Rattle.estelle_model.specs.States.{Offers}
-use Rattle.estelle_model.specs.Steps.{Running, StepResult, Step, Do, and_then, ◌>>=◌, ◌>>◌, pure, fail, checked, spend}
+use Rattle.estelle_model.specs.Stops.{Stop, Faults, Broken}
+use Rattle.estelle_model.specs.Steps.{Running, StepResult, Step, Do, and_then, ◌>>=◌, ◌>>◌, pure, checked, spend, stop}
 use Rattle.estelle_model.specs.declared.meaning.Routine.{Routine}
 use Rattle.estelle_model.specs.declared.place.Place.{Place}
 use Rattle.estelle_model.specs.Places.{put_in_instance, store_ordinal}
@@ -35,12 +35,12 @@ module _ (S : Type 0) where
   pub pure_never : (A : Type 0) (a : A) → NeverRaises {S = S} (pure a)
   pure_never A a s = omega arith
 
-  pub fail_never : (A : Type 0) (f : Fault) → NeverRaises {S = S} {A = A} (fail f)
-  fail_never A f s = tt
+  pub stop_never : (A : Type 0) (e : Stop) → NeverRaises {S = S} {A = A} (stop e)
+  stop_never A e s = tt
 
-  pub checked_never : (A : Type 0) (x : Result A Fault) → NeverRaises {S = S} (checked x)
+  pub checked_never : (A : Type 0) (x : Result A Stop) → NeverRaises {S = S} (checked x)
   checked_never A (Ok a) s = omega arith
-  checked_never A (Err f) s = tt
+  checked_never A (Err e) s = tt
 
   pub if_never : (A : Type 0) (b : Bool) (p q : Step S A) → NeverRaises p → NeverRaises q → NeverRaises (cond b p q)
   if_never A true p q h k = h
@@ -53,14 +53,14 @@ module _ (S : Type 0) where
   unfolding spend
   spend_never s = by (nat_lt 0 s.left)
     where
-      by : (b : Bool) → AtMost s.left (cond b (Ok (tt {0}, record s { left = s.left - 1 })) (Err (StepLimit, s.left)))
+      by : (b : Bool) → AtMost s.left (cond b (Ok (tt {0}, record s { left = s.left - 1 })) (Err (Faults StepLimit, s.left)))
       by true = omega arith
       by false = tt
 
   abbrev pub CallNever : Call S → Type 0
   CallNever call = (r : Routine) (g : ActualParameters) → NeverRaises (call r g)
 
-  pub of_value_never : (A : Type 0) (f : Value → Result A Fault) (p : Step S Value) → NeverRaises p → NeverRaises (p >>= λ v. checked (f v))
+  pub of_value_never : (A : Type 0) (f : Value → Result A Stop) (p : Step S Value) → NeverRaises p → NeverRaises (p >>= λ v. checked (f v))
   of_value_never A f p h = then_never Value A p (λ v. checked (f v)) h (λ v. checked_never A (f v))
 
   -- no more units are left than before
@@ -71,7 +71,7 @@ module _ (S : Type 0) (on : Offers S) where
   stored_never : (p : List ℕ) (x : ℕ) (way : List ℕ) (v : Value) → NeverRaises {S = S} {A = Unit {0}} (λ s. put_in_instance S on (fin.get (on.core s.state).instances p) p x way v s)
   stored_never p x way v s = by (fin.get (on.core s.state).instances p)
     where
-      kept : (i : Instance) (b : Bool) → AtMost s.left (cond b (Ok (tt {0}, record s { state = on.keeps p (Store x way v) s.state })) (Err (Unset, s.left)))
+      kept : (i : Instance) (b : Bool) → AtMost s.left (cond b (Ok (tt {0}, record s { state = on.keeps p (Store x way v) s.state })) (Err (Broken, s.left)))
       kept i true = omega arith
       kept i false = tt
 
@@ -80,7 +80,7 @@ module _ (S : Type 0) (on : Offers S) where
       by (Some i) = kept i (may_store ((on.core s.state).types i.body) x way v)
 
   pub units_closed : IsClosed S on (NoMoreUnits S)
-  units_closed = record { then = λ A B s o f h k. and_then_never S A B s.left o f h k; pure = pure_never S; fail = fail_never S; spend = spend_never S; framed = λ A f s. omega arith; stored = stored_never }
+  units_closed = record { then = λ A B s o f h k. and_then_never S A B s.left o f h k; pure = pure_never S; stop = stop_never S; spend = spend_never S; framed = λ A f s. omega arith; stored = stored_never }
 
   pub store_ordinal_never : (d : Denoter) (a : Place) (n : ℤ) → NeverRaises (store_ordinal S on d a n)
   store_ordinal_never = store_ordinal_kept S on (NoMoreUnits S) units_closed

@@ -14,6 +14,7 @@ use Rattle.estelle_tree.specs.declared.tree.expression.Factor.{Factor}
 use Rattle.estelle_model.specs.declared.denoter.Host.TheVariants as host
 use Rattle.estelle_model.specs.Operators.{plus, divided, modulo, signed}
 use Rattle.estelle_model.specs.States.{Offers}
+use Rattle.estelle_model.specs.Stops.{Faults}
 use Rattle.estelle_model.specs.Steps.{Running, StepResult, Step, ◌>>=◌, pure, checked}
 use Rattle.estelle_model.specs.declared.meaning.Meaning.{Meaning}
 use Rattle.estelle_model.specs.declared.meaning.Meaning.TheVariants.{Constant}
@@ -21,7 +22,7 @@ use Rattle.estelle_model.specs.Meant.{Meanings}
 use Rattle.estelle_model.specs.declared.place.Environment.{Environment}
 use Rattle.estelle_model.specs.Expressions.{Call, Operand, computed, multiplied, both, conjunction, disjunction, valued}
 use Rattle.estelle_model.proofs.Trees as tree
-use Rattle.estelle_model.proofs.Forms.{mean, mean_factor, number_is, parenthesised_is, access_is, product_is, sum_is, signed_is, signed_alone_is}
+use Rattle.estelle_model.proofs.Forms.{mean, mean_factor, number_is, parenthesised_is, access_is, product_is, sum_is, minus_is, minus_alone_is}
 
 module _ (S : Type 0) (on : Offers S) (meant : Meanings) (call : Call S) (here : Environment) (s : Running S) where
   -- what an expression comes to
@@ -34,9 +35,9 @@ module _ (S : Type 0) (on : Offers S) (meant : Meanings) (call : Call S) (here :
   number : (n : ℤ) → mean_factor S on meant call here (tree.number n) ≡ computed host.Integer (int n)
   number n = number_is S on meant call here n
 
-  signed_numbers : (sign : Sign) (m : ℤ) (op : Multiplying) (n : ℤ) → value (tree.signed_product sign (tree.number m) op (tree.number n)) ≡ (multiplied op (int m) (int n) >>= λ v. checked (signed sign v)) s
-  signed_numbers sign m op n = ap (λ (o : Operand S). o.value s) (signed_is S on meant call here sign (tree.number m) op (tree.number n))
-      ∙ ap₂ (λ (a b : Operand S). (multiplied op a.value b.value >>= λ v. checked (signed sign v)) s) (number m) (number n)
+  minus_numbers : (m : ℤ) (op : Multiplying) (n : ℤ) → value (tree.signed_product sign.Minus (tree.number m) op (tree.number n)) ≡ (multiplied op (int m) (int n) >>= λ v. checked (signed sign.Minus v)) s
+  minus_numbers m op n = ap (λ (o : Operand S). o.value s) (minus_is S on meant call here (tree.number m) op (tree.number n))
+      ∙ ap₂ (λ (a b : Operand S). (multiplied op a.value b.value >>= λ v. checked (signed sign.Minus v)) s) (number m) (number n)
 
   numbers : (m : ℤ) (op : Multiplying) (n : ℤ) → value (tree.product (tree.number m) op (tree.number n)) ≡ multiplied op (int m) (int n) s
   numbers m op n = ap (λ (o : Operand S). o.value s) (product_is S on meant call here (tree.number m) op (tree.number n))
@@ -45,7 +46,7 @@ module _ (S : Type 0) (on : Offers S) (meant : Meanings) (call : Call S) (here :
   -- a sign in parentheses
   minus : (m : ℤ) → mean_factor S on meant call here (tree.parenthesised (tree.signed_alone sign.Minus (tree.number m))) ≡ computed host.Integer (int m >>= λ v. checked (signed sign.Minus v))
   minus m = parenthesised_is S on meant call here (tree.signed_alone sign.Minus (tree.number m))
-      ∙ ap (λ (o : Operand S). computed o.host o.value) (signed_alone_is S on meant call here sign.Minus (tree.number m))
+      ∙ ap (λ (o : Operand S). computed o.host o.value) (minus_alone_is S on meant call here (tree.number m))
       ∙ ap (λ (o : Operand S). computed host.Integer (o.value >>= λ v. checked (signed sign.Minus v))) (number m)
 
   minus_and_number : (m : ℤ) (op : Multiplying) (n : ℤ) → value (tree.product (tree.parenthesised (tree.signed_alone sign.Minus (tree.number m))) op (tree.number n)) ≡ multiplied op (int m >>= λ v. checked (signed sign.Minus v)) (int n) s
@@ -57,12 +58,12 @@ module _ (S : Type 0) (on : Offers S) (meant : Meanings) (call : Call S) (here :
   -- -7 div 2 is -(7 div 2)
   pub minus_seven_div_two : value (tree.signed_product sign.Minus (tree.number (pos 7)) multiplying.Div (tree.number (pos 2))) ≡ Ok (pascal.Int (negsuc 2), s)
   unfolding divided signed
-  minus_seven_div_two = signed_numbers sign.Minus (pos 7) multiplying.Div (pos 2) ∙ simp (outs-Int)
+  minus_seven_div_two = minus_numbers (pos 7) multiplying.Div (pos 2) ∙ simp (outs-Int)
 
   -- -7 mod 2 is -(7 mod 2)
   pub minus_seven_mod_two : value (tree.signed_product sign.Minus (tree.number (pos 7)) multiplying.Mod (tree.number (pos 2))) ≡ Ok (pascal.Int (negsuc 0), s)
   unfolding modulo signed
-  minus_seven_mod_two = signed_numbers sign.Minus (pos 7) multiplying.Mod (pos 2) ∙ simp (outs-Int)
+  minus_seven_mod_two = minus_numbers (pos 7) multiplying.Mod (pos 2) ∙ simp (outs-Int)
 
   -- (-7) div 2 is truncated toward zero
   pub of_minus_seven_div_two : value (tree.product (tree.parenthesised (tree.signed_alone sign.Minus (tree.number (pos 7)))) multiplying.Div (tree.number (pos 2))) ≡ Ok (pascal.Int (negsuc 2), s)
@@ -76,16 +77,16 @@ module _ (S : Type 0) (on : Offers S) (meant : Meanings) (call : Call S) (here :
 
   -- ---- faults of arithmetic
 
-  pub one_div_zero : value (tree.product (tree.number (pos 1)) multiplying.Div (tree.number (pos 0))) ≡ Err (fault.DivideByZero, s.left)
+  pub one_div_zero : value (tree.product (tree.number (pos 1)) multiplying.Div (tree.number (pos 0))) ≡ Err (Faults fault.DivideByZero, s.left)
   unfolding divided
   one_div_zero = numbers (pos 1) multiplying.Div (pos 0) ∙ simp (outs-Int)
 
-  pub one_mod_zero : value (tree.product (tree.number (pos 1)) multiplying.Mod (tree.number (pos 0))) ≡ Err (fault.ModNotPositive, s.left)
+  pub one_mod_zero : value (tree.product (tree.number (pos 1)) multiplying.Mod (tree.number (pos 0))) ≡ Err (Faults fault.ModNotPositive, s.left)
   unfolding modulo
   one_mod_zero = numbers (pos 1) multiplying.Mod (pos 0) ∙ simp (outs-Int)
 
   -- the greatest integer and one more
-  pub maxint_and_one : value (tree.sum (tree.number (pos 9223372036854775807)) adding.Plus (tree.number (pos 1))) ≡ Err (fault.Overflow, s.left)
+  pub maxint_and_one : value (tree.sum (tree.number (pos 9223372036854775807)) adding.Plus (tree.number (pos 1))) ≡ Err (Faults fault.Overflow, s.left)
   unfolding plus
   maxint_and_one = ap (λ (o : Operand S). o.value s) (sum_is S on meant call here (tree.number (pos 9223372036854775807)) adding.Plus (tree.number (pos 1)))
       ∙ ap₂ (λ (a b : Operand S). both plus a.value b.value s) (number (pos 9223372036854775807)) (number (pos 1))

@@ -16,6 +16,7 @@ use Rattle.estelle_tree.specs.declared.required.Required.TheVariants.{Succ, Chr}
 use Rattle.estelle_model.specs.Operators.{required_value, one_member, members_from, related}
 use Rattle.estelle_tree.specs.Paths.{Path}
 use Rattle.estelle_model.specs.States.{Offers}
+use Rattle.estelle_model.specs.Stops.{Faults}
 use Rattle.estelle_model.specs.Steps.{Running, StepResult, Do}
 use Rattle.estelle_model.specs.declared.meaning.Meaning.{Meaning}
 use Rattle.estelle_model.specs.declared.meaning.Meaning.TheVariants.{Local, RequiredFunction}
@@ -26,6 +27,7 @@ use Rattle.estelle_model.specs.Statements.{Acts}
 use Rattle.estelle_model.proofs.Trees as tree
 use Rattle.estelle_model.proofs.StatementEquations.{branch_made}
 use Rattle.estelle_model.proofs.Forms.{mean, run, alone_is, access_is, number_is}
+use Rattle.estelle_model.proofs.Fitting.{shape_ordinal, assignable_ordinal, within_enum}
 use Rattle.estelle_model.proofs.Points.{number_at, function_at, set_at, member_at, range_at, relation_at, number_factor_at, set_factor_at, case_at}
 use Rattle.estelle_model.proofs.WorkedStatements.{meanings}
 
@@ -46,33 +48,33 @@ module _ (S : Type 0) (on : Offers S) (act : Acts S) (call : Call S) (path : Pat
   num n = tree.alone (tree.number n)
 
   -- case 3 of 1: end
-  pub no_case : (vs : List Value) (n : ℕ) → does [] (tree.case_of (num (pos 3)) (tree.labelled (pos 1) tree.empty ∷ [])) vs n ≡ Err (fault.NoCase, n)
+  pub no_case : (vs : List Value) (n : ℕ) → does [] (tree.case_of (num (pos 3)) (tree.labelled (pos 1) tree.empty ∷ [])) vs n ≡ Err (Faults fault.NoCase, n)
   no_case vs n = simp (case_at, number_at, branch_made, outs-Int)
 
   -- ---- succ and chr: an expression is of its host type
 
   -- succ of the last value of an enumeration
-  pub succ_of_last : (n : ℕ) → value (RequiredFunction Succ ∷ Local 1 (whole (host.Enumeration 2)) ∷ []) (tree.alone (tree.call_with 0 (tree.alone (tree.named 1) ∷ []))) (pascal.Int (pos 0) ∷ pascal.Enum 2 ∷ []) n ≡ Err (fault.Range, n)
+  pub succ_of_last : (n : ℕ) → value (RequiredFunction Succ ∷ Local 1 (whole (host.Enumeration 2)) ∷ []) (tree.alone (tree.call_with 0 (tree.alone (tree.named 1) ∷ []))) (pascal.Int (pos 0) ∷ pascal.Enum 2 ∷ []) n ≡ Err (Faults fault.Range, n)
   unfolding load required_value
-  succ_of_last n = simp (function_at, alone_is, access_is, outs-Fields, outs-Enum, outs-Ordinal)
+  succ_of_last n = simp (function_at, alone_is, access_is, outs-Fields, outs-Enum, outs-Ordinal, shape_ordinal, assignable_ordinal, within_enum)
 
   -- succ(s) of s: 1..3 at 3
   pub succ_of_subrange : (n : ℕ) → value (RequiredFunction Succ ∷ Local 1 (denoter.Ordinal host.Integer (pos 1) (pos 3)) ∷ []) (tree.alone (tree.call_with 0 (tree.alone (tree.named 1) ∷ []))) (pascal.Int (pos 0) ∷ pascal.Int (pos 3) ∷ []) n ≡ Ok (pascal.Int (pos 4), running (pascal.Int (pos 0) ∷ pascal.Int (pos 3) ∷ []) n)
   unfolding load required_value
   succ_of_subrange n = simp (function_at, alone_is, access_is, outs-Fields, outs-Int, outs-Ordinal)
 
-  pub succ_of_maxint : (vs : List Value) (n : ℕ) → value (RequiredFunction Succ ∷ []) (tree.alone (tree.call_with 0 (num (pos 9223372036854775807) ∷ []))) vs n ≡ Err (fault.Overflow, n)
+  pub succ_of_maxint : (vs : List Value) (n : ℕ) → value (RequiredFunction Succ ∷ []) (tree.alone (tree.call_with 0 (num (pos 9223372036854775807) ∷ []))) vs n ≡ Err (Faults fault.Overflow, n)
   unfolding required_value
   succ_of_maxint vs n = simp (function_at, alone_is, number_is, outs-Int)
 
-  pub chr_256 : (vs : List Value) (n : ℕ) → value (RequiredFunction Chr ∷ []) (tree.alone (tree.call_with 0 (num (pos 256) ∷ []))) vs n ≡ Err (fault.Range, n)
+  pub chr_256 : (vs : List Value) (n : ℕ) → value (RequiredFunction Chr ∷ []) (tree.alone (tree.call_with 0 (num (pos 256) ∷ []))) vs n ≡ Err (Faults fault.Range, n)
   unfolding required_value
   chr_256 vs n = simp (function_at, alone_is, number_is, outs-Int)
 
   -- ---- sets
 
   -- [256]
-  pub member_256 : (vs : List Value) (n : ℕ) → value [] (tree.alone (tree.set_of (tree.member (num (pos 256)) None ∷ []))) vs n ≡ Err (fault.Range, n)
+  pub member_256 : (vs : List Value) (n : ℕ) → value [] (tree.alone (tree.set_of (tree.member (num (pos 256)) None ∷ []))) vs n ≡ Err (Faults fault.Range, n)
   unfolding one_member
   member_256 vs n = simp (set_at, member_at, number_at, outs-Int)
 

@@ -13,6 +13,7 @@ use Rattle.estelle_tree.specs.declared.tree.expression.Relation.TheVariants as r
 use Rattle.estelle_tree.specs.declared.tree.clause.Clause.TheVariants as clause
 use Rattle.estelle_tree.specs.declared.tree.clause.NextState.TheVariants as next
 use Rattle.estelle_tree.specs.declared.tree.specification.Spec.{Spec}
+use Rattle.estelle_model.specs.Stops.{Faults}
 use Rattle.estelle_model.specs.declared.job.Guard.TheVariants.{Off, On}
 use Rattle.estelle_model.specs.declared.denoter.Host.TheVariants as host
 use Rattle.estelle_model.specs.Types.{whole}
@@ -32,7 +33,7 @@ use Rattle.estelle_model.specs.Transitions.{Transition, flat_one}
 use Rattle.estelle_model.specs.Subject.{Subject}
 use Rattle.estelle_model.specs.Clauses.{fire_step, guard_step}
 use Rattle.estelle_model.proofs.Trees as tree
-use Rattle.estelle_model.proofs.Fitting.{shape_ordinal, within_int, belongs_int}
+use Rattle.estelle_model.proofs.Fitting.{shape_ordinal, assignable_ordinal, within_int, belongs_int}
 use Rattle.estelle_model.proofs.Points.{sequence_at, assignment_at, relation_at, sum_at, named_factor_at, number_factor_at}
 use Rattle.estelle_model.proofs.WorkedNames.{used}
 
@@ -97,7 +98,7 @@ module _ (S : Type 0) (on : Offers S) (spec : Spec) (is : bodies spec ≡ counte
   disabled v = simp (is, relation_at, named_factor_at, number_factor_at, there, v, outs-Int, outs-Bool)
 
   -- and with n unset its guard faults
-  pub guard_faults : i.variables ≡ pascal.Unset ∷ [] → guard_step S on subject [] tick [] true (fresh st 10) ≡ Err (fault.Unset, 10)
+  pub guard_faults : i.variables ≡ pascal.Unset ∷ [] → guard_step S on subject [] tick [] true (fresh st 10) ≡ Err (Faults fault.Unset, 10)
   unfolding clause_value load related
   guard_faults v = simp (is, relation_at, named_factor_at, there, v, outs-Unset)
 
@@ -105,9 +106,9 @@ module _ (S : Type 0) (on : Offers S) (spec : Spec) (is : bodies spec ≡ counte
   pub fired : i.variables ≡ pascal.Int (pos 2) ∷ [] → (on.core st).types i.body ≡ whole host.Integer ∷ [] → fire_step S on subject [] tick [] (fresh st 10)
       ≡ Ok (tt, record { state = on.keeps [] (Enter 0) (on.keeps [] (Store 0 [] (pascal.Int (pos 3))) st); frames = []; left = 10 })
   unfolding block_step leave load store put plus
-  fired v declares = simp (is, sequence_at, assignment_at, sum_at, named_factor_at, number_factor_at, there, v, declares, shape_ordinal, within_int, belongs_int, outs-Int)
+  fired v declares = simp (is, sequence_at, assignment_at, sum_at, named_factor_at, number_factor_at, there, v, declares, shape_ordinal, assignable_ordinal, within_int, belongs_int, outs-Int)
 
   -- n := n + 1 with n = maxint
-  pub firing_faults : i.variables ≡ pascal.Int (pos 9223372036854775807) ∷ [] → fire_step S on subject [] tick [] (fresh st 10) ≡ Err (fault.Overflow, 10)
+  pub firing_faults : i.variables ≡ pascal.Int (pos 9223372036854775807) ∷ [] → fire_step S on subject [] tick [] (fresh st 10) ≡ Err (Faults fault.Overflow, 10)
   unfolding block_step load plus
   firing_faults v = simp (is, sequence_at, assignment_at, sum_at, named_factor_at, number_factor_at, there, v, outs-Int)

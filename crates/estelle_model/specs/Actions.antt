@@ -4,7 +4,6 @@ use Rattle.std.specs.Option.{ok_or}
 use Rattle.std.specs.List.{list_any}
 use Rattle.std.specs.Str.{bytes_eq}
 use Rattle.std.specs.FinMap as map
-use Rattle.pascal_values.specs.declared.fault.Fault.{Fault}
 use Rattle.pascal_values.specs.declared.fault.Fault.TheVariants as fault
 use Rattle.pascal_values.specs.declared.value.Value.{Value}
 use Rattle.estelle_tree.specs.declared.link.IpAddr.{IpAddr}
@@ -15,6 +14,7 @@ use Rattle.estelle_tree.specs.Links.{joins, is_upper_of, is_lower_of, above}
 use Rattle.estelle_model.specs.Core.{Instance, Core}
 use Rattle.estelle_model.specs.Effects.{StatementEffect, Change, Hold, Enter}
 use Rattle.estelle_model.specs.Effects as effect
+use Rattle.estelle_model.specs.Stops.{Stop, Faults, Broken}
 use Rattle.estelle_model.specs.Plans.{Plan, Done, Fails, ◌>>=◌, reads, spends, makes, keeps, fails_if, fails_unless, for_each}
 use Rattle.estelle_model.specs.declared.denoter.Denoter.{Denoter}
 use Rattle.estelle_model.specs.declared.meaning.Meaning.{Meaning}
@@ -48,10 +48,10 @@ count_from k zero = []
 count_from k (suc n) = k ∷ count_from (suc k) n
 
 -- an instance that is there
-abbrev pub or_no_module : Option Instance → Result Instance Fault
-or_no_module i = ok_or i fault.NoModule
+abbrev pub or_no_module : Option Instance → Result Instance Stop
+or_no_module i = ok_or i (Faults fault.NoModule)
 
-abbrev pub instance_at : Path → Core → Result Instance Fault
+abbrev pub instance_at : Path → Core → Result Instance Stop
 instance_at p c = or_no_module (map.get c.instances p)
 
 -- the interaction that a name means is declared with this word, and may be sent at the interaction point
@@ -72,20 +72,20 @@ may_hold s b m k =
     && (allows (attribute s b) (attribute s k) && may_have_transitions s k))
 
 -- ModuleTaken where the module variable holds an instance
-abbrev pub empty_in : Option (Option Path) → Result (Unit {0}) Fault
+abbrev pub empty_in : Option (Option Path) → Result (Unit {0}) Stop
 empty_in (Some None) = Ok tt
-empty_in _ = Err fault.ModuleTaken
+empty_in _ = Err (Faults fault.ModuleTaken)
 
 module _ (subject : Subject) where
   -- ---- interaction points, by what their names mean
 
-  -- a statement with a name of another kind counts as the fault Unset
+  -- a statement with a name of another kind breaks a rule
   abbrev pub no_such : {A : Type 0} → Plan A
-  no_such = Fails fault.Unset
+  no_such = Fails Broken
 
   -- what the statement presumes: else it is as one with a name of another kind
   abbrev pub needs : (Core → Bool) → Plan (Unit {0})
-  needs test = fails_unless test fault.Unset
+  needs test = fails_unless test Broken
 
   -- the child that a module variable of the instance holds
   abbrev pub child_in : Path → Meaning → Plan Path
@@ -110,13 +110,13 @@ module _ (subject : Subject) where
   abbrev pub connect_points : Path → IpAddr → IpAddr → Plan (Unit {0})
   connect_points p a b = do
     allowed ← needs (λ c. may_connect subject c.instances p a b)
-    free ← fails_if (λ c. is_bound a c.links || is_bound b c.links) fault.LinkTaken
+    free ← fails_if (λ c. is_bound a c.links || is_bound b c.links) (Faults fault.LinkTaken)
     makes (effect.Connect a b)
 
   abbrev pub disconnect_point : Path → IpAddr → Plan (Unit {0})
   disconnect_point p a = do
     allowed ← needs (λ c. connectable_at p a (point subject c.instances a))
-    there ← fails_unless (λ c. is_connected a c.links) fault.LinkAbsent
+    there ← fails_unless (λ c. is_connected a c.links) (Faults fault.LinkAbsent)
     makes (effect.Disconnect a)
 
   abbrev pub disconnect_where : IpAddr → Bool → Plan (Unit {0})
@@ -139,13 +139,13 @@ module _ (subject : Subject) where
   abbrev pub attach_points : IpAddr → IpAddr → Plan (Unit {0})
   attach_points upper lower = do
     allowed ← needs (λ c. may_attach subject c.instances upper lower)
-    free ← fails_if (λ c. is_upper upper c.links || is_bound lower c.links) fault.LinkTaken
+    free ← fails_if (λ c. is_upper upper c.links || is_bound lower c.links) (Faults fault.LinkTaken)
     makes (effect.Attach upper lower)
 
   abbrev pub detach_point : IpAddr → Plan (Unit {0})
   detach_point upper = do
     allowed ← needs (λ c. external_at (point subject c.instances upper))
-    there ← fails_unless (λ c. is_upper upper c.links) fault.LinkAbsent
+    there ← fails_unless (λ c. is_upper upper c.links) (Faults fault.LinkAbsent)
     makes (effect.Detach upper)
 
   abbrev pub detach_above : Option IpAddr → Plan (Unit {0})

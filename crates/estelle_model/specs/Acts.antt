@@ -1,11 +1,10 @@
 -- What the statements of Estelle do in a state: their arguments, and then their plans (ISO/IEC 9074).
 use Rattle.std.specs.Prelude.{ℕ, suc, List, map}
-use Rattle.pascal_values.specs.declared.fault.Fault.TheVariants as fault
 use Rattle.pascal_values.specs.declared.value.Value.{Value}
 use Rattle.estelle_tree.specs.Paths.{Path, child}
 use Rattle.estelle_model.specs.Core.{Instance}
 use Rattle.estelle_model.specs.States.{Offers}
-use Rattle.estelle_model.specs.Steps.{Do, ◌>>=◌, fail}
+use Rattle.estelle_model.specs.Steps.{Do, ◌>>=◌, breaks}
 use Rattle.estelle_model.specs.Plans.{carry}
 use Rattle.estelle_model.specs.declared.meaning.Passing.TheVariants.{ByValue}
 use Rattle.estelle_model.specs.declared.meaning.Meaning.{Meaning}
@@ -34,7 +33,7 @@ module _ (S : Type 0) (on : Offers S) (subject : Subject) (meant : Meanings) (en
 
   abbrev pub init_of : Path → Meaning → Meaning → List (Operand S) → Do S
   init_of p (Module m) (Body k) es = init p m k es
-  init_of p x b es = fail fault.Unset
+  init_of p x b es = breaks
 
   -- what a statement of Estelle does: its arguments come first
   unfoldable pub act : Environment → Statement → List (Operand S) → Do S

@@ -26,9 +26,13 @@ given_values values = record { values = values; references = [] }
 abbrev pub enter_values : {S : Type 0} → List Value → Do S
 enter_values values = λ s. Ok (tt, record s { frames = pascal.Fields values ∷ [] })
 
--- a value, without that frame
-abbrev pub leave_values : {S : Type 0} → Value → Step S Value
-leave_values v = λ s. Ok (v, record s { frames = [] })
+-- what was come to, without that frame
+abbrev pub leave_values : {S A : Type 0} → A → Step S A
+leave_values a = λ s. Ok (a, record s { frames = [] })
+
+-- in a frame with these values alone
+abbrev pub with_values : {S A : Type 0} → List Value → Step S A → Step S A
+with_values values p = enter_values values >> p >>= leave_values
 
 module _ (S : Type 0) (on : Offers S) (meant : Meanings) (act : Enters S → Acts S) where
   -- what a block calls is nested one deep
@@ -39,6 +43,6 @@ module _ (S : Type 0) (on : Offers S) (meant : Meanings) (act : Enters S → Act
   unfoldable pub block_step : Path → Routine → List Value → Do S
   block_step p r values = within S on meant act from_block 0 p r (given_values values) >> pure tt
 
-  -- an expression in a clause, in a frame with those values
-  unfoldable pub clause_value : Path → List Value → Expr → Step S Value
-  clause_value p values e = enter_values values >> (expr S on meant (call_by from_block p) (record { path = p; frame = 0; references = [] }) e).value >>= λ v. leave_values v
+  -- an expression in a clause
+  unfoldable pub clause_value : Path → Expr → Step S Value
+  clause_value p e = (expr S on meant (call_by from_block p) (record { path = p; frame = 0; references = [] }) e).value

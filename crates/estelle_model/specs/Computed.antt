@@ -9,6 +9,7 @@ use Rattle.estelle_model.specs.declared.job.Outcome.{Outcome}
 use Rattle.estelle_model.specs.declared.job.Outcome.TheVariants as outcome
 use Rattle.estelle_model.specs.Core.{Core}
 use Rattle.estelle_model.specs.States.{Logged, on_log}
+use Rattle.estelle_model.specs.Stops.{told}
 use Rattle.estelle_model.specs.Steps as step
 use Rattle.estelle_model.specs.Blocks.{fresh}
 use Rattle.estelle_model.specs.Transitions.{Transition}
@@ -41,7 +42,7 @@ job_run s job t = fire_step Logged on_log s job.path t (values_of job.head) (fre
 -- the outcome is what a run on the log came to: its image, and all its effects
 abbrev pub IsMadeBy : Subject → step.StepResult Logged (Unit {0}) → Outcome → ℕ → Type 0
 IsMadeBy s (Ok r) (outcome.Ran image effects) left = Shows image r.1.state.image × (effects ≡ all_logged s r.1.state.log) × (left ≡ r.1.left)
-IsMadeBy s (Err e) (outcome.Faulted kind) left = (kind ≡ e.0) × (left ≡ e.1)
+IsMadeBy s (Err e) (outcome.Faulted kind) left = (kind ≡ told e.0) × (left ≡ e.1)
 IsMadeBy s _ _ left = ⊥
 
 -- where there is no such transition, nothing is asked

@@ -1,6 +1,6 @@
 -- What type denoters denote and declare (ISO 7185, 6.4).
-use Rattle.std.specs.Prelude.{ℕ, suc, ◌+◌, ◌-◌, List, [], ◌∷◌, ◌++◌, length, map, replicate, flat_map, ℤ, pos, Result, Ok, Err}
-use Rattle.pascal_values.specs.declared.fault.Fault.{Fault}
+use Rattle.std.specs.Prelude.{ℕ, suc, ◌+◌, ◌-◌, List, [], ◌∷◌, ◌++◌, length, map, replicate, flat_map, ℤ, pos, unwrap_or, Result}
+use Rattle.std.specs.Result.{result_ok}
 use Rattle.pascal_values.specs.declared.value.Value.TheVariants as pascal
 use Rattle.estelle_tree.specs.declared.tree.name.Name.{Name}
 use Rattle.estelle_tree.specs.declared.tree.type_expr.Const.{Const}
@@ -14,6 +14,7 @@ use Rattle.estelle_model.specs.declared.denoter.Host.{Host}
 use Rattle.estelle_model.specs.declared.denoter.Host.TheVariants as host
 use Rattle.estelle_model.specs.declared.denoter.Denoter.{Denoter}
 use Rattle.estelle_model.specs.declared.denoter.Denoter.TheVariants as denoter
+use Rattle.estelle_model.specs.Stops.{Stop}
 use Rattle.estelle_model.specs.Types.{ordinal_of, whole, host_of, range_of}
 use Rattle.estelle_model.specs.Operators.{◌>>>◌}
 use Rattle.estelle_model.specs.declared.meaning.Meaning.{Meaning}
@@ -46,9 +47,8 @@ type_of_meaning _ = whole host.Integer
 abbrev pub named_type : Meanings → Name → Denoter
 named_type known x = type_of_meaning (known x)
 
-abbrev pub bound_at : Result ℤ Fault → ℤ
-bound_at (Ok n) = n
-bound_at (Err e) = pos 0
+abbrev pub bound_at : Result ℤ Stop → ℤ
+bound_at r = unwrap_or (result_ok r) (pos 0)
 
 abbrev pub bound : Meanings → Const → ℤ
 bound known c = bound_at (constant_of known c >>> ordinal_of)

@@ -1,13 +1,11 @@
 -- Expressions and variable accesses: evaluation from left to right (ISO 7185, 6.5 and 6.7).
 use Rattle.std.specs.Prelude.{ℕ, Bool, true, false, if◌then◌else◌, List, [], ◌∷◌, ◌++◌, slice_get, Option, Some, None, ℤ, Result, Ok, Err}
-use Rattle.pascal_values.specs.declared.fault.Fault.{Fault}
-use Rattle.pascal_values.specs.declared.fault.Fault.TheVariants.{Unset}
 use Rattle.pascal_values.specs.declared.value.Value.{Value}
 use Rattle.pascal_values.specs.declared.value.Value.TheVariants as pascal
 use Rattle.pascal_values.specs.Sets.{union}
-use Rattle.pascal_values.specs.Shapes.{place_of, fit_of}
 use Rattle.estelle_tree.specs.declared.tree.name.Name.{Name}
 use Rattle.estelle_tree.specs.declared.tree.type_expr.Sign.{Sign}
+use Rattle.estelle_tree.specs.declared.tree.type_expr.Sign.TheVariants as sign
 use Rattle.estelle_tree.specs.declared.tree.expression.Relation.{Relation}
 use Rattle.estelle_tree.specs.declared.tree.expression.Adding.{Adding}
 use Rattle.estelle_tree.specs.declared.tree.expression.Adding.TheVariants as adding
@@ -26,11 +24,12 @@ use Rattle.estelle_tree.specs.declared.tree.expression.Selector.{Selector}
 use Rattle.estelle_model.specs.declared.denoter.Host.{Host}
 use Rattle.estelle_model.specs.declared.denoter.Host.TheVariants as hosts
 use Rattle.estelle_model.specs.declared.denoter.Denoter.{Denoter}
-use Rattle.estelle_model.specs.Types.{ordinal_of, shape_of, host_of, item_of, field_of, bounds_of}
+use Rattle.estelle_model.specs.Stops.{Stop, Broken, stopping}
+use Rattle.estelle_model.specs.Types.{ordinal_of, value_in, shape_of, host_of, whole, assignable, item_of, field_of, item_place}
 use Rattle.estelle_tree.specs.declared.required.Required.{Required}
-use Rattle.estelle_model.specs.Operators.{bool_of, plus, minus, times, divided, modulo, signed, negation, related, one_member, members_from, required_value, required_host}
+use Rattle.estelle_model.specs.Operators.{◌>>>◌, bool_of, plus, minus, times, divided, modulo, signed, negation, related, one_member, members_from, required_value, required_host}
 use Rattle.estelle_model.specs.States.{Offers}
-use Rattle.estelle_model.specs.Steps.{Step, ◌>>=◌, pure, fail, checked}
+use Rattle.estelle_model.specs.Steps.{Step, ◌>>=◌, pure, breaks, checked}
 use Rattle.estelle_model.specs.declared.meaning.Routine.{Routine}
 use Rattle.estelle_model.specs.declared.meaning.Passing.{Passing}
 use Rattle.estelle_model.specs.declared.meaning.Passing.TheVariants.{ByValue, ByPlace}
@@ -76,8 +75,22 @@ bool_step p = p >>= λ v. checked (bool_of v)
 abbrev pub ordinal_step : {S : Type 0} → Step S Value → Step S ℤ
 ordinal_step p = p >>= λ v. checked (ordinal_of v)
 
+-- the ordinal of a bound of `for`, which is a value of the whole type of the variable's host
+abbrev pub bound_of : Host → Value → Result ℤ Stop
+bound_of h v = stopping (assignable (shape_of (whole h)) v) >>> λ ok. ordinal_of v
+
+abbrev pub bound_step : {S : Type 0} → Host → Step S Value → Step S ℤ
+bound_step h p = p >>= λ v. checked (bound_of h v)
+
+-- the ordinal of the selector of `case`, which is an integer
+abbrev pub selector_of : Value → Result ℤ Stop
+selector_of v = ordinal_of v >>> λ n. value_in hosts.Integer n >>> λ w. Ok n
+
+abbrev pub selector_step : {S : Type 0} → Step S Value → Step S ℤ
+selector_step p = p >>= λ v. checked (selector_of v)
+
 -- the left operand, then the right one
-abbrev pub both : {S : Type 0} → (Value → Value → Result Value Fault) → Step S Value → Step S Value → Step S Value
+abbrev pub both : {S : Type 0} → (Value → Value → Result Value Stop) → Step S Value → Step S Value → Step S Value
 both f p q = do
   v ← p
   w ← q
@@ -120,15 +133,15 @@ computed h p = record { value = p; host = h; place = None }
 
 -- ---- arguments
 
--- a value argument fits its parameter's type, which is tested directly after its evaluation; a var parameter names the place that the variable has now
+-- a value argument may be assigned to its parameter, which is tested directly after its evaluation; a var parameter names the place that the variable has now
 abbrev pub place_of_operand : {S : Type 0} → Option (Step S Place) → Step S Place
-place_of_operand None = fail Unset
+place_of_operand None = breaks
 place_of_operand (Some p) = p
 
 abbrev pub give : {S : Type 0} → Passing → Operand S → ActualParameters → Step S ActualParameters
 give (ByValue t) e g = do
   v ← e.value
-  ok ← checked (fit_of (shape_of t) v)
+  ok ← checked (stopping (assignable (shape_of t) v))
   pure (record g { values = g.values ++ v ∷ [] })
 give ByPlace e g = place_of_operand e.place >>= λ p. pure (record g { references = g.references ++ p ∷ [] })
 
@@ -136,8 +149,8 @@ give ByPlace e g = place_of_operand e.place >>= λ p. pure (record g { reference
 abbrev pub give_all : {S : Type 0} → List Passing → List (Operand S) → ActualParameters → Step S ActualParameters
 give_all [] [] g = pure g
 give_all (p ∷ ps) (e ∷ es) g = give p e g >>= λ h. give_all ps es h
-give_all [] (e ∷ es) g = fail Unset
-give_all (p ∷ ps) [] g = fail Unset
+give_all [] (e ∷ es) g = breaks
+give_all (p ∷ ps) [] g = breaks
 
 abbrev pub no_arguments : ActualParameters
 no_arguments = record { values = []; references = [] }
@@ -161,8 +174,8 @@ abbrev pub result_host : Option Denoter → Host
 result_host None = hosts.Integer
 result_host (Some t) = host_of t
 
-abbrev pub reference_at : Option Place → Result Place Fault
-reference_at None = Err Unset
+abbrev pub reference_at : Option Place → Result Place Stop
+reference_at None = Err Broken
 reference_at (Some p) = Ok p
 
 -- ---- trees
@@ -173,7 +186,7 @@ module _ (S : Type 0) (on : Offers S) (meant : Meanings) (call : Call S) (here :
   index_step a e = do
     p ← a.place
     n ← ordinal_step e.value
-    k ← checked (place_of (bounds_of a.denoter).0 (bounds_of a.denoter).1 n)
+    k ← checked (item_place a.denoter n)
     pure (deeper p k)
 
   -- one index after another
@@ -181,9 +194,10 @@ module _ (S : Type 0) (on : Offers S) (meant : Meanings) (call : Call S) (here :
   indexed [] a = a
   indexed (e ∷ es) a = indexed es (record { denoter = item_of a.denoter; place = index_step a e })
 
+  -- a name that is no field's breaks a rule
   abbrev pub fielded : Meaning → Access S → Access S
   fielded (Field k) a = record { denoter = field_of a.denoter k; place = a.place >>= λ p. pure (deeper p k) }
-  fielded _ a = a
+  fielded _ a = record a { place = a.place >>= λ p. breaks }
 
   abbrev pub selected : List (Selecting S) → Access S → Access S
   selected [] a = a
@@ -212,7 +226,7 @@ module _ (S : Type 0) (on : Offers S) (meant : Meanings) (call : Call S) (here :
   accessed _ ss = None
 
   abbrev pub of_access : Option (Access S) → Operand S
-  of_access None = computed hosts.Integer (fail Unset)
+  of_access None = computed hosts.Integer breaks
   of_access (Some a) = record { value = a.place >>= λ p. load S on p; host = host_of a.denoter; place = Some a.place }
 
   -- a function's result, which is read at the end of the call
@@ -230,13 +244,13 @@ module _ (S : Type 0) (on : Offers S) (meant : Meanings) (call : Call S) (here :
 
   abbrev pub required_of : Required → List (Operand S) → Operand S
   required_of f (e ∷ []) = computed (required_host f e.host) (e.value >>= λ v. checked (required_value f e.host v))
-  required_of f _ = computed hosts.Integer (fail Unset)
+  required_of f _ = computed hosts.Integer breaks
 
   -- a function designator (ISO 7185, 6.7.3)
   abbrev pub designated : Meaning → List (Operand S) → Operand S
   designated (Called r) es = computed (result_host r.result) (called r es)
   designated (RequiredFunction f) es = required_of f es
-  designated _ es = computed hosts.Integer (fail Unset)
+  designated _ es = computed hosts.Integer breaks
 
   abbrev pub factor_layer : Factor-F (Operand S) (Selecting S) (List (Operand S)) (Step S (List ℕ)) (Operand S) (Operand S) (Operand S) (Written S) → Operand S
   factor_layer (Factor-F.Number n span) = computed hosts.Integer (pure (pascal.Int n))
@@ -265,10 +279,11 @@ module _ (S : Type 0) (on : Offers S) (meant : Meanings) (call : Call S) (here :
   abbrev pub term_layer : Term-F (Operand S) (Selecting S) (List (Operand S)) (Step S (List ℕ)) (Operand S) (Operand S) (Operand S) (Written S) → Operand S
   term_layer t = term_of t.first t.others
 
-  -- a sign applies to the whole first term
+  -- a sign applies to the whole first term; a plus changes no value
   abbrev pub with_sign : Option Sign → Operand S → Operand S
   with_sign None e = e
-  with_sign (Some sign) e = computed hosts.Integer (e.value >>= λ v. checked (signed sign v))
+  with_sign (Some sign.Plus) e = computed hosts.Integer e.value
+  with_sign (Some sign.Minus) e = computed hosts.Integer (e.value >>= λ v. checked (signed sign.Minus v))
 
   -- terms from left to right
   abbrev pub simple_of : Operand S → List (Adding × Operand S) → Operand S

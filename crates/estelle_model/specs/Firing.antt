@@ -9,6 +9,7 @@ use Rattle.estelle_model.specs.declared.job.Guard.{Guard}
 use Rattle.estelle_model.specs.declared.job.Guard.TheVariants.{Off}
 use Rattle.estelle_tree.specs.Paths.{Path, path_cmp}
 use Rattle.estelle_model.specs.Core.{Instance}
+use Rattle.estelle_model.specs.Stops.{told}
 use Rattle.estelle_model.specs.Steps.{StepResult}
 use Rattle.estelle_model.specs.Blocks.{fresh}
 use Rattle.estelle_model.specs.Transitions.{Transition, When}
@@ -33,7 +34,7 @@ begun g = record { situation = g; outs = []; drops = [] }
 
 abbrev pub done : StepResult Acting (Unit {0}) → Firing
 done (Ok r) = Ran r.1.state.situation r.1.state.outs r.1.state.drops r.1.left
-done (Err e) = Failed e.0 e.1
+done (Err e) = Failed (told e.0) e.1
 
 -- without the timer of a transition
 abbrev pub untimed : Path → ℕ → Firing → Firing

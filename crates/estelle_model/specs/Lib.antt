@@ -2,7 +2,8 @@
 pub mod Core
 pub mod Effects
 pub mod States
--- ---- types, values and operators
+-- ---- what stops a step; types, values and operators
+pub mod Stops
 pub mod Types
 pub mod Belonging
 pub mod Operators

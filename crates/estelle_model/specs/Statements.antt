@@ -1,9 +1,7 @@
 -- Statements (ISO 7185, 6.8), and what the statements of Estelle are given.
 use Rattle.std.specs.Prelude.{Bool, false, ◌||◌, if◌then◌else◌, List, [], ◌∷◌, Option, Some, None, ℤ, Result, Ok, Err}
-use Rattle.pascal_values.specs.declared.fault.Fault.{Fault}
 use Rattle.pascal_values.specs.declared.fault.Fault.TheVariants as fault
 use Rattle.pascal_values.specs.declared.value.Value.{Value}
-use Rattle.pascal_values.specs.declared.value.Value.TheVariants as pascal
 use Rattle.pascal_values.specs.Integers.{is_between}
 use Rattle.estelle_tree.specs.declared.tree.name.Name.{Name}
 use Rattle.estelle_tree.specs.declared.tree.type_expr.Const.{Const}
@@ -17,17 +15,18 @@ use Rattle.estelle_tree.specs.declared.tree.statement.Stmts.{Stmts}
 use Rattle.estelle_tree.specs.declared.tree.statement.Case.{Case}
 use Rattle.estelle_tree.specs.declared.tree.statement.Stmt.TheOpen.{Stmt-F, Case-F, Stmts-F}
 use Rattle.estelle_tree.specs.declared.tree.statement.Stmt.TheFolds.{fold-Stmt, fold-Case, fold-Stmts}
-use Rattle.estelle_model.specs.Types.{ordinal_of}
+use Rattle.estelle_model.specs.Stops.{Stop}
+use Rattle.estelle_model.specs.Types.{ordinal_of, host_of}
 use Rattle.estelle_model.specs.Operators.{◌>>>◌}
 use Rattle.estelle_model.specs.Constants.{constant_of}
 use Rattle.estelle_model.specs.States.{Offers}
-use Rattle.estelle_model.specs.Steps.{Step, Do, ◌>>=◌, pure, fail, all}
+use Rattle.estelle_model.specs.Steps.{Step, Do, ◌>>=◌, pure, fail, breaks, all}
 use Rattle.estelle_model.specs.declared.meaning.Meaning.{Meaning}
 use Rattle.estelle_model.specs.declared.meaning.Meaning.TheVariants.{Called}
 use Rattle.estelle_model.specs.Meant.{Meanings}
-use Rattle.estelle_model.specs.Places.{put, store, store_ordinal}
+use Rattle.estelle_model.specs.Places.{blank_at, store, store_ordinal}
 use Rattle.estelle_model.specs.declared.place.Environment.{Environment}
-use Rattle.estelle_model.specs.Expressions.{Call, Operand, Access, bool_step, ordinal_step, give_all, no_arguments, expr, args, target, accessed}
+use Rattle.estelle_model.specs.Expressions.{Call, Operand, Access, bool_step, bound_step, selector_step, give_all, no_arguments, expr, args, target, accessed}
 use Rattle.estelle_model.specs.Loops.{while_loop, repeat_loop, count_loop}
 
 -- the statements of Estelle (ISO/IEC 9074), by what they name
@@ -40,13 +39,24 @@ pub data Statement : Type 0 where
   Detach : (own : Name) → Statement
   Output : (ip interaction : Name) → Statement
 
+-- a statement of Estelle as it is written, with its arguments; a statement of Pascal is none
+abbrev pub statement_of : {A B C : Type 0} → Stmt-F A B C → Option (Statement × Option Args)
+statement_of (Stmt-F.Init x b es span) = Some (Init x b, es)
+statement_of (Stmt-F.Release x span) = Some (Release x, None)
+statement_of (Stmt-F.Connect a b span) = Some (Connect a b, None)
+statement_of (Stmt-F.Disconnect a span) = Some (Disconnect a, None)
+statement_of (Stmt-F.Attach p x q span) = Some (Attach p x q, None)
+statement_of (Stmt-F.Detach p span) = Some (Detach p, None)
+statement_of (Stmt-F.Output p m es span) = Some (Output p m, es)
+statement_of _ = None
+
 -- what a statement of Estelle does with its arguments
 abbrev pub Acts : Type 0 → Type 0
 Acts S = Environment → Statement → List (Operand S) → Do S
 
 -- ---- labels
 
-abbrev pub has_ordinal : ℤ → Result ℤ Fault → Bool
+abbrev pub has_ordinal : ℤ → Result ℤ Stop → Bool
 has_ordinal n (Ok m) = is_between n n m
 has_ordinal n (Err e) = false
 
@@ -73,7 +83,7 @@ module _ (S : Type 0) (on : Offers S) (meant : Meanings) (act : Acts S) (call : 
   arguments (Some es) = args S on meant call here es
 
   abbrev pub assign_to : Option (Access S) → Step S Value → Do S
-  assign_to None p = fail fault.Unset
+  assign_to None p = breaks
   assign_to (Some a) p = do
     place ← a.place
     v ← p
@@ -88,7 +98,7 @@ module _ (S : Type 0) (on : Offers S) (meant : Meanings) (act : Acts S) (call : 
     given ← give_all r.parameters es no_arguments
     result ← call r given
     pure tt
-  invoke_of _ es = fail fault.Unset
+  invoke_of _ es = breaks
 
   unfoldable pub invoke : Name → Option Args → Do S
   invoke x es = invoke_of (meant x) (arguments es)
@@ -98,20 +108,24 @@ module _ (S : Type 0) (on : Offers S) (meant : Meanings) (act : Acts S) (call : 
     b ← bool_step (value_of_expr test)
     if b then then_part else or_nothing else_part
 
-  abbrev pub count_over : Option (Access S) → Step S ℤ → Direction → Step S ℤ → Do S → Do S
-  count_over None first dir last body = fail fault.Unset
+  abbrev pub count_over : Option (Access S) → Step S Value → Direction → Step S Value → Do S → Do S
+  count_over None first dir last body = breaks
   count_over (Some a) first dir last body = do
-    m ← first
-    n ← last
+    m ← bound_step (host_of a.denoter) first
+    n ← bound_step (host_of a.denoter) last
     place ← a.place
-    count_loop dir m n (λ k. store_ordinal S on a.denoter place k) (put S on place pascal.Unset) body
+    count_loop dir m n (λ k. store_ordinal S on a.denoter place k) (blank_at S on place) body
 
-  -- the bounds are evaluated once
+  -- the bounds, which are values of the variable's host type, are evaluated once
   unfoldable pub count : Name → Expr → Direction → Expr → Do S → Do S
-  count x first dir last body = count_over (accessed S on meant call here (meant x) []) (ordinal_step (value_of_expr first)) dir (ordinal_step (value_of_expr last)) body
+  count x first dir last body = count_over (accessed S on meant call here (meant x) []) (value_of_expr first) dir (value_of_expr last) body
 
   unfoldable pub select : Expr → List (List Const × Do S) → Do S
-  select e cases = ordinal_step (value_of_expr e) >>= λ n. chosen meant n cases
+  select e cases = selector_step (value_of_expr e) >>= λ n. chosen meant n cases
+
+  abbrev pub acted : Option (Statement × Option Args) → Do S
+  acted None = breaks
+  acted (Some x) = act here x.0 (arguments x.1)
 
   abbrev pub stmt_layer : Stmt-F (Do S) (List Const × Do S) (Do S) → Do S
   stmt_layer Stmt-F.Empty = pure tt
@@ -123,13 +137,7 @@ module _ (S : Type 0) (on : Offers S) (meant : Meanings) (act : Acts S) (call : 
   stmt_layer (Stmt-F.Repeat body test span) = repeat_loop body (bool_step (value_of_expr test))
   stmt_layer (Stmt-F.Count x first dir last body span) = count x first dir last body
   stmt_layer (Stmt-F.Case e cases semicolon span) = select e cases
-  stmt_layer (Stmt-F.Init x b es span) = act here (Init x b) (arguments es)
-  stmt_layer (Stmt-F.Release x span) = act here (Release x) []
-  stmt_layer (Stmt-F.Connect a b span) = act here (Connect a b) []
-  stmt_layer (Stmt-F.Disconnect a span) = act here (Disconnect a) []
-  stmt_layer (Stmt-F.Attach p x q span) = act here (Attach p x q) []
-  stmt_layer (Stmt-F.Detach p span) = act here (Detach p) []
-  stmt_layer (Stmt-F.Output p m es span) = act here (Output p m) (arguments es)
+  stmt_layer x = acted (statement_of x)
 
   abbrev pub case_layer : Case-F (Do S) (List Const × Do S) (Do S) → List Const × Do S
   case_layer c = (c.labels, c.body)

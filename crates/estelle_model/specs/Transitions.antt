@@ -1,6 +1,6 @@
 -- The transitions of a body without nested clauses and without `any` (ISO/IEC 9074: flat transitions).
 use Rattle.std.specs.Prelude.{ℕ, zero, suc, List, [], ◌∷◌, map, flat_map, fold, ℤ, pos, ◌+ℤ◌, option_and_then, Option, Some, None, Result, Ok, Err}
-use Rattle.pascal_values.specs.declared.fault.Fault.{Fault}
+use Rattle.std.specs.Result.{result_ok}
 use Rattle.pascal_values.specs.declared.value.Value.{Value}
 use Rattle.pascal_values.specs.declared.value.Value.TheVariants as pascal
 use Rattle.pascal_values.specs.Shapes.{item_count}
@@ -16,6 +16,7 @@ use Rattle.estelle_tree.specs.declared.tree.clause.Clause.{Clause}
 use Rattle.estelle_tree.specs.declared.tree.clause.Clause.TheVariants as clause
 use Rattle.estelle_model.specs.declared.denoter.Host.{Host}
 use Rattle.estelle_model.specs.declared.denoter.Denoter.{Denoter}
+use Rattle.estelle_model.specs.Stops.{Stop}
 use Rattle.estelle_model.specs.Types.{ordinal_of, value_in, host_of, range_of}
 use Rattle.estelle_model.specs.Operators.{◌>>>◌}
 use Rattle.estelle_model.specs.declared.meaning.Meaning.{Meaning}
@@ -107,13 +108,9 @@ module _ (known : Meanings) where
   priority_of (clause.Priority c span) = Some c
   priority_of _ = None
 
-  abbrev pub number_at : Result ℤ Fault → Option ℤ
-  number_at (Ok n) = Some n
-  number_at (Err e) = None
-
   -- the number that a constant is, if it has a value
   abbrev pub number_of : Const → Option ℤ
-  number_of c = number_at (constant_of known c >>> ordinal_of)
+  number_of c = result_ok (constant_of known c >>> ordinal_of)
 
   abbrev pub delay_of : Clause → Option Delay
   delay_of (clause.Delay low high span) = Some (record { low = low; high = high })
@@ -131,7 +128,7 @@ module _ (known : Meanings) where
   ordinals t = numbers_from (range_of t).0 (item_count (range_of t).0 (range_of t).1)
 
   -- an ordinal that the host type does not have counts as unset
-  abbrev pub or_unset : Result Value Fault → Value
+  abbrev pub or_unset : Result Value Stop → Value
   or_unset (Ok v) = v
   or_unset (Err e) = pascal.Unset
 

@@ -5,11 +5,13 @@ use Rattle.pascal_values.specs.declared.fault.Fault.TheVariants as fault
 use Rattle.pascal_values.specs.declared.value.Value.{Value, out-Value}
 use Rattle.pascal_values.specs.declared.value.Value.TheVariants as value
 use Rattle.pascal_values.specs.declared.value.Value.TheOpen.{Value-F}
-use Rattle.pascal_values.specs.declared.value.Shape.{Shape}
+use Rattle.pascal_values.specs.declared.value.Shape.{Shape, out-Shape}
 use Rattle.pascal_values.specs.declared.value.Shape.TheVariants as shape
+use Rattle.pascal_values.specs.declared.value.Shape.TheOpen.{Shape-F}
 use Rattle.pascal_values.specs.Integers.{is_between}
-use Rattle.pascal_values.specs.Shapes.{bool_ordinal}
+use Rattle.pascal_values.specs.Shapes.{bool_ordinal, place_of, fit_of}
 use Rattle.estelle_tree.specs.Required.{maxint, least_integer}
+use Rattle.estelle_model.specs.Stops.{Stop, Faults, Broken, stopping}
 use Rattle.estelle_model.specs.declared.denoter.Host.{Host}
 use Rattle.estelle_model.specs.declared.denoter.Host.TheVariants as host
 use Rattle.estelle_model.specs.declared.denoter.Denoter.{Denoter, out-Denoter}
@@ -30,15 +32,15 @@ greatest host.Boolean = pos 1
 greatest host.Char = pos 255
 greatest (host.Enumeration last) = pos last
 
-abbrev pub ordinal_at : Value-F Value → Result ℤ Fault
+abbrev pub ordinal_at : Value-F Value → Result ℤ Stop
 ordinal_at (Value-F.Int n) = Ok n
 ordinal_at (Value-F.Bool b) = Ok (pos (bool_ordinal b))
 ordinal_at (Value-F.Char n) = Ok (pos n)
 ordinal_at (Value-F.Enum n) = Ok (pos n)
-ordinal_at _ = Err fault.Unset
+ordinal_at _ = Err Broken
 
 -- the ordinal of a value of an ordinal type (ISO 7185, 6.6.6.4: `ord`)
-abbrev pub ordinal_of : Value → Result ℤ Fault
+abbrev pub ordinal_of : Value → Result ℤ Stop
 ordinal_of v = ordinal_at (out-Value v)
 
 -- the value of a host type with an ordinal
@@ -49,8 +51,8 @@ value_of host.Char n = value.Char (nat_abs n)
 value_of (host.Enumeration last) n = value.Enum (nat_abs n)
 
 -- the value with an ordinal, where the host type has one
-abbrev pub value_in : Host → ℤ → Result Value Fault
-value_in h n = if is_between (least h) (greatest h) n then Ok (value_of h n) else Err fault.Range
+abbrev pub value_in : Host → ℤ → Result Value Stop
+value_in h n = if is_between (least h) (greatest h) n then Ok (value_of h n) else Err (Faults fault.Range)
 
 -- ---- types
 
@@ -69,6 +71,15 @@ shape_step (Denoter-F.Fields fields) = shape.Fields fields
 -- the values of a type, by its shape
 unfoldable pub shape_of : Denoter → Shape
 shape_of = fold-Denoter Shape shape_step
+
+abbrev pub assignable_at : Shape-F Shape → Shape → Value → Result (Unit {0}) Fault
+assignable_at (Shape-F.Array low high item) shape v = Ok tt
+assignable_at (Shape-F.Fields fields) shape v = Ok tt
+assignable_at _ shape v = fit_of shape v
+
+-- whether a value is assignment-compatible with a type (ISO 7185, 6.4.6): a simple value or a set is tested; an array or a record has the type already
+unfoldable pub assignable : Shape → Value → Result (Unit {0}) Fault
+assignable shape v = assignable_at (out-Shape shape) shape v
 
 -- the whole type of a host
 abbrev pub whole : Host → Denoter
@@ -99,13 +110,13 @@ field_at _ k t = t
 abbrev pub field_of : Denoter → ℕ → Denoter
 field_of t k = field_at (out-Denoter t) k t
 
-abbrev pub bounds_at : Denoter-F Denoter → ℤ × ℤ
-bounds_at (Denoter-F.Array low high item) = (low, high)
-bounds_at _ = (pos 1, pos 0)
+abbrev pub place_at : Denoter-F Denoter → ℤ → Result ℕ Stop
+place_at (Denoter-F.Array low high item) n = stopping (place_of low high n)
+place_at _ n = Err Broken
 
--- the bounds of an array's index type; of another type there is no index
-abbrev pub bounds_of : Denoter → ℤ × ℤ
-bounds_of t = bounds_at (out-Denoter t)
+-- the place of an index among the items of an array type; another type has none
+abbrev pub item_place : Denoter → ℤ → Result ℕ Stop
+item_place t n = place_at (out-Denoter t) n
 
 abbrev pub range_at : Denoter-F Denoter → ℤ × ℤ
 range_at (Denoter-F.Ordinal h low high) = (low, high)

@@ -3,11 +3,9 @@ use Rattle.std.proofs.Common.{◌≡◌, ℕ, Bool, true, List, [], Result, Ok, 
 use Rattle.std.specs.Prelude.{◌≢◌, ◌&&◌, ◌||◌, slice_get, option_map}
 use Rattle.std.specs.List.{find}
 use Rattle.std.specs.FinMap as fin
-use Rattle.pascal_values.specs.declared.fault.Fault.{Fault}
 use Rattle.pascal_values.specs.declared.value.Value.{Value}
 use Rattle.estelle_tree.specs.declared.link.IpAddr.{IpAddr}
 use Rattle.estelle_tree.specs.declared.link.Link.{Link}
-use Rattle.estelle_tree.specs.declared.tree.expression.Expr.{Expr}
 use Rattle.estelle_tree.specs.Paths.{Path, is_inside, child, last_of}
 use Rattle.estelle_tree.specs.Links.{is_lower_of, is_upper_of, above}
 use Rattle.estelle_model.specs.Core.{Instance, Core}
@@ -15,24 +13,17 @@ use Rattle.estelle_model.specs.InteractionPoints.{point, may_join, connectable_a
 use Rattle.estelle_model.specs.Effects.{StatementEffect, Create, Change, Store, Hold, Enter}
 use Rattle.estelle_model.specs.Effects as effect
 use Rattle.estelle_model.specs.States.{Offers, IsFaithful}
-use Rattle.estelle_model.specs.Plans.{carry}
-use Rattle.estelle_model.specs.declared.meaning.Routine.{Routine}
 use Rattle.estelle_model.specs.Meant.{Meanings}
 use Rattle.estelle_model.specs.Belonging.{are_values_of}
 use Rattle.estelle_model.specs.Places.{held_in, module_variables_of, child_at}
 use Rattle.estelle_model.specs.Statements.{Statement}
-use Rattle.estelle_model.specs.Blocks.{block_step, clause_value}
 use Rattle.estelle_model.specs.Subject.{Subject, child_of}
-use Rattle.estelle_model.specs.Actions.{is_bound, is_connected, is_upper, is_sent_at, enters_state}
-use Rattle.estelle_model.specs.Acts.{act}
+use Rattle.estelle_model.specs.Actions.{is_bound, is_connected, is_upper, is_sent_at}
 use Rattle.estelle_model.specs.Definitions.{types_received}
 use Rattle.estelle_model.specs.Jobs.{is_below_or_own, IsOwnOrChild, CanBeMade}
-use Rattle.estelle_model.proofs.Alike.{DoAlike, ValueAlike}
 use Rattle.estelle_model.proofs.AlikePlaces.{ShowAlike}
-use Rattle.estelle_model.proofs.AlikeCalls.{ActsAlike, block_alike, clause_alike}
 use Rattle.estelle_model.proofs.Carried.{KeepsRelated}
-use Rattle.estelle_model.proofs.Stated.{IsHeld, IsOwnOrHeld, IsLinked, SeesSame, IsStated, IsStatedChange, stated, unsaid, enters_fits}
-use Rattle.estelle_model.proofs.ActsAlike as acts
+use Rattle.estelle_model.proofs.Stated.{IsHeld, IsOwnOrHeld, IsLinked, SeesSame, IsStated, IsStatedChange, stated}
 use Rattle.estelle_model.proofs.Members.{find_among}
 use Rattle.estelle_model.proofs.PrivateParts.{child_inside, left_true, right_true}
 use Rattle.estelle_model_answers.proofs.Owned.{left_false, right_false, any_among, last_child, own_path, child_owned, linked_owned, not_itself, sent_there, upper_of, none_held}
@@ -167,16 +158,3 @@ module _ (S T : Type 0) (on : Offers S) (on' : Offers T) (faithful : IsFaithful 
       makes = λ e x y r h. keeps.made e x y r (can x y r e h.1) (bare (on.core x) e h.1);
       keeps = λ q change x y r h. kept_at x y r q change h.1;
     }
-
-  module _ (known : Meanings) where
-    pub enters_alike : (p : Path) (o : Option ℕ) → is_inside m p ≡ true → DoAlike S T R (carry S on (enters_state s p o)) (carry T on' (enters_state s p o))
-    enters_alike p o inside = acts.plan_alike S T on on' m R s known (related known) p inside unsaid [] (enters_state s p o) (λ c. enters_fits s known p unsaid [] tt p o 0 c (inl refl))
-
-    acts_alike : ActsAlike S T on on' m R (act S on s known) (act T on' s known)
-    acts_alike = acts.act_alike S T on on' m R s known (related known)
-
-    pub blocks_alike : (p : Path) → is_inside m p ≡ true → (r : Routine) (vs : List Value) → DoAlike S T R (block_step S on known (act S on s known) p r vs) (block_step T on' known (act T on' s known) p r vs)
-    blocks_alike p h r vs = block_alike S T on on' m R shown known (act S on s known) (act T on' s known) acts_alike p h r vs
-
-    pub clauses_alike : (p : Path) → is_inside m p ≡ true → (vs : List Value) (e : Expr) → ValueAlike S T R (clause_value S on known (act S on s known) p vs e) (clause_value T on' known (act T on' s known) p vs e)
-    clauses_alike p h vs e = clause_alike S T on on' m R shown known (act S on s known) (act T on' s known) acts_alike p h vs e

@@ -6,9 +6,6 @@ use Rattle.std.specs.FinMap as map
 use Rattle.std.proofs.lemmas.List.Sorted.{IsPermutation-refl, IsPermutation-trans}
 use Rattle.pascal_values.specs.declared.value.Value.{Value}
 use Rattle.estelle_tree.specs.declared.link.Link.{Link}
-use Rattle.estelle_tree.specs.declared.tree.expression.Expr.{Expr}
-use Rattle.estelle_tree.specs.declared.tree.clause.DelayHigh.{DelayHigh}
-use Rattle.estelle_tree.specs.declared.tree.clause.DelayHigh.TheVariants as high
 use Rattle.estelle_tree.specs.Paths.{Path, path_cmp, child, is_inside}
 use Rattle.estelle_tree.specs.Timers.{Timer, pair_cmp}
 use Rattle.estelle_model.specs.declared.image.Part.{Part}
@@ -23,33 +20,33 @@ use Rattle.estelle_model.specs.declared.job.Outcome.TheVariants as outcome
 use Rattle.estelle_model.specs.Core.{Instance, Instances, Core}
 use Rattle.estelle_model.specs.Effects.{StatementEffect}
 use Rattle.estelle_model.specs.States.{Logged, on_log}
-use Rattle.estelle_model.specs.Steps.{StepResult, pure, checked}
-use Rattle.estelle_model.specs.Operators.{int_of}
+use Rattle.estelle_model.specs.Stops.{told}
+use Rattle.estelle_model.specs.Steps.{StepResult}
 use Rattle.estelle_model.specs.Places.{module_variables_of}
 use Rattle.estelle_model.specs.Bodies.{BodyAlone}
-use Rattle.estelle_model.specs.Blocks.{fresh, block_step}
-use Rattle.estelle_model.specs.Plans.{carry}
-use Rattle.estelle_model.specs.Actions.{enters_state}
-use Rattle.estelle_model.specs.Acts.{act}
+use Rattle.estelle_model.specs.Blocks.{fresh}
+use Rattle.estelle_model.specs.Meant.{Meanings}
+use Rattle.estelle_model.specs.Statements.{Statement}
 use Rattle.estelle_model.specs.Transitions.{Transition, When, Delay}
 use Rattle.estelle_model.specs.Subject.{Subject, meant, meant_with, of_block, begins, body, types_of_variables, new_instance}
-use Rattle.estelle_model.specs.Clauses.{fire_step, start_step, value_of_expr, provided_step, int_step, between, from_on, high_step, at_once, delay_step, guard_step, answered}
+use Rattle.estelle_model.specs.Clauses.{fire_step, start_step, guard_step, answered}
 use Rattle.estelle_model.specs.Situation.{Situation, Acting, acting_after, on_situation}
 use Rattle.estelle_model.specs.Queues.{Found, NotNeeded, Head, Absent, received}
 use Rattle.estelle_model.specs.Firing.{Firing, Ran, Failed, begun, done, untimed, taken, fire_with, fire_found, fire_of, transition_at, fire, alone, bare, start, guard_with}
 use Rattle.estelle_model.specs.Jobs.{part_of_entry, is_private, private, Shows, MayActAlone, all_logged, overlaid, outline_of_parts, after_all, put, ran, IsPut, IsAnswer, IsHead, taken_by, received_by, AnswersAt}
 use Rattle.estelle_model.specs.Computed.{core_of, log_from, values_of, start_run, job_run, IsMadeBy, IsOfTransition, IsComputedOf}
-use Rattle.estelle_model.proofs.Alike.{Same, RunningAlike, OutcomeAlike, StepAlike, DoAlike, ValueAlike, then_same, pure_alike, checked_alike, if_alike}
-use Rattle.estelle_model.proofs.AlikeOperands.{bool_alike}
-use Rattle.estelle_model.proofs.AlikeFirings.{inside_root}
-use Rattle.estelle_model.proofs.AlikeFirings.{situation_is_faithful}
+use Rattle.estelle_model.proofs.Alike.{Same, RunningAlike, OutcomeAlike, DoAlike}
+use Rattle.estelle_model.proofs.AlikePlaces.{ShowAlike}
+use Rattle.estelle_model.proofs.Carried.{KeepsRelated}
+use Rattle.estelle_model.proofs.Stated.{stated}
+use Rattle.estelle_model.proofs.AlikeFirings.{inside_root, situation_is_faithful, fire_step_alike, start_step_alike, guard_step_alike, same_answer}
 use Rattle.estelle_model.proofs.Maps.{total, apart, get_inserted, same_told}
 use Rattle.std.specs.Option.{option_or}
 use Rattle.estelle_model.proofs.Members.{contained}
 use Rattle.estelle_model.proofs.PrivateParts.{inside_self, none_else, told_parts, get_inside, core_private, privates_same, remove_empty}
 use Rattle.estelle_model_answers.specs.Laws.{JobsAreAnswered, GuardsAreAnswered}
 use Rattle.estelle_model_answers.proofs.Owned.{none_held}
-use Rattle.estelle_model_answers.proofs.Alike.{KeepsAlike, enters_alike, blocks_alike, clauses_alike}
+use Rattle.estelle_model_answers.proofs.Alike.{KeepsAlike, shown, related}
 use Rattle.estelle_model_answers.proofs.Within.{outline_of, HoldChildren}
 use Rattle.estelle_model_answers.proofs.Follows.{with_instances, done_by, Follows, keeps_following}
 
@@ -109,7 +106,7 @@ module _ (s : Subject) (m : Path) (g : Situation) where
   answer_of n (Ok r) (Ok q) h (outcome.Ran image effects) left made =
       subst (λ (es : List Effect). IsPut s m n g image es left (untimed m n (ran r.1.state r.1.left))) (sym made.1)
       (subst (λ (k : ℕ). IsPut s m n g image (all_logged s q.1.state.log) left (untimed m n (ran r.1.state k))) (made.2 ∙ sym h.1.left) (put_of n r.1.state q.1.state h.1.state image made.0 left))
-  answer_of n (Err e) (Err x) h (outcome.Faulted kind) left made = ap (λ p. Failed p.0 p.1) h ∙ ap (λ k. Failed k x.1) (sym made.0) ∙ ap (λ u. Failed kind u) (sym made.1)
+  answer_of n (Err e) (Err x) h (outcome.Faulted kind) left made = ap (λ p. Failed (told p.0) p.1) h ∙ ap (λ k. Failed k x.1) (sym made.0) ∙ ap (λ u. Failed kind u) (sym made.1)
   answer_of n (Ok r) (Ok q) h (outcome.Faulted kind) left made = absurd made
   answer_of n (Err e) (Err x) h (outcome.Ran image effects) left made = absurd made
   answer_of n (Ok r) (Err x) h out left made = absurd h
@@ -146,49 +143,20 @@ module _ (s : Subject) (m : Path) (g : Situation) where
   abbrev pub Keeps : KeepsAlike Acting Logged on_situation on_log s m R
   Keeps = keeps_following s m (begun g)
 
+  stated_alike : (known : Meanings) (p : Path) → is_inside m p ≡ true → (st : Statement) (given : List Value) → KeepsRelated (stated s known p st given) Acting Logged on_situation on_log R
+  stated_alike = related Acting Logged on_situation on_log situation_is_faithful s m R Keeps
+
+  every : ShowAlike Acting Logged on_situation on_log m R
+  every = shown Acting Logged on_situation on_log situation_is_faithful s m R Keeps
+
   pub fire_alike : (t : Transition) (vs : List Value) → DoAlike Acting Logged R (fire_step Acting on_situation s m t vs) (fire_step Logged on_log s m t vs)
-  fire_alike t vs = then_same Acting Logged R (Same {A = Unit {0}})
-      (block_step Acting on_situation (meant_with s t.chosen) (act Acting on_situation s (meant_with s t.chosen)) m (of_block (meant_with s t.chosen) t.received t.block) vs) (block_step Logged on_log (meant_with s t.chosen) (act Logged on_log s (meant_with s t.chosen)) m (of_block (meant_with s t.chosen) t.received t.block) vs)
-      (λ _. carry Acting on_situation (enters_state s m t.to)) (λ _. carry Logged on_log (enters_state s m t.to))
-      (blocks_alike Acting Logged on_situation on_log situation_is_faithful s m R Keeps (meant_with s t.chosen) m (inside_self m) (of_block (meant_with s t.chosen) t.received t.block) vs)
-      (λ _. enters_alike Acting Logged on_situation on_log situation_is_faithful s m R Keeps (meant s) m t.to (inside_self m))
+  fire_alike t vs = fire_step_alike Acting Logged on_situation on_log m R every s stated_alike m (inside_self m) t vs
 
-  -- ---- guards
-
-  module _ (t : Transition) (vs : List Value) where
-    value_alike : (e : Expr) → ValueAlike Acting Logged R (value_of_expr Acting on_situation s m t vs e) (value_of_expr Logged on_log s m t vs e)
-    value_alike e = clauses_alike Acting Logged on_situation on_log situation_is_faithful s m R Keeps (meant_with s t.chosen) m (inside_self m) vs e
-
-    provided_alike : (e : Option Expr) → StepAlike Acting Logged R (Same {A = Bool}) (provided_step Acting on_situation s m t vs e) (provided_step Logged on_log s m t vs e)
-    provided_alike None = pure_alike Acting Logged R (Same {A = Bool}) true true refl
-    provided_alike (Some e) = bool_alike Acting Logged on_situation on_log m R (value_of_expr Acting on_situation s m t vs e) (value_of_expr Logged on_log s m t vs e) (value_alike e)
-
-    int_alike : (e : Expr) → StepAlike Acting Logged R (Same {A = ℤ}) (int_step Acting on_situation s m t vs e) (int_step Logged on_log s m t vs e)
-    int_alike e = then_same Acting Logged R (Same {A = ℤ}) (value_of_expr Acting on_situation s m t vs e) (value_of_expr Logged on_log s m t vs e) (λ v. checked (int_of v)) (λ v. checked (int_of v)) (value_alike e) (λ v. checked_alike Acting Logged R (int_of v))
-
-    high_alike : (low : ℤ) (h : Option DelayHigh) → StepAlike Acting Logged R (Same {A = Guard}) (high_step Acting on_situation s m t vs low h) (high_step Logged on_log s m t vs low h)
-    high_alike low None = checked_alike Acting Logged R (between Acting on_situation s low low)
-    high_alike low (Some high.Star) = checked_alike Acting Logged R (from_on Acting on_situation s low)
-    high_alike low (Some (high.Expr e)) = then_same Acting Logged R (Same {A = Guard}) (int_step Acting on_situation s m t vs e) (int_step Logged on_log s m t vs e) (λ n. checked (between Acting on_situation s low n)) (λ n. checked (between Logged on_log s low n)) (int_alike e) (λ n. checked_alike Acting Logged R (between Acting on_situation s low n))
-
-    delay_alike : (timed : Bool) (d : Option Delay) → StepAlike Acting Logged R (Same {A = Guard}) (delay_step Acting on_situation s m t vs timed d) (delay_step Logged on_log s m t vs timed d)
-    delay_alike timed None = pure_alike Acting Logged R (Same {A = Guard}) (at_once Acting on_situation s) (at_once Logged on_log s) refl
-    delay_alike true (Some d) = pure_alike Acting Logged R (Same {A = Guard}) (at_once Acting on_situation s) (at_once Logged on_log s) refl
-    delay_alike false (Some d) = then_same Acting Logged R (Same {A = Guard}) (int_step Acting on_situation s m t vs d.low) (int_step Logged on_log s m t vs d.low) (λ low. high_step Acting on_situation s m t vs low d.high) (λ low. high_step Logged on_log s m t vs low d.high) (int_alike d.low) (λ low. high_alike low d.high)
-
-    guard_alike : (timed : Bool) → StepAlike Acting Logged R (Same {A = Guard}) (guard_step Acting on_situation s m t vs timed) (guard_step Logged on_log s m t vs timed)
-    guard_alike timed = then_same Acting Logged R (Same {A = Guard}) (provided_step Acting on_situation s m t vs t.provided) (provided_step Logged on_log s m t vs t.provided)
-        (λ holds. cond holds (delay_step Acting on_situation s m t vs timed t.delay) (pure Off)) (λ holds. cond holds (delay_step Logged on_log s m t vs timed t.delay) (pure Off)) (provided_alike t.provided)
-        (λ holds. if_alike Acting Logged R (Same {A = Guard}) holds (delay_step Acting on_situation s m t vs timed t.delay) (pure Off) (delay_step Logged on_log s m t vs timed t.delay) (pure Off) (delay_alike timed t.delay) (pure_alike Acting Logged R (Same {A = Guard}) Off Off refl))
-
-  same_answer : (x : StepResult Acting Guard) (y : StepResult Logged Guard) → OutcomeAlike Acting Logged R (Same {A = Guard}) x y → answered x ≡ answered y
-  same_answer (Ok r) (Ok q) h = h.0
-  same_answer (Err e) (Err x) h = ap (λ y. Faulted y.0) h
-  same_answer (Ok r) (Err x) h = absurd h
-  same_answer (Err e) (Ok q) h = absurd h
+  pub start_alike : is_inside m [] ≡ true → DoAlike Acting Logged R (start_step Acting on_situation s) (start_step Logged on_log s)
+  start_alike inside = start_step_alike Acting Logged on_situation on_log m R every s stated_alike inside
 
   pub guard_answers : (image : Image) → MayActAlone s g.core m → Shows image (private s g.core m) → (t : Transition) (vs : List Value) (timed : Bool) (budget : ℕ) → answered (guard_step Logged on_log s m t vs timed (fresh (log_from (core_of s image)) budget)) ≡ guard_with s budget g m t timed vs
-  guard_answers image may shows t vs timed budget = sym (same_answer _ _ (guard_alike t vs timed (fresh (begun g) budget) (fresh (log_from (core_of s image)) budget) (begins_alike may (core_of s image) refl (core_private s g.core m image shows) shows.links budget)))
+  guard_answers image may shows t vs timed budget = sym (same_answer Acting Logged R _ _ (guard_step_alike Acting Logged on_situation on_log m R every s stated_alike m (inside_self m) t vs timed (fresh (begun g) budget) (fresh (log_from (core_of s image)) budget) (begins_alike may (core_of s image) refl (core_private s g.core m image shows) shows.links budget)))
 
 -- ---- firings
 
@@ -250,13 +218,6 @@ timers_stay [] a = refl
 timers_stay (e ∷ es) a = timers_stay es (acting_after e a)
 
 module _ (s : Subject) where
-  start_alike : DoAlike Acting Logged (R s [] (bare s)) (start_step Acting on_situation s) (start_step Logged on_log s)
-  start_alike = then_same Acting Logged (R s [] (bare s)) (Same {A = Unit {0}})
-      (block_step Acting on_situation (meant s) (act Acting on_situation s (meant s)) [] (begins s 0).block []) (block_step Logged on_log (meant s) (act Logged on_log s (meant s)) [] (begins s 0).block [])
-      (λ _. carry Acting on_situation (enters_state s [] (begins s 0).to)) (λ _. carry Logged on_log (enters_state s [] (begins s 0).to))
-      (blocks_alike Acting Logged on_situation on_log situation_is_faithful s [] (R s [] (bare s)) (Keeps s [] (bare s)) (meant s) [] (inside_root []) (begins s 0).block [])
-      (λ _. enters_alike Acting Logged on_situation on_log situation_is_faithful s [] (R s [] (bare s)) (Keeps s [] (bare s)) (meant s) [] (begins s 0).to (inside_root []))
-
   -- where no timer runs, none is dropped
   untimed_start : (x : StepResult Acting (Unit {0})) (y : StepResult Logged (Unit {0})) → OutcomeAlike Acting Logged (R s [] (bare s)) (Same {A = Unit {0}}) x y → untimed [] 0 (done x) ≡ done x
   untimed_start (Ok r) (Ok q) h =
@@ -269,7 +230,7 @@ module _ (s : Subject) where
 
   start_answers : (budget : ℕ) (out : Outcome) (left : ℕ) → IsMadeBy s (start_run s budget) out left → IsAnswer s [] 0 (bare s) out left (start s budget)
   start_answers budget out left made =
-      let alike = start_alike (fresh (begun (bare s)) budget) (fresh (log_from (bare s).core) budget) (begins_alike s [] (bare s) (root_alone s) (bare s).core refl (all_inside (bare s).core.instances) (IsPermutation-refl []) budget) in
+      let alike = start_alike s [] (bare s) refl (fresh (begun (bare s)) budget) (fresh (log_from (bare s).core) budget) (begins_alike s [] (bare s) (root_alone s) (bare s).core refl (all_inside (bare s).core.instances) (IsPermutation-refl []) budget) in
       subst (λ (f : Firing). IsAnswer s [] 0 (bare s) out left f) (untimed_start _ _ alike) (answer_of s [] (bare s) 0 _ _ alike out left made)
 
 -- ---- both

@@ -11,6 +11,7 @@ use Rattle.estelle_model.specs.declared.job.Outcome.{Outcome}
 use Rattle.estelle_model.specs.declared.job.Outcome.TheVariants.{Ran, Faulted}
 use Rattle.estelle_model.specs.Core.{Instance, Instances}
 use Rattle.estelle_model.specs.States.{Logged}
+use Rattle.estelle_model.specs.Stops.{told}
 use Rattle.estelle_model.specs.Steps as step
 use Rattle.estelle_model.specs.Transitions.{Transition}
 use Rattle.estelle_model.specs.Subject.{Subject}
@@ -50,7 +51,7 @@ module _ (s : Subject) (g : Situation) (job : Job) (in_it : IsJobIn s g job) whe
 
 computed : (s : Subject) (o : step.StepResult Logged (Unit {0})) → (out : Outcome) × (left : ℕ) × IsMadeBy s o out left
 computed s (Ok r) = (Ran (image_of r.1.state.image) (all_logged s r.1.state.log), r.1.left, (record { parts = refl; links = IsPermutation-refl r.1.state.image.links }, refl, refl))
-computed s (Err e) = (Faulted e.0, e.1, (refl, refl))
+computed s (Err e) = (Faulted (told e.0), e.1, (refl, refl))
 
 computed_of : (s : Subject) (job : Job) (o : Option Transition) → (out : Outcome) × (left : ℕ) × IsOfTransition s job o out left
 computed_of s job None = (Faulted StepLimit, 0, tt)

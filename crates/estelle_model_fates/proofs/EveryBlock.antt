@@ -1,8 +1,8 @@
 -- What each effect and each change of a record keeps of two states, every block keeps.
-use Rattle.std.proofs.Common.{◌≡◌, ℕ, List, [], Ok, Err, refl, ap}
+use Rattle.std.proofs.Common.{◌≡◌, ℕ, true, List, [], Ok, Err, refl, ap}
 use Rattle.std.specs.FinMap as fin
 use Rattle.pascal_values.specs.declared.value.Value.{Value}
-use Rattle.estelle_tree.specs.Paths.{Path}
+use Rattle.estelle_tree.specs.Paths.{Path, is_inside}
 use Rattle.estelle_model.specs.Core.{Core}
 use Rattle.estelle_model.specs.Effects.{StatementEffect, Change, Store}
 use Rattle.estelle_model.specs.Effects as effect
@@ -53,8 +53,8 @@ module _ (S T : Type 0) (on : Offers S) (on' : Offers T) (R : S → T → Type 0
   may s known p st given (effect.Detach upper) c h = tt
   may s known p st given (effect.Remove q k) c h = tt
 
-  related : (s : Subject) (known : Meanings) (p : Path) (st : Statement) (given : List Value) → KeepsRelated (stated s known p st given) S T on on' R
-  related s known p st given = record {
+  related : (s : Subject) (known : Meanings) (p : Path) → is_inside [] p ≡ true → (st : Statement) (given : List Value) → KeepsRelated (stated s known p st given) S T on on' R
+  related s known p inside st given = record {
     faithful = kept.faithful;
     sees = λ x y r. sees_itself s known p (on.core x) (on'.core y) (kept.cores x y r);
     makes = λ e x y r h. kept.does e x y (may s known p st given e (on.core x) h.1) r;
@@ -62,10 +62,10 @@ module _ (S T : Type 0) (on : Offers S) (on' : Offers T) (R : S → T → Type 0
   }
 
   pub fire_step_alike : (s : Subject) (p : Path) (t : Transition) (vs : List Value) → DoAlike S T R (fire_step S on s p t vs) (fire_step T on' s p t vs)
-  fire_step_alike s p t vs = firings.fire_step_alike S T on on' R show s (related s) p t vs
+  fire_step_alike s p t vs = firings.fire_step_alike S T on on' [] R show s (related s) p (inside_root p) t vs
 
   pub start_step_alike : (s : Subject) → DoAlike S T R (start_step S on s) (start_step T on' s)
-  start_step_alike s = firings.start_step_alike S T on on' R show s (related s)
+  start_step_alike s = firings.start_step_alike S T on on' [] R show s (related s) refl
 
 -- ---- what holds of one state
 

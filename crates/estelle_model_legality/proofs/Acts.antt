@@ -14,6 +14,7 @@ use Rattle.estelle_model.specs.Core.{Instance}
 use Rattle.estelle_model.specs.InteractionPoints.{point, sent_at, sends, external_at}
 use Rattle.estelle_model.specs.Effects.{StatementEffect}
 use Rattle.estelle_model.specs.Effects as effect
+use Rattle.estelle_model.specs.Stops.{Faults, Broken}
 use Rattle.estelle_model.specs.Steps.{Running, StepResult, spend}
 use Rattle.estelle_model.specs.declared.meaning.Meaning.{Meaning}
 use Rattle.estelle_model.specs.declared.meaning.Meaning.TheVariants.{Interaction}
@@ -46,14 +47,14 @@ module _ (s : Subject) (making : List Path) (q : Path) where
   unfolding spend
   spend_keeps t = by (nat_lt 0 t.left)
     where
-      by : (b : Bool) → KU t (cond b (Ok (tt, record t { left = t.left - 1 })) (Err (fault.StepLimit, t.left)))
+      by : (b : Bool) → KU t (cond b (Ok (tt, record t { left = t.left - 1 })) (Err (Faults fault.StepLimit, t.left)))
       by true w = (w, outside_same q t.state.situation)
       by false w = tt
 
   stored_keeps : (p : Path) (x : ℕ) (way : List ℕ) (v : Value) → Has {S = Acting} {A = Unit {0}} (Keeps s making q) (λ t. put_in_instance Acting on_situation (fin.get t.state.situation.core.instances p) p x way v t)
   stored_keeps p x way v t = by (fin.get t.state.situation.core.instances p) refl
     where
-      tested : (i : Instance) → fin.get t.state.situation.core.instances p ≡ Some i → (b : Bool) → may_store (t.state.situation.core.types i.body) x way v ≡ b → KU t (cond b (Ok (tt, record t { state = on_situation.keeps p (effect.Store x way v) t.state })) (Err (fault.Unset, t.left)))
+      tested : (i : Instance) → fin.get t.state.situation.core.instances p ≡ Some i → (b : Bool) → may_store (t.state.situation.core.types i.body) x way v ≡ b → KU t (cond b (Ok (tt, record t { state = on_situation.keeps p (effect.Store x way v) t.state })) (Err (Broken, t.left)))
       tested i e true may w = good_store s making q t.state.situation w p i x way v e may
       tested i e false may w = tt
 
@@ -65,7 +66,7 @@ module _ (s : Subject) (making : List Path) (q : Path) where
   closed = record {
     then = λ A B t o f h k. keeps_then s making q A B o t f h k;
     pure = λ A a t w. (w, outside_same q t.state.situation);
-    fail = λ A f t w. tt;
+    stop = λ A e t w. tt;
     spend = spend_keeps;
     framed = λ A f t w. (w, outside_same q t.state.situation);
     stored = stored_keeps;

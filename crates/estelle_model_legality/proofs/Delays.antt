@@ -5,9 +5,9 @@ use Rattle.std.specs.Int.RustNames.{int_le}
 use Rattle.std.specs.FinMap as map
 use Rattle.std.specs.Ordering.{eq_by_cmp}
 use Rattle.std.proofs.lemmas.Int.{ints}
-use Rattle.pascal_values.specs.declared.fault.Fault.{Fault}
 use Rattle.pascal_values.specs.declared.fault.Fault.TheVariants as fault
 use Rattle.pascal_values.specs.declared.value.Value.{Value}
+use Rattle.pascal_values.specs.declared.value.Value.TheVariants as pascal
 use Rattle.estelle_tree.specs.declared.tree.clause.DelayHigh.{DelayHigh}
 use Rattle.estelle_tree.specs.declared.tree.clause.DelayHigh.TheVariants as high
 use Rattle.estelle_tree.specs.declared.transition.Pair.{Pair}
@@ -17,13 +17,15 @@ use Rattle.estelle_tree.specs.Timers.{Timer, Timers, pair, pair_cmp, timer_of, r
 use Rattle.estelle_model.specs.declared.job.Guard.{Guard}
 use Rattle.estelle_model.specs.declared.job.Guard.TheVariants.{Off, On, Faulted}
 use Rattle.estelle_model.specs.Core.{Instance}
+use Rattle.estelle_model.specs.Stops.{Stop, Faults}
 use Rattle.estelle_model.specs.Steps.{Running, StepResult, Step, and_then, checked_at}
-use Rattle.estelle_model.specs.Blocks.{fresh}
+use Rattle.estelle_model.specs.Operators.{◌>>>◌, int_of}
+use Rattle.estelle_model.specs.Blocks.{fresh, leave_values}
 use Rattle.estelle_model.specs.Transitions.{Transition, Delay}
 use Rattle.estelle_model.specs.Subject.{Subject, transition}
 use Rattle.estelle_model.specs.Situation.{Situation, Acting, on_situation}
 use Rattle.estelle_model.specs.Queues.{Found, NotNeeded, Head, Absent, is_named, found}
-use Rattle.estelle_model.specs.Clauses.{provided_step, int_step, is_delay, between, from_on, high_step, at_once, delay_step, guard_step, answered}
+use Rattle.estelle_model.specs.Clauses.{receives, value_of_expr, provided_step, is_delay, between, from_on, from_one, from_both, high_step, at_once, delay_step, guard_step, answered}
 use Rattle.estelle_model.specs.Firing.{begun, is_in_state, guard_with, guard_found, guard_of, guard_at, guard}
 use Rattle.estelle_model.specs.Delays.{delayed_in, wanted_by, wanted}
 use Rattle.estelle_model.proofs.Units.{Each}
@@ -42,7 +44,7 @@ abbrev IsBounded : Guard → Type 0
 IsBounded (On low high) = AreBounds low high
 IsBounded _ = Unit {0}
 
-abbrev ResultBounded : Result Guard Fault → Type 0
+abbrev ResultBounded : Result Guard Stop → Type 0
 ResultBounded (Ok g) = IsBounded g
 ResultBounded (Err e) = Unit {0}
 
@@ -54,7 +56,7 @@ then_bounded : (S A : Type 0) (o : StepResult S A) (f : A → Step S Guard) → 
 then_bounded S A (Ok r) f h = h r.0 r.1
 then_bounded S A (Err e) f h = tt
 
-checked_bounded : (S : Type 0) (r : Result Guard Fault) (u : Running S) → ResultBounded r → OutcomeBounded (checked_at r u)
+checked_bounded : (S : Type 0) (r : Result Guard Stop) (u : Running S) → ResultBounded r → OutcomeBounded (checked_at r u)
 checked_bounded S (Ok g) u h = h
 checked_bounded S (Err e) u h = tt
 
@@ -75,7 +77,7 @@ module _ (s : Subject) (budget : ℕ) (g : Situation) where
   between_bounded : (low high : ℤ) → ResultBounded (between Acting on_situation s low high)
   between_bounded low high = by (is_delay Acting on_situation s low && (is_delay Acting on_situation s high && int_le low high)) refl
     where
-      by : (b : Bool) → (is_delay Acting on_situation s low && (is_delay Acting on_situation s high && int_le low high)) ≡ b → ResultBounded (cond b (Ok (On (nat_abs low) (Some (nat_abs high)))) (Err fault.DelayRange))
+      by : (b : Bool) → (is_delay Acting on_situation s low && (is_delay Acting on_situation s high && int_le low high)) ≡ b → ResultBounded (cond b (Ok (On (nat_abs low) (Some (nat_abs high)))) (Err (Faults fault.DelayRange)))
       by true e =
           let tests = and_both (is_delay Acting on_situation s low) (is_delay Acting on_situation s high && int_le low high) e in
           magnitudes low high tests.0 (and_both (is_delay Acting on_situation s high) (int_le low high) tests.1).1
@@ -84,7 +86,7 @@ module _ (s : Subject) (budget : ℕ) (g : Situation) where
   from_bounded : (low : ℤ) → ResultBounded (from_on Acting on_situation s low)
   from_bounded low = by (is_delay Acting on_situation s low)
     where
-      by : (b : Bool) → ResultBounded (cond b (Ok (On (nat_abs low) None)) (Err fault.DelayRange))
+      by : (b : Bool) → ResultBounded (cond b (Ok (On (nat_abs low) None)) (Err (Faults fault.DelayRange)))
       by true = tt
       by false = tt
 
@@ -92,15 +94,35 @@ module _ (s : Subject) (budget : ℕ) (g : Situation) where
   once_bounded = omega arith
 
   module _ (p : Path) (t : Transition) (values : List Value) where
-    high_bounded : (low : ℤ) (h : Option DelayHigh) (u : Running Acting) → OutcomeBounded (high_step Acting on_situation s p t values low h u)
-    high_bounded low None u = checked_bounded Acting (between Acting on_situation s low low) u (between_bounded low low)
-    high_bounded low (Some high.Star) u = checked_bounded Acting (from_on Acting on_situation s low) u (from_bounded low)
-    high_bounded low (Some (high.Expr e)) u = then_bounded Acting ℤ (int_step Acting on_situation s p t values e u) _ (λ n v. checked_bounded Acting (between Acting on_situation s low n) v (between_bounded low n))
+    one_bounded : (v : Value) → ResultBounded (from_one Acting on_situation s v)
+    one_bounded v = by (int_of v)
+      where
+        by : (r : Result ℤ Stop) → ResultBounded (r >>> λ low. from_on Acting on_situation s low)
+        by (Ok low) = from_bounded low
+        by (Err e) = tt
+
+    both_bounded : (v w : Value) → ResultBounded (from_both Acting on_situation s v w)
+    both_bounded v w = by (int_of v) (int_of w)
+      where
+        by : (r q : Result ℤ Stop) → ResultBounded (r >>> λ low. q >>> λ high. between Acting on_situation s low high)
+        by (Ok low) (Ok high) = between_bounded low high
+        by (Ok low) (Err e) = tt
+        by (Err e) q = tt
+
+    high_bounded : (v : Value) (h : Option DelayHigh) (u : Running Acting) → OutcomeBounded (high_step Acting on_situation s p t v h u)
+    high_bounded v None u = checked_bounded Acting (from_both Acting on_situation s v v) u (both_bounded v v)
+    high_bounded v (Some high.Star) u = checked_bounded Acting (from_one Acting on_situation s v) u (one_bounded v)
+    high_bounded v (Some (high.Expr e)) u = then_bounded Acting Value (value_of_expr Acting on_situation s p t e u) _ (λ w x. checked_bounded Acting (from_both Acting on_situation s v w) x (both_bounded v w))
+
+    left_bounded : (o : StepResult Acting Guard) → OutcomeBounded o → OutcomeBounded (and_then o leave_values)
+    left_bounded (Ok r) h = h
+    left_bounded (Err e) h = tt
 
     delay_bounded : (timed : Bool) (d : Option Delay) (u : Running Acting) → OutcomeBounded (delay_step Acting on_situation s p t values timed d u)
     delay_bounded timed None u = once_bounded
     delay_bounded true (Some d) u = once_bounded
-    delay_bounded false (Some d) u = then_bounded Acting ℤ (int_step Acting on_situation s p t values d.low u) _ (λ low v. high_bounded low d.high v)
+    delay_bounded false (Some d) u = then_bounded Acting (Unit {0}) (receives Acting on_situation s t values u) _
+        (λ received w. left_bounded _ (then_bounded Acting Value (value_of_expr Acting on_situation s p t d.low (record w { frames = pascal.Fields values ∷ [] })) _ (λ low v. high_bounded low d.high v)))
 
     step_bounded : (timed : Bool) (u : Running Acting) → OutcomeBounded (guard_step Acting on_situation s p t values timed u)
     step_bounded timed u = then_bounded Acting Bool (provided_step Acting on_situation s p t values t.provided u) _ (λ holds v. by holds v)

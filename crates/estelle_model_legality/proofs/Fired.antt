@@ -17,7 +17,8 @@ use Rattle.estelle_tree.specs.Links.{same_ip}
 use Rattle.estelle_tree.specs.Queues as queues
 use Rattle.estelle_model.specs.Core.{Instance}
 use Rattle.estelle_model.specs.Effects.{Enter, changed, changed_in}
-use Rattle.estelle_model.specs.Steps.{Running, StepResult, and_then}
+use Rattle.estelle_model.specs.Belonging.{are_values_of}
+use Rattle.estelle_model.specs.Steps.{Running, StepResult, and_then, pure, breaks}
 use Rattle.estelle_model.specs.Transitions.{Transition, When}
 use Rattle.estelle_model.specs.Subject.{Subject, body, transition, meant_with, of_block}
 use Rattle.estelle_model.specs.Blocks.{fresh, block_step}
@@ -166,9 +167,15 @@ module _ (s : Subject) (leads : LeadsToStates s) (budget : ℕ) (g : Situation) 
     fired_block (Err e) c = tt
 
     fired_with : (values : List Value) → HasFired s m g (fire_with s budget g m t values)
-    fired_with values =
-        fired_block (block_step Acting on_situation (meant_with s t.chosen) (act Acting on_situation s (meant_with s t.chosen)) m (of_block (meant_with s t.chosen) t.received t.block) values (fresh (begun (taken s g m t.when)) budget))
-        (block_keeps s leads (meant_with s t.chosen) (λ x. (t.chosen, refl)) [] m (λ p c. absurd (in_none Path p c)) (of_block (meant_with s t.chosen) t.received t.block) values (fresh (begun (taken s g m t.when)) budget) (taken_within t.when).0)
+    fired_with values = by (are_values_of t.received values)
+      where
+        block : StepResult Acting (Unit {0})
+        block = block_step Acting on_situation (meant_with s t.chosen) (act Acting on_situation s (meant_with s t.chosen)) m (of_block (meant_with s t.chosen) t.received t.block) values (fresh (begun (taken s g m t.when)) budget)
+
+        by : (b : Bool) → HasFired s m g (done (and_then (and_then (cond b (pure (tt {0})) breaks (fresh (begun (taken s g m t.when)) budget)) (λ _. block_step Acting on_situation (meant_with s t.chosen) (act Acting on_situation s (meant_with s t.chosen)) m (of_block (meant_with s t.chosen) t.received t.block) values)) (λ _. carry Acting on_situation (enters_state s m t.to))))
+        by false = tt
+        by true = fired_block block
+            (block_keeps s leads (meant_with s t.chosen) (λ x. (t.chosen, refl)) [] m (λ p c. absurd (in_none Path p c)) (of_block (meant_with s t.chosen) t.received t.block) values (fresh (begun (taken s g m t.when)) budget) (taken_within t.when).0)
 
     fired_found : (f : Found) → HasFired s m g (fire_found s budget g m t f)
     fired_found NotNeeded = fired_with []

@@ -2,13 +2,13 @@
 use Rattle.std.proofs.Common.{◌≡◌, ℕ, Bool, true, false, List, [], ◌∷◌, map, Result, Ok, Err, Option, Some, None, refl, sym, ap, subst, ◌∙◌}
 use Rattle.std.specs.Prelude.{slice_get, Contains}
 use Rattle.std.specs.FinMap as fin
-use Rattle.pascal_values.specs.declared.fault.Fault.{Fault}
 use Rattle.estelle_tree.specs.declared.link.IpAddr.{IpAddr}
 use Rattle.estelle_tree.specs.Paths.{Path, child, is_inside, last_of}
 use Rattle.estelle_tree.specs.Links.{above}
 use Rattle.estelle_model.specs.Core.{Instance, Instances}
 use Rattle.estelle_model.specs.Effects.{instances_after}
 use Rattle.estelle_model.specs.Effects as effect
+use Rattle.estelle_model.specs.Stops.{Stop}
 use Rattle.estelle_model.specs.Steps.{Running, StepResult, and_then, checked_at}
 use Rattle.estelle_model.specs.declared.meaning.Meaning.{Meaning}
 use Rattle.estelle_model.specs.declared.meaning.Meaning.TheVariants.{Module}
@@ -96,7 +96,7 @@ module _ (s : Subject) (making : List Path) (q : Path) (meant : Meanings) where
     pub release_keeps : (x : Meaning) (t : Running Acting) → Keeps s making q (Unit {0}) t (carry Acting on_situation (release s q x) t)
     release_keeps (Module m) t w = by (child_at q m t.state.situation.core) refl
       where
-        by : (r : Result Path Fault) → child_at q m t.state.situation.core ≡ r → Comes s making q (Unit {0}) t.state.situation (and_then (checked_at r t) (λ c. carry Acting on_situation (release_child s q m c)))
+        by : (r : Result Path Stop) → child_at q m t.state.situation.core ≡ r → Comes s making q (Unit {0}) t.state.situation (and_then (checked_at r t) (λ c. carry Acting on_situation (release_child s q m c)))
         by (Err e) g = tt
         by (Ok c) g =
             let x = holds_child s making q meant t.state.situation w c (m, g) in

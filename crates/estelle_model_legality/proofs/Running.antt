@@ -12,6 +12,7 @@ use Rattle.estelle_model.specs.Effects as effect
 use Rattle.estelle_model.specs.Bodies.{BodyAlone, heading, variables_in, variable_types, states_in, module_variables_in}
 use Rattle.estelle_model.specs.declared.denoter.Denoter.{Denoter}
 use Rattle.estelle_model.specs.Denoted.{section_types}
+use Rattle.estelle_model.specs.Stops.{Faults}
 use Rattle.estelle_model.specs.Steps.{Running, StepResult, Step, Do, and_then, ◌>>=◌, pure, fail, checked_at, spend}
 use Rattle.estelle_model.specs.declared.meaning.Passing.TheVariants.{ByValue}
 use Rattle.estelle_model.specs.declared.meaning.Routine.{Routine}
@@ -244,7 +245,7 @@ module _ (s : Subject) (leads : LeadsToStates s) where
     unfolding spend
     nested_keeps zero making c all_above before P r g t h = go (nat_lt 0 t.left)
       where
-        go : (b : Bool) → Ended making c P (and_then (cond b (Ok (tt {0}, record t { left = t.left - 1 })) (Err (fault.StepLimit, t.left))) (λ _. fail fault.CallDepth))
+        go : (b : Bool) → Ended making c P (and_then (cond b (Ok (tt {0}, record t { left = t.left - 1 })) (Err (Faults fault.StepLimit, t.left))) (λ _. fail fault.CallDepth))
         go true = tt
         go false = tt
     nested_keeps (suc n) making c all_above before P r g t h = go (nat_lt 0 t.left) (within_keeps (nested Acting on_situation meant (act Acting on_situation s meant) n) (nested_keeps n) making c all_above (max_depth - n) r g)
@@ -258,7 +259,7 @@ module _ (s : Subject) (leads : LeadsToStates s) where
             then (Err e) z = tt
 
         go : (b : Bool) → Has (Keeps s making c) (within Acting on_situation meant (act Acting on_situation s meant) (nested Acting on_situation meant (act Acting on_situation s meant) n) (max_depth - n) c r g)
-            → Ended making c P (and_then (and_then (cond b (Ok (tt {0}, record t { left = t.left - 1 })) (Err (fault.StepLimit, t.left))) (λ _. before)) (λ _. within Acting on_situation meant (act Acting on_situation s meant) (nested Acting on_situation meant (act Acting on_situation s meant) n) (max_depth - n) c r g))
+            → Ended making c P (and_then (and_then (cond b (Ok (tt {0}, record t { left = t.left - 1 })) (Err (Faults fault.StepLimit, t.left))) (λ _. before)) (λ _. within Acting on_situation meant (act Acting on_situation s meant) (nested Acting on_situation meant (act Acting on_situation s meant) n) (max_depth - n) c r g))
         go true keeps = ran (before (record t { left = t.left - 1 })) (h (record t { left = t.left - 1 }) refl) (within Acting on_situation meant (act Acting on_situation s meant) (nested Acting on_situation meant (act Acting on_situation s meant) n) (max_depth - n) c r g) keeps
         go false keeps = tt
 

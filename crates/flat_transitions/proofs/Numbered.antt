@@ -12,6 +12,7 @@ use Rattle.pascal_values.specs.Integers.{is_between}
 use Rattle.pascal_values.specs.Shapes.{item_count}
 use Rattle.estelle_tree.specs.declared.tree.name.Name.{Name}
 use Rattle.estelle_model.specs.declared.denoter.Denoter.{Denoter}
+use Rattle.estelle_model.specs.Stops.{Faults}
 use Rattle.estelle_model.specs.Types.{least, greatest, value_of, host_of, range_of}
 use Rattle.estelle_model.specs.Meant.{Meanings}
 use Rattle.estelle_model.specs.Transitions.{Choice, choice, choices, numbers_from, or_unset}
@@ -62,7 +63,7 @@ one_value x xs q j (suc n) h =
 
 -- ---- the choices in order
 
-unset_is : (known : Meanings) (b : Bool) (v : Value) → or_unset known (if b then Ok v else Err fault.Range) ≡ (if b then v else pascal.Unset)
+unset_is : (known : Meanings) (b : Bool) (v : Value) → or_unset known (if b then Ok v else Err (Faults fault.Range)) ≡ (if b then v else pascal.Unset)
 unset_is known true v = refl
 unset_is known false v = refl
 

@@ -1,7 +1,7 @@
 -- The list of the flat transitions of a specification, by where they stand in its text.
-use Rattle.std.specs.Prelude.{ℕ, suc, List, [], ◌∷◌, map, ℤ, option_map, Option, Some, None, Result, Ok, Err}
+use Rattle.std.specs.Prelude.{ℕ, suc, List, [], ◌∷◌, map, ℤ, option_map, option_to_list, Option, Some, None}
 use Rattle.std.specs.List.{flat_map}
-use Rattle.pascal_values.specs.declared.fault.Fault.{Fault}
+use Rattle.std.specs.Result.{result_ok}
 use Rattle.estelle_tree.specs.declared.span.Span.{Span}
 use Rattle.flat_transitions.specs.FromStates.{states_of}
 use Rattle.flat_transitions.specs.declared.flat.Flat.{Flat}
@@ -32,13 +32,9 @@ limit_of (Some high.Star) = Never
 abbrev pub delay_of : Delay → Span × Limit
 delay_of d = (span_of d.low, limit_of d.high)
 
-abbrev pub ordinal_at : Result ℤ Fault → List ℤ
-ordinal_at (Ok n) = n ∷ []
-ordinal_at (Err e) = []
-
 -- the ordinals of the chosen values
 abbrev pub ordinals_of : List Choice → List ℤ
-ordinals_of = flat_map (λ c. ordinal_at (ordinal_of c.value))
+ordinals_of = flat_map (λ c. option_to_list (result_ok (ordinal_of c.value)))
 
 abbrev pub flat_trans : ℕ → Transition → FlatTrans
 flat_trans n t = record {

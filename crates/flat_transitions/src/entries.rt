@@ -1,7 +1,8 @@
 //! A flat transition by where it stands in the text.
 
-ghost use Rattle.std.specs.Prelude.{◌≡◌, ◌++◌, IfOk, OnOk, option_map};
+ghost use Rattle.std.specs.Prelude.{◌≡◌, ◌++◌, IfOk, OnOk, option_map, option_to_list};
 ghost use Rattle.std.specs.Option.{option_copied};
+ghost use Rattle.std.specs.Result.{result_ok};
 ghost use Rattle.estelle_model.specs.Types.{ordinal_of};
 ghost use Rattle.flat_transitions.specs.FlatList as flat;
 
@@ -51,11 +52,11 @@ fn bounds(delay: Option<&Delay>) -> Option<(Span, Limit)>
 }
 
 fn push_ordinal(out: &mut Items<i64>, choice: &Choice) -> Result<(), AllocError>
-    ensures { OnOk result (out.new ≡ out.old ++ flat.ordinal_at (ordinal_of choice.now.value)) }
+    ensures { OnOk result (out.new ≡ out.old ++ option_to_list (result_ok (ordinal_of choice.now.value))) }
 {
     match ordinal_of(&choice.value()) {
-        Ok(ordinal) => out.push(ordinal),
-        Err(_) => Ok(()),
+        Some(ordinal) => out.push(ordinal),
+        None => Ok(()),
     }
 }
 

@@ -2,6 +2,7 @@
 
 ghost use Rattle.std.specs.Prelude.{◌≡◌, fold, option_and_then};
 ghost use Rattle.std.specs.Option.{option_copied};
+ghost use Rattle.std.specs.Result.{result_ok};
 ghost use Rattle.estelle_model.specs.Operators.{◌>>>◌};
 ghost use Rattle.estelle_model.specs.Types.{ordinal_of};
 ghost use Rattle.estelle_model.specs.Constants as constants;
@@ -13,7 +14,6 @@ use crate::choice::Choice;
 use crate::clauses::Priority;
 use estelle_tree::{Const, Name, Sign};
 use meaning_table::{Table, ordinal_by_sign, ordinal_named, ordinal_of_const};
-use pascal_values::Fault;
 
 /// The last choice for the name that is declared there.
 fn chosen_at(chosen: &[Choice], at: u32) -> Option<&Choice>
@@ -44,13 +44,8 @@ fn chosen_for<'a>(table: &Table, chosen: &'a [Choice], name: &Name) -> Option<&'
 }
 
 /// The ordinal of a name, with or without a sign before it.
-fn ordinal_of_name(
-    table: &Table,
-    chosen: &[Choice],
-    sign: Option<Sign>,
-    name: &Name,
-) -> Result<i64, Fault>
-    ensures { result ≡ (constants.constant_named (with_chosen table.now chosen.now name.now) >>> constants.by_sign sign >>> ordinal_of) }
+fn ordinal_of_name(table: &Table, chosen: &[Choice], sign: Option<Sign>, name: &Name) -> Option<i64>
+    ensures { result ≡ result_ok (constants.constant_named (with_chosen table.now chosen.now name.now) >>> constants.by_sign sign >>> ordinal_of) }
 {
     match chosen_for(table, chosen, name) {
         Some(choice) => ordinal_by_sign(sign, &choice.value()),
@@ -58,8 +53,8 @@ fn ordinal_of_name(
     }
 }
 
-fn ordinal_chosen(table: &Table, chosen: &[Choice], constant: &Const) -> Result<i64, Fault>
-    ensures { result ≡ (constants.constant_of (with_chosen table.now chosen.now) constant.now >>> ordinal_of) }
+fn ordinal_chosen(table: &Table, chosen: &[Choice], constant: &Const) -> Option<i64>
+    ensures { result ≡ result_ok (constants.constant_of (with_chosen table.now chosen.now) constant.now >>> ordinal_of) }
 {
     match constant {
         Const::Name { sign, name, .. } => ordinal_of_name(table, chosen, *sign, name),
@@ -73,6 +68,6 @@ pub fn priority_by(table: &Table, chosen: &[Choice], priority: &Option<Priority>
 {
     match priority {
         None => None,
-        Some(priority) => ordinal_chosen(table, chosen, priority.get()).ok(),
+        Some(priority) => ordinal_chosen(table, chosen, priority.get()),
     }
 }

@@ -1,7 +1,10 @@
 //! Constants (ISO 7185, 6.3).
 
-ghost use Rattle.std.specs.Prelude.{◌≡◌, IfOk};
-ghost use Rattle.estelle_model.specs.Operators.{◌>>>◌, an_int, signed};
+ghost use Rattle.std.specs.Prelude.{◌≡◌, IfOk, option_map, ok_or};
+ghost use Rattle.std.specs.Result.{result_ok};
+ghost use Rattle.pascal_values.specs.declared.value.Value.TheVariants as pascal;
+ghost use Rattle.estelle_model.specs.Stops.{Broken};
+ghost use Rattle.estelle_model.specs.Operators.{◌>>>◌, signed};
 ghost use Rattle.estelle_model.specs.Types.{ordinal_of};
 ghost use Rattle.estelle_model.specs.Constants as constants;
 ghost use Rattle.estelle_model.specs.Denoted as denoted;
@@ -10,36 +13,39 @@ ghost use Rattle.meaning_table.specs.Known.{meanings_of};
 use crate::table::Table;
 use estelle_model::{Host, Meaning};
 use estelle_tree::{Const, Sign};
-use pascal_values::{Fault, Value, copy, sub};
+use pascal_values::{Value, copy, sub};
 use std::alloc::{AllocError, Global};
 
 /// The ordinal of a value of an ordinal type.
-pub fn ordinal_of(value: &Value) -> Result<i64, Fault>
-    ensures { result ≡ ordinal_of value.now }
+pub fn ordinal_of(value: &Value) -> Option<i64>
+    ensures { result ≡ result_ok (ordinal_of value.now) }
 {
     match value {
-        Value::Int(n) => Ok(*n),
-        Value::Bool(b) => Ok(i64::from(*b)),
-        Value::Char(c) => Ok(i64::from(*c)),
-        Value::Enum(n) => Ok(i64::from(*n)),
-        _ => Err(Fault::Unset),
+        Value::Int(n) => Some(*n),
+        Value::Bool(b) => Some(i64::from(*b)),
+        Value::Char(c) => Some(i64::from(*c)),
+        Value::Enum(n) => Some(i64::from(*n)),
+        _ => None,
     }
 }
 
 /// A value with a sign before it: the integer, if it is one.
-fn signed_int(sign: Sign, value: &Value) -> Result<i64, Fault>
-    ensures { an_int result ≡ signed sign value.now }
+fn signed_int(sign: Sign, value: &Value) -> Option<i64>
+    ensures { option_map pascal.Int result ≡ result_ok (signed sign value.now) }
 {
     match (sign, value) {
-        (Sign::Plus, Value::Int(n)) => Ok(*n),
-        (Sign::Minus, Value::Int(n)) => sub(0, *n),
-        _ => Err(Fault::Unset),
+        (Sign::Plus, Value::Int(n)) => Some(*n),
+        (Sign::Minus, Value::Int(n)) => match sub(0, *n) {
+            Ok(negated) => Some(negated),
+            Err(_) => None,
+        },
+        _ => None,
     }
 }
 
 /// The ordinal of a value with or without a sign before it.
-pub fn ordinal_by_sign(sign: Option<Sign>, value: &Value) -> Result<i64, Fault>
-    ensures { result ≡ (constants.by_sign sign value.now >>> ordinal_of) }
+pub fn ordinal_by_sign(sign: Option<Sign>, value: &Value) -> Option<i64>
+    ensures { result ≡ result_ok (constants.by_sign sign value.now >>> ordinal_of) }
 {
     match sign {
         None => ordinal_of(value),
@@ -47,33 +53,24 @@ pub fn ordinal_by_sign(sign: Option<Sign>, value: &Value) -> Result<i64, Fault>
     }
 }
 
-fn bound_at(ordinal: Result<i64, Fault>) -> i64
-    ensures { result ≡ denoted.bound_at ordinal }
-{
-    match ordinal {
-        Ok(n) => n,
-        Err(_) => 0,
-    }
-}
-
 /// The ordinal of a named constant, with or without a sign before the name.
-pub fn ordinal_named(meaning: &Meaning, sign: Option<Sign>) -> Result<i64, Fault>
-    ensures { result ≡ (constants.constant_named meaning.now >>> constants.by_sign sign >>> ordinal_of) }
+pub fn ordinal_named(meaning: &Meaning, sign: Option<Sign>) -> Option<i64>
+    ensures { result ≡ result_ok (constants.constant_named meaning.now >>> constants.by_sign sign >>> ordinal_of) }
 {
     match meaning {
         Meaning::Constant { value, .. } => ordinal_by_sign(sign, value),
-        _ => Err(Fault::Unset),
+        _ => None,
     }
 }
 
 /// The ordinal of a constant.
-pub fn ordinal_of_const(table: &Table, constant: &Const) -> Result<i64, Fault>
-    ensures { result ≡ (constants.constant_of (meanings_of table.now) constant.now >>> ordinal_of) }
+pub fn ordinal_of_const(table: &Table, constant: &Const) -> Option<i64>
+    ensures { result ≡ result_ok (constants.constant_of (meanings_of table.now) constant.now >>> ordinal_of) }
 {
     match constant {
         Const::Number { sign, value, .. } => ordinal_by_sign(*sign, &Value::Int(*value)),
         Const::Name { sign, name, .. } => ordinal_named(table.meaning(name), *sign),
-        Const::Char { value, .. } => Ok(i64::from(*value)),
+        Const::Char { value, .. } => Some(i64::from(*value)),
     }
 }
 
@@ -81,7 +78,7 @@ pub fn ordinal_of_const(table: &Table, constant: &Const) -> Result<i64, Fault>
 pub fn bound(table: &Table, constant: &Const) -> i64
     ensures { result ≡ denoted.bound (meanings_of table.now) constant.now }
 {
-    bound_at(ordinal_of_const(table, constant))
+    ordinal_of_const(table, constant).unwrap_or(0)
 }
 
 /// The host type of a constant.
@@ -98,15 +95,15 @@ pub fn host_of_const(table: &Table, constant: &Const) -> Host
     }
 }
 
-fn defined_int<'a>(host: Host, n: Result<i64, Fault>) -> Meaning<'a>
-    ensures { result ≡ constants.defined host (an_int n) }
+fn defined_int<'a>(host: Host, n: Option<i64>) -> Meaning<'a>
+    ensures { result ≡ constants.defined host (ok_or (option_map pascal.Int n) Broken) }
 {
     match n {
-        Ok(n) => Meaning::Constant {
+        Some(n) => Meaning::Constant {
             value: Value::Int(n),
             host,
         },
-        Err(_) => Meaning::Other,
+        None => Meaning::Other,
     }
 }
 

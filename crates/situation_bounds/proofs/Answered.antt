@@ -12,6 +12,7 @@ use Rattle.estelle_model.specs.declared.job.Job.{Job}
 use Rattle.estelle_model.specs.declared.job.Outcome.{Outcome}
 use Rattle.estelle_model.specs.declared.job.Outcome.TheVariants as outcome
 use Rattle.estelle_model.specs.States.{Logged}
+use Rattle.estelle_model.specs.Stops.{told}
 use Rattle.estelle_model.specs.Steps.{StepResult}
 use Rattle.estelle_model.specs.Subject.{Subject}
 use Rattle.estelle_model.specs.Situation.{Situation}
@@ -41,7 +42,7 @@ by_answer s m n g f outs drops ran (outcome.Faulted kind) left answer = absurd (
 
 some_start : (s : Subject) (run : StepResult Logged (Unit {0})) → (out : Outcome) × (left : ℕ) × IsMadeBy s run out left
 some_start s (Ok r) = (outcome.Ran (image_of r.1.state.image) (all_logged s r.1.state.log), r.1.left, (record { parts = refl; links = IsPermutation-refl r.1.state.image.links }, refl, refl))
-some_start s (Err e) = (outcome.Faulted e.0, e.1, (refl, refl))
+some_start s (Err e) = (outcome.Faulted (told e.0), e.1, (refl, refl))
 
 pub start_put : (s : Subject) (budget : ℕ) (outs : List Out) (drops : List ℕ) → HasRun outs drops (start s budget) → WasPut s [] 0 (bare s) (start s budget)
 start_put s budget outs drops ran =

@@ -1,10 +1,11 @@
 -- A guard reads whether its own timer runs, and of the moment and the timers nothing else.
-use Rattle.std.proofs.Common.{◌≡◌, ℕ, Bool, true, false, List, [], Ok, Err, Option, Some, None, refl, sym, ap, cond, ◌∙◌}
+use Rattle.std.proofs.Common.{◌≡◌, ℕ, Bool, true, false, List, [], ◌∷◌, Result, Ok, Err, Option, Some, None, refl, sym, ap, cond, ◌∙◌}
 use Rattle.std.specs.Prelude.{ℤ, ◌&&◌, nat_abs, is_some}
 use Rattle.std.specs.Int.RustNames.{int_le}
 use Rattle.std.specs.FinMap as map
 use Rattle.pascal_values.specs.declared.fault.Fault.TheVariants.{DelayRange}
 use Rattle.pascal_values.specs.declared.value.Value.{Value}
+use Rattle.pascal_values.specs.declared.value.Value.TheVariants as pascal
 use Rattle.estelle_tree.specs.declared.tree.clause.DelayHigh.{DelayHigh}
 use Rattle.estelle_tree.specs.declared.tree.clause.DelayHigh.TheVariants as high
 use Rattle.estelle_tree.specs.Paths.{Path}
@@ -12,13 +13,15 @@ use Rattle.estelle_tree.specs.Timers.{Timers, pair}
 use Rattle.estelle_model.specs.declared.job.Guard.{Guard}
 use Rattle.estelle_model.specs.declared.job.Guard.TheVariants.{Off, On, Faulted}
 use Rattle.estelle_model.specs.Core.{Instance}
-use Rattle.estelle_model.specs.Steps.{Running, StepResult, Step, and_then, checked_at}
-use Rattle.estelle_model.specs.Blocks.{fresh}
+use Rattle.estelle_model.specs.Stops.{Stop, Faults}
+use Rattle.estelle_model.specs.Operators.{◌>>>◌, int_of}
+use Rattle.estelle_model.specs.Steps.{Running, StepResult, Step, and_then, ◌>>=◌, checked_at}
+use Rattle.estelle_model.specs.Blocks.{fresh, leave_values, with_values}
 use Rattle.estelle_model.specs.Transitions.{Transition, Delay}
 use Rattle.estelle_model.specs.Subject.{Subject, transition}
 use Rattle.estelle_model.specs.Situation.{Situation, Acting, on_situation}
 use Rattle.estelle_model.specs.Queues.{Found, NotNeeded, Head, Absent, found, is_named}
-use Rattle.estelle_model.specs.Clauses.{provided_step, int_step, is_delay, between, high_step, delay_step, guard_step, answered}
+use Rattle.estelle_model.specs.Clauses.{receives, value_of_expr, provided_step, is_delay, between, from_on, high_step, delay_step, guard_step, answered}
 use Rattle.estelle_model.specs.Firing.{begun, transition_at, is_in_state, guard_with, guard_found, guard_of, guard_at, guard}
 use Rattle.estelle_model.specs.Delays.{is_delayed}
 use Rattle.estelle_model.proofs.AlikeFirings.{guard_on_log}
@@ -65,25 +68,44 @@ if_agree true x y h = h
 if_agree false x y h = tt
 
 module _ (s : Subject) (p : Path) (t : Transition) (values : List Value) where
-  between_on : (b : Bool) (low high : ℕ) (u : Running Acting) → NotOff (answered (checked_at (cond b (Ok (On low (Some high))) (Err DelayRange)) u))
+  between_on : (b : Bool) (low high : ℕ) (u : Running Acting) → NotOff (answered (checked_at (cond b (Ok (On low (Some high))) (Err (Faults DelayRange))) u))
   between_on true low high u = tt
   between_on false low high u = tt
 
-  from_on_on : (b : Bool) (low : ℕ) (u : Running Acting) → NotOff (answered (checked_at (cond b (Ok (On low None)) (Err DelayRange)) u))
+  from_on_on : (b : Bool) (low : ℕ) (u : Running Acting) → NotOff (answered (checked_at (cond b (Ok (On low None)) (Err (Faults DelayRange))) u))
   from_on_on true low u = tt
   from_on_on false low u = tt
 
   bounds_on : (low high : ℤ) (u : Running Acting) → NotOff (answered (checked_at (between Acting on_situation s low high) u))
   bounds_on low high u = between_on (is_delay Acting on_situation s low && (is_delay Acting on_situation s high && int_le low high)) (nat_abs low) (nat_abs high) u
 
-  high_on : (low : ℤ) (h : Option DelayHigh) (u : Running Acting) → NotOff (answered (high_step Acting on_situation s p t values low h u))
-  high_on low None u = bounds_on low low u
-  high_on low (Some high.Star) u = from_on_on (is_delay Acting on_situation s low) (nat_abs low) u
-  high_on low (Some (high.Expr e)) u = then_not_off ℤ (int_step Acting on_situation s p t values e u) _ (λ n v. bounds_on low n v)
+  one_on : (r : Result ℤ Stop) (u : Running Acting) → NotOff (answered (checked_at (r >>> λ low. from_on Acting on_situation s low) u))
+  one_on (Ok low) u = from_on_on (is_delay Acting on_situation s low) (nat_abs low) u
+  one_on (Err e) u = tt
+
+  both_on : (r q : Result ℤ Stop) (u : Running Acting) → NotOff (answered (checked_at (r >>> λ low. q >>> λ high. between Acting on_situation s low high) u))
+  both_on (Ok low) (Ok high) u = bounds_on low high u
+  both_on (Ok low) (Err e) u = tt
+  both_on (Err e) q u = tt
+
+  high_on : (v : Value) (h : Option DelayHigh) (u : Running Acting) → NotOff (answered (high_step Acting on_situation s p t v h u))
+  high_on v None u = both_on (int_of v) (int_of v) u
+  high_on v (Some high.Star) u = one_on (int_of v) u
+  high_on v (Some (high.Expr e)) u = then_not_off Value (value_of_expr Acting on_situation s p t e u) _ (λ w x. both_on (int_of v) (int_of w) x)
+
+  -- the values of a delay
+  abbrev bounds : Delay → Step Acting Guard
+  bounds d = value_of_expr Acting on_situation s p t d.low >>= λ v. high_step Acting on_situation s p t v d.high
+
+  left_not_off : (o : StepResult Acting Guard) → NotOff (answered o) → NotOff (answered (and_then o leave_values))
+  left_not_off (Ok r) h = h
+  left_not_off (Err e) h = tt
 
   delay_agrees : (d : Option Delay) (u : Running Acting) → Agree (answered (delay_step Acting on_situation s p t values true d u)) (answered (delay_step Acting on_situation s p t values false d u))
   delay_agrees None u = tt
-  delay_agrees (Some d) u = agree_on 0 (Some 0) _ (then_not_off ℤ (int_step Acting on_situation s p t values d.low u) _ (λ low v. high_on low d.high v))
+  delay_agrees (Some d) u = agree_on 0 (Some 0) _ (then_not_off (Unit {0}) (receives Acting on_situation s t values u) (λ received. with_values values (bounds d))
+      (λ received w. left_not_off (bounds d (record w { frames = pascal.Fields values ∷ [] }))
+      (then_not_off Value (value_of_expr Acting on_situation s p t d.low (record w { frames = pascal.Fields values ∷ [] })) (λ v. high_step Acting on_situation s p t v d.high) (λ v x. high_on v d.high x))))
 
   holds_agree : (b : Bool) (u : Running Acting) → Agree (answered (cond b (delay_step Acting on_situation s p t values true t.delay) (λ w. Ok (Off, w)) u)) (answered (cond b (delay_step Acting on_situation s p t values false t.delay) (λ w. Ok (Off, w)) u))
   holds_agree true u = delay_agrees t.delay u

@@ -7,14 +7,18 @@ use Rattle.pascal_values.specs.declared.value.Value.{Value}
 use Rattle.estelle_tree.specs.Paths.{Path, path_cmp, child, is_inside}
 use Rattle.estelle_model.specs.Core.{Instance, Instances}
 use Rattle.estelle_model.specs.Effects.{StatementEffect, Output, Connect, Disconnect, Attach, Detach, Create, Remove, Change, Store, Hold, Enter, born, changed, changed_in, instances_after}
-use Rattle.estelle_model.specs.Steps.{StepResult}
+use Rattle.estelle_model.specs.Belonging.{are_values_of}
+use Rattle.estelle_model.specs.Steps.{StepResult, Do, ◌>>◌, pure, breaks}
 use Rattle.estelle_model.specs.Transitions.{Transition, When}
 use Rattle.estelle_model.specs.Subject.{Subject, meant, meant_with, of_block, begins}
 use Rattle.estelle_model.specs.Situation.{Situation, Acting, situation_after, made_after}
 use Rattle.estelle_model.specs.Queues.{Found, NotNeeded, Head, Absent, received}
 use Rattle.estelle_model.specs.Clauses.{fire_step, start_step}
-use Rattle.estelle_model.specs.Blocks.{fresh}
+use Rattle.estelle_model.specs.Blocks.{fresh, block_step}
 use Rattle.estelle_model.specs.Situation.{on_situation}
+use Rattle.estelle_model.specs.Plans.{carry}
+use Rattle.estelle_model.specs.Actions.{enters_state}
+use Rattle.estelle_model.specs.Acts.{act}
 use Rattle.estelle_model.specs.Firing.{Firing, Ran, Failed, Undefined, begun, done, untimed, taken, fire_with, fire_found, fire_of, fire, transition_at, start, bare}
 use Rattle.estelle_model.proofs.Maps.{total, apart}
 use Rattle.estelle_model.proofs.PrivateParts.{get_changed, same_path}
@@ -117,9 +121,18 @@ module _ (W : Situation → ℕ) (weighs : Weighs W) (s : Subject) (budget : ℕ
 
   module _ (bare_of : (g : Situation) (m : Path) (o : Option When) → W (taken s g m o) ≡ W g) (without : (g : Situation) (m : Path) (n : ℕ) → W (record g { timers = map.remove g.timers (record { path = m; trans = n }) }) ≡ W g) (g : Situation) (m : Path) (n : ℕ) where
     with_within : (t : Transition) (values : List Value) → Within W budget g (fire_with s budget g m t values)
-    with_within t values = by (fire_with s budget g m t values) (done_within (taken s g m t.when) (fire_step Acting on_situation s m t values (fresh (begun (taken s g m t.when)) budget))
-        (block_no_more W weighs s (meant_with s t.chosen) m (of_block (meant_with s t.chosen) t.received t.block) values t.to (fresh (begun (taken s g m t.when)) budget)))
+    with_within t values = by (fire_with s budget g m t values) (done_within (taken s g m t.when) (fire_step Acting on_situation s m t values (fresh (begun (taken s g m t.when)) budget)) (tested (are_values_of t.received values)
+        (block_no_more W weighs s (meant_with s t.chosen) m (of_block (meant_with s t.chosen) t.received t.block) values t.to (fresh (begun (taken s g m t.when)) budget))))
       where
+        block : Do Acting
+        block = block_step Acting on_situation (meant_with s t.chosen) (act Acting on_situation s (meant_with s t.chosen)) m (of_block (meant_with s t.chosen) t.received t.block) values
+
+        -- the test of what is received takes nothing
+        tested : (b : Bool) → NoMore W (Unit {0}) (fresh (begun (taken s g m t.when)) budget) ((block >> carry Acting on_situation (enters_state s m t.to)) (fresh (begun (taken s g m t.when)) budget))
+            → NoMore W (Unit {0}) (fresh (begun (taken s g m t.when)) budget) ((cond b (pure (tt {0})) breaks >> block >> carry Acting on_situation (enters_state s m t.to)) (fresh (begun (taken s g m t.when)) budget))
+        tested true h = h
+        tested false h = tt
+
         by : (f : Firing) → Within W budget (taken s g m t.when) f → Within W budget g f
         by (Ran after outs drops left) h = omega (arith, h, bare_of g m t.when)
         by (Failed kind left) h = tt

@@ -10,6 +10,7 @@ use Rattle.estelle_model.specs.Effects as effect
 use Rattle.estelle_model.specs.Effects.{StatementEffect, Change, Store}
 use Rattle.estelle_model.specs.declared.meaning.Routine.{Routine}
 use Rattle.estelle_model.specs.Meant.{Meanings}
+use Rattle.estelle_model.specs.Stops.{Faults, Broken}
 use Rattle.estelle_model.specs.Steps.{Running, StepResult, Step, and_then, ◌>>◌, spend}
 use Rattle.estelle_model.specs.Plans.{carry}
 use Rattle.estelle_model.specs.Places.{put_in_instance}
@@ -55,7 +56,7 @@ module _ (W : Situation → ℕ) where
   unfolding spend
   spend_no_more t = by (nat_lt 0 t.left)
     where
-      by : (b : Bool) → NoMore (Unit {0}) t (cond b (Ok (tt {0}, record t { left = t.left - 1 })) (Err (fault.StepLimit, t.left)))
+      by : (b : Bool) → NoMore (Unit {0}) t (cond b (Ok (tt {0}, record t { left = t.left - 1 })) (Err (Faults fault.StepLimit, t.left)))
       by true = omega arith
       by false = tt
 
@@ -63,7 +64,7 @@ module _ (W : Situation → ℕ) (weighs : Weighs W) where
   stored_no_more : (p : Path) (x : ℕ) (way : List ℕ) (v : Value) → Has {S = Acting} {A = Unit {0}} (NoMore W) (λ t. put_in_instance Acting on_situation (fin.get t.state.situation.core.instances p) p x way v t)
   stored_no_more p x way v t = by (fin.get t.state.situation.core.instances p)
     where
-      tested : (i : Instance) (b : Bool) → NoMore W (Unit {0}) t (cond b (Ok (tt {0}, record t { state = on_situation.keeps p (Store x way v) t.state })) (Err (fault.Unset, t.left)))
+      tested : (i : Instance) (b : Bool) → NoMore W (Unit {0}) t (cond b (Ok (tt {0}, record t { state = on_situation.keeps p (Store x way v) t.state })) (Err (Broken, t.left)))
       tested i true = omega (arith, weighs.keeps p (Store x way v) t.state.situation)
       tested i false = tt
 
@@ -75,7 +76,7 @@ module _ (W : Situation → ℕ) (weighs : Weighs W) where
   closed = record {
     then = λ A B t o f h k. after_no_more W A B t o f h k;
     pure = λ A a t. omega arith;
-    fail = λ A f t. tt;
+    stop = λ A e t. tt;
     spend = spend_no_more W;
     framed = λ A f t. omega arith;
     stored = stored_no_more;

@@ -4,7 +4,6 @@ use Rattle.std.specs.Prelude.{slice_get, slice_index_or, nat_lt, is_none, not, f
 use Rattle.std.specs.List.{AllByRecursion}
 use Rattle.std.specs.FinMap as fin
 use Rattle.std.specs.Str.{bytes_eq}
-use Rattle.pascal_values.specs.declared.fault.Fault.{Fault}
 use Rattle.pascal_values.specs.declared.fault.Fault.TheVariants as fault
 use Rattle.pascal_values.specs.declared.value.Value.{Value}
 use Rattle.pascal_values.specs.declared.value.Value.TheVariants as value
@@ -34,11 +33,12 @@ use Rattle.estelle_model.specs.declared.place.Place.TheVariants.{Of, In}
 use Rattle.estelle_model.specs.declared.place.Environment.{Environment}
 use Rattle.estelle_model.specs.declared.place.ActualParameters.{ActualParameters}
 use Rattle.estelle_model.specs.Expressions.{Operand, give_all, no_arguments}
-use Rattle.estelle_model.specs.Statements.{Statement, Init, Release, Connect, Disconnect, Attach, Detach, Output, stmts}
+use Rattle.estelle_model.specs.Statements.{Statement, Init, stmts}
 use Rattle.estelle_model.specs.Plans.{Plan, Spends, carry}
 use Rattle.estelle_model.specs.Actions.{is_sent_at, may_hold, may_begin, begins_child, holds_child, enters_state, given_types, plan_of}
 use Rattle.estelle_model.specs.Acts.{create, init_of, act}
 use Rattle.estelle_model.specs.Definitions.{types_received}
+use Rattle.estelle_model.specs.Stops.{Stop, Faults, Broken}
 use Rattle.estelle_model.specs.Steps.{Running, StepResult, Step, Do, and_then, ◌>>=◌, ◌>>◌, pure, fail, spend}
 use Rattle.estelle_model.specs.Calls.{Enters, call_by, blank, frame_of, last_or, enter, leave, within, nested, max_depth}
 use Rattle.estelle_model.specs.Blocks.{from_block, given_values, block_step}
@@ -54,7 +54,7 @@ use Rattle.trace_text.specs.Forms.{IsName}
 use Rattle.trace_forms.proofs.Instances.{PathWithin, path_child, AreWithin, within_fewer, within_changed, within_removed, within_created}
 use Rattle.trace_forms.proofs.Values.{Rises, AllRise, all_changed, parts_rise, part_rises, with_part_rises, fields_rise, unset_rises, blanks_rise}
 use Rattle.trace_forms.proofs.Named.{is_name, name_is, named_stmts}
-use Rattle.trace_forms.proofs.Sound.{Any, GivenRise, IsClosed, Comes, Gives, OperandSound, CallSound, comes_then, then_sound, pure_any, fail_sound, seq_sound, spend_sound, give_all_sound}
+use Rattle.trace_forms.proofs.Sound.{Any, GivenRise, IsClosed, Comes, Gives, OperandSound, CallSound, comes_then, then_sound, pure_any, stop_sound, seq_sound, spend_sound, give_all_sound}
 use Rattle.trace_forms.proofs.SoundExpressions.{MeaningTold}
 use Rattle.trace_forms.proofs.SoundStatements.{ActNamed, ActSound, stmts_sound}
 use Rattle.trace_forms.proofs.Lists.{all_append, all_filter, all_at}
@@ -140,7 +140,7 @@ module _ (n : ℕ) where
   into_rises None way v h e = absurd (cc)
   into_rises (Some w) way v h e = part_rises way w v (h w refl) e
 
-  ok_some : (a : Option Value) (v : Value) → ◌≡◌ {A = Result (Option Value) Fault} (Ok a) (Ok (Some v)) → a ≡ Some v
+  ok_some : (a : Option Value) (v : Value) → ◌≡◌ {A = Result (Option Value) Stop} (Ok a) (Ok (Some v)) → a ≡ Some v
   ok_some a v e = cc
 
   loaded : (t : Running Acting) → I t → (a : Place) (v : Value) → held Acting on_situation a t ≡ Ok (Some v) → Rises v
@@ -335,18 +335,13 @@ module _ (n : ℕ) where
           (give_all_sound Acting I (map ByValue (child_of subject k).parameters) es no_arguments tt h)
           (λ g y t w. begun_keeps Acting on_situation subject p m k g.values (λ i. create Acting on_situation subject meant enters p m (child_of subject k) g.values i) t (Comes Acting I {A = Unit {0}} Any) (λ f. tt)
           (λ i there allowed. create_sound enters into p x b m k g.values y i t w there allowed))
-      init_of_sound enters into p x b (Module m) _ es h = fail_sound Acting I (Unit {0}) Any fault.Unset
-      init_of_sound enters into p x b _ mb es h = fail_sound Acting I (Unit {0}) Any fault.Unset
+      init_of_sound enters into p x b (Module m) _ es h = stop_sound Acting I (Unit {0}) Any Broken
+      init_of_sound enters into p x b _ mb es h = stop_sound Acting I (Unit {0}) Any Broken
 
       act_sound : (enters : Enters Acting) → EntersN enters → (here : Environment) → ActSound Acting on_situation I closed (act Acting on_situation subject meant enters) here
       unfolding act
       act_sound enters into here (Init x b) es named h = init_of_sound enters into here.path x b (meant x) (meant b) es h
-      act_sound enters into here (Release x) es named h = planned_sound here.path (Release x) named es h
-      act_sound enters into here (Connect x y) es named h = planned_sound here.path (Connect x y) named es h
-      act_sound enters into here (Disconnect x) es named h = planned_sound here.path (Disconnect x) named es h
-      act_sound enters into here (Attach own x y) es named h = planned_sound here.path (Attach own x y) named es h
-      act_sound enters into here (Detach own) es named h = planned_sound here.path (Detach own) named es h
-      act_sound enters into here (Output x y) es named h = planned_sound here.path (Output x y) named es h
+      act_sound enters into here st es named h = planned_sound here.path st named es h
 
       -- ---- calls and blocks
 
@@ -375,7 +370,7 @@ module _ (n : ℕ) where
       unfolding spend
       nested_sound zero before p r g t good y b = by (nat_lt 0 t.left)
         where
-          by : (c : Bool) → Comes Acting I {A = Value} Rises (and_then (cond c (Ok (tt {0}, record t { left = t.left - 1 })) (Err (fault.StepLimit, t.left))) (λ _. fail fault.CallDepth))
+          by : (c : Bool) → Comes Acting I {A = Value} Rises (and_then (cond c (Ok (tt {0}, record t { left = t.left - 1 })) (Err (Faults fault.StepLimit, t.left))) (λ _. fail fault.CallDepth))
           by true = tt
           by false = tt
       nested_sound (suc depth) before p r g t good y b = comes_then Acting I (Unit {0}) Value Any Rises ((spend >> before) t) (λ u. within Acting on_situation meant (act Acting on_situation subject meant) (nested Acting on_situation meant (act Acting on_situation subject meant) depth) (max_depth - depth) p r g) b

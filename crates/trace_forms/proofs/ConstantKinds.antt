@@ -3,7 +3,6 @@ use Rattle.std.proofs.Common.{◌≡◌, ◌∙◌, ℕ, Bool, true, false, Opti
 use Rattle.std.specs.Prelude.{if◌then◌else◌}
 use Rattle.std.proofs.lemmas.Bool.Decides.{nat_tests}
 use Rattle.std.proofs.lemmas.Int.{ints}
-use Rattle.pascal_values.specs.declared.fault.Fault.{Fault}
 use Rattle.pascal_values.specs.declared.fault.Fault.TheVariants.{Overflow}
 use Rattle.pascal_values.specs.declared.value.Value.{Value as PascalValue, Value-F, out-Value}
 use Rattle.pascal_values.specs.declared.value.Value.TheVariants as pascal
@@ -19,6 +18,7 @@ use Rattle.type_rules.specs.declared.types.Value.{Value}
 use Rattle.type_rules.specs.declared.meanings.Meaning.{Meaning as RuleMeaning}
 use Rattle.type_rules.specs.Types.{same_host}
 use Rattle.type_rules.specs.Meanings.{Env, known, const_value, constant_value, constant, signed_value, signed_number, negated_number, is_integer_host, with_host}
+use Rattle.estelle_model.specs.Stops.{Stop}
 use Rattle.estelle_model.specs.declared.denoter.Host.{Host}
 use Rattle.estelle_model.specs.declared.denoter.Host.TheVariants as host
 use Rattle.estelle_model.specs.declared.meaning.Meaning.{Meaning}
@@ -127,7 +127,7 @@ low_kind env meant a (const.Name s x span) w e = by (meant x) (a x)
 -- ---- values
 
 -- a value that is computed
-abbrev computed : PascalValue → Result PascalValue Fault
+abbrev computed : PascalValue → Result PascalValue Stop
 computed v = Ok v
 
 -- a computation gives one value
@@ -145,8 +145,8 @@ negative_is n e = grind (arith, ints, nat_tests)
 -- an integer with a sign is the one that the rules know
 signed_is : (s : Sign) (n : ℤ) (u v : PascalValue) → int_of u ≡ Ok n → signed s u ≡ Ok v → pascal.Int (signed_number (Some s) n) ≡ v
 unfolding signed
-signed_is sign.Plus n u v i e = same_ok (pascal.Int n) v (ap an_int (sym i) ∙ e)
-signed_is sign.Minus n u v i e = by (is_integer (pos 0 -ℤ n)) refl (ap (λ (r : Result ℤ Fault). r >>> λ m. an_int (difference_of (pos 0) m)) (sym i) ∙ e)
+signed_is sign.Plus n u v i e = same_ok (pascal.Int n) v (ap (λ (r : Result ℤ Stop). r >>> λ m. Ok (pascal.Int m)) (sym i) ∙ e)
+signed_is sign.Minus n u v i e = by (is_integer (pos 0 -ℤ n)) refl (ap (λ (r : Result ℤ Stop). r >>> λ m. an_int (difference_of (pos 0) m)) (sym i) ∙ e)
   where
     by : (b : Bool) → is_integer (pos 0 -ℤ n) ≡ b → an_int (cond b (Ok (pos 0 -ℤ n)) (Err Overflow)) ≡ Ok v → pascal.Int (negated_number n) ≡ v
     by true f g = ap pascal.Int (sym (negative_is n f)) ∙ same_ok (pascal.Int (pos 0 -ℤ n)) v g
@@ -192,7 +192,7 @@ constant_has (Some v) w e = e
 pub const_alike : (env : Env) (meant : Meanings) → Agree env meant → (c : Const) → Alike (constant (const_value env c)) (const_meaning meant c)
 const_alike env meant a c = by (constant_of meant c) refl
   where
-    by : (r : Result PascalValue Fault) → constant_of meant c ≡ r → Alike (constant (const_value env c)) (defined (host_of_const meant c) r)
+    by : (r : Result PascalValue Stop) → constant_of meant c ≡ r → Alike (constant (const_value env c)) (defined (host_of_const meant c) r)
     by (Ok v) e = λ w f. let g = constant_has (const_value env c) w f in (const_kind env meant a c w g v e, const_has env meant a c w g v e)
     by (Err e) f = tt
 
@@ -211,7 +211,7 @@ pub bounds_of_one : (env : Env) (meant : Meanings) → Agree env meant → (low 
     → ResultOf (host_of_const meant high) (constant_of meant high) → ResultOf (host_of_const meant low) (constant_of meant high)
 bounds_of_one env meant agree low high a b e f same o = by (constant_of meant high) refl o
   where
-    by : (r : Result PascalValue Fault) → constant_of meant high ≡ r → ResultOf (host_of_const meant high) r → ResultOf (host_of_const meant low) r
+    by : (r : Result PascalValue Stop) → constant_of meant high ≡ r → ResultOf (host_of_const meant high) r → ResultOf (host_of_const meant low) r
     by (Err x) g k = tt
     by (Ok v) g k = elim (low_kind env meant agree low a e) [
       | inl is ↦ subst (λ h. IsOfHost h (out-Value v)) (sym is) tt

@@ -7,7 +7,6 @@ use Rattle.std.specs.Map.{lookup}
 use Rattle.std.proofs.lemmas.Bool.Decides.{Decides-eqb}
 use Rattle.std.proofs.lemmas.List.{length-replicate, length-append}
 use Rattle.pascal_values.specs.Integers.{is_integer}
-use Rattle.pascal_values.specs.declared.fault.Fault.{Fault}
 use Rattle.pascal_values.specs.declared.value.Value.{Value}
 use Rattle.pascal_values.specs.declared.value.Value.TheVariants as pascal
 use Rattle.type_rules.specs.declared.types.Value.{Value as RuleValue}
@@ -41,6 +40,7 @@ use Rattle.estelle_tree.specs.declared.tree.specification.ParamGroup.{ParamGroup
 use Rattle.estelle_tree.specs.declared.tree.specification.Params.{Params}
 use Rattle.estelle_tree.specs.declared.tree.specification.Header.{Header as HeaderTree}
 use Rattle.estelle_tree.specs.declared.tree.specification.StatesetDef.{StatesetDef}
+use Rattle.estelle_model.specs.Stops.{Stop}
 use Rattle.estelle_model.specs.declared.denoter.Host.{Host}
 use Rattle.estelle_model.specs.declared.denoter.Host.TheVariants as host
 use Rattle.estelle_model.specs.declared.denoter.Denoter.{Denoter}
@@ -164,7 +164,7 @@ module _ (env : Env) where
   host_small known k (const.Name s x span) = named_host_small (rules.known env x) (known x) (k.0 x)
   host_small known k (const.Char n span) = tt
 
-  defined_told : (m : RuleMeaning) (h : Host) (r : Result Value Fault) → Yields r → IsSmall h → ResultFirm r → ResultOf h r → Tells m (defined h r)
+  defined_told : (m : RuleMeaning) (h : Host) (r : Result Value Stop) → Yields r → IsSmall h → ResultFirm r → ResultOf h r → Tells m (defined h r)
   defined_told m h (Ok v) y s f o = (y, (s, f, o))
   defined_told m h (Err e) y s f o = (tt, tt)
 

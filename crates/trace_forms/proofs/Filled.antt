@@ -44,10 +44,10 @@ use Rattle.type_rules.specs.SpecificationSites as sites
 use Rattle.type_rules.proofs.TypeEquations as rule_types
 use Rattle.pascal_values.specs.Integers.{is_integer, difference_of}
 use Rattle.pascal_values.specs.Shapes.{item_count}
-use Rattle.pascal_values.specs.declared.fault.Fault.{Fault}
 use Rattle.pascal_values.specs.declared.fault.Fault.TheVariants.{Overflow}
 use Rattle.pascal_values.specs.declared.value.Value.{Value as PascalValue}
 use Rattle.pascal_values.specs.declared.value.Value.TheVariants as pascal
+use Rattle.estelle_model.specs.Stops.{Stop}
 use Rattle.estelle_model.specs.declared.denoter.Host.{Host}
 use Rattle.estelle_model.specs.declared.denoter.Host.TheVariants as host
 use Rattle.estelle_model.specs.declared.denoter.Denoter.{Denoter, out-Denoter}
@@ -161,10 +161,10 @@ negative_in n e = grind (arith, ints, nat_tests)
 -- an integer with a sign has a value
 sign_ok : (s : Sign) (n : ℤ) (u : PascalValue) → int_of u ≡ Ok n → is_integer n ≡ true → (v : PascalValue) × (signed s u ≡ Ok v)
 unfolding signed
-sign_ok sign.Plus n u i f = (pascal.Int n, ap an_int i)
+sign_ok sign.Plus n u i f = (pascal.Int n, ap (λ (r : Result ℤ Stop). r >>> λ m. Ok (pascal.Int m)) i)
 sign_ok sign.Minus n u i f = (
   pascal.Int (pos 0 -ℤ n),
-  ap (λ (r : Result ℤ Fault). r >>> λ m. an_int (difference_of (pos 0) m)) i ∙ ap (λ b. an_int (cond b (Ok (pos 0 -ℤ n)) (Err Overflow))) (negative_in n f),
+  ap (λ (r : Result ℤ Stop). r >>> λ m. an_int (difference_of (pos 0) m)) i ∙ ap (λ b. an_int (cond b (Ok (pos 0 -ℤ n)) (Err Overflow))) (negative_in n f),
 )
 
 -- so has a constant with a sign, where the rules know its value
@@ -217,7 +217,7 @@ module _ (env : Env) (meant : Meanings) (told : AllTold env meant) where
   const_bound : (c : Const) → ConstFirm c → UsesHeld (const_events c) → (w : Value) → const_value env c ≡ Some w → bound meant c ≡ w.ordinal
   const_bound c f u w e =
       let v = const_ok c f u w e in
-      ap (λ (r : Result PascalValue Fault). bound_at (r >>> ordinal_of)) v.1 ∙ ap bound_at (const_has env meant told.1 c w e v.0 v.1).0
+      ap (λ (r : Result PascalValue Stop). bound_at (r >>> ordinal_of)) v.1 ∙ ap bound_at (const_has env meant told.1 c w e v.0 v.1).0
 
   -- a constant with a value is one for the model too
   pub const_held : (c : Const) → ConstFirm c → UsesHeld (const_events c) → (w : Value) → const_value env c ≡ Some w → IsConstant (const_meaning meant c)

@@ -5,7 +5,6 @@ use Rattle.std.specs.List.{AllByRecursion}
 use Rattle.std.specs.FinMap as fin
 use Rattle.std.specs.Map.{lookup}
 use Rattle.std.specs.Ordering.{eq_by_cmp}
-use Rattle.pascal_values.specs.declared.fault.Fault.{Fault}
 use Rattle.pascal_values.specs.declared.value.Value.{Value}
 use Rattle.estelle_tree.specs.declared.link.IpAddr.{IpAddr}
 use Rattle.estelle_tree.specs.declared.names.Use.{Use}
@@ -26,8 +25,13 @@ use Rattle.estelle_model.specs.Transitions.{When, Choice, with_choices, or_unset
 use Rattle.estelle_model.specs.Types.{host_of, value_in}
 use Rattle.estelle_model.specs.Meant.{Meanings}
 use Rattle.estelle_model.specs.Definitions.{types_received}
-use Rattle.estelle_model.specs.Steps.{StepResult}
-use Rattle.estelle_model.specs.Blocks.{fresh}
+use Rattle.estelle_model.specs.Stops.{Stop}
+use Rattle.estelle_model.specs.Belonging.{are_values_of}
+use Rattle.estelle_model.specs.Steps.{StepResult, Do, ◌>>◌, pure, breaks}
+use Rattle.estelle_model.specs.Blocks.{fresh, block_step}
+use Rattle.estelle_model.specs.Plans.{carry}
+use Rattle.estelle_model.specs.Actions.{enters_state}
+use Rattle.estelle_model.specs.Acts.{act}
 use Rattle.estelle_model.specs.Clauses.{fire_step, start_step}
 use Rattle.estelle_model.specs.Subject.{Subject, declared_in, meant, meant_with, body, of_block, begins, transitions_of, transitions, numbered_one, transition, new_instance, blanks, child_of, no_body}
 use Rattle.estelle_model.specs.Bodies.{variable_types}
@@ -79,7 +83,7 @@ module _ (known : Meanings) where
   choice_rises : (x : Name) (t : Denoter) (n : ℤ) → Rises (choice known x t n).value
   choice_rises x t n = by (value_in (host_of t) n) (value_in_yields (host_of t) n)
     where
-      by : (r : Result Value Fault) → Yields r → Rises (or_unset known r)
+      by : (r : Result Value Stop) → Yields r → Rises (or_unset known r)
       by (Ok v) h = h
       by (Err e) h = unset_rises
 
@@ -179,12 +183,21 @@ module _ (s : Subject) (tellable : IsTellable s) where
 
     module _ (g : Situation) (within : IsWithin n g) (p : Path) where
       with_within : (t : Transition) → named_stmts t.block.body ≡ true → Chosen t.chosen → (values : List Value) → AllRise values → FiredWithin m (fire_with s budget g p t values)
-      with_within t good rise values y = done_within m (fire_step Acting on_situation s p t values (fresh (begun (taken s g p t.when)) budget))
+      with_within t good rise values y = done_within m (fire_step Acting on_situation s p t values (fresh (begun (taken s g p t.when)) budget)) (tested (are_values_of t.received values)
           (block_sound m s (meant_with s t.chosen)
           (with_all_choices (MeaningTold Told) (λ v h r. r) s.names t.chosen (declared_in s) rise tellable.told)
           (λ x vs e r. values_readable (types_received (meant_with s t.chosen x)) vs (with_all_choices (λ k. AllByRecursion IsReadableType (types_received k)) (λ v h r. tt) s.names t.chosen (declared_in s) rise tellable.types x) e r)
           bare_child p (of_block (meant_with s t.chosen) t.received t.block) good values y t.to (fresh (begun (taken s g p t.when)) budget)
-          (begun_within (taken s g p t.when) (taken_within n s g p t.when within)))
+          (begun_within (taken s g p t.when) (taken_within n s g p t.when within))))
+        where
+          runs : Do Acting
+          runs = block_step Acting on_situation (meant_with s t.chosen) (act Acting on_situation s (meant_with s t.chosen)) p (of_block (meant_with s t.chosen) t.received t.block) values
+
+          -- what is received is tested first
+          tested : (b : Bool) → Comes Acting (Within m 0) {A = Unit {0}} Any ((runs >> carry Acting on_situation (enters_state s p t.to)) (fresh (begun (taken s g p t.when)) budget))
+              → Comes Acting (Within m 0) {A = Unit {0}} Any ((cond b (pure (tt {0})) breaks >> runs >> carry Acting on_situation (enters_state s p t.to)) (fresh (begun (taken s g p t.when)) budget))
+          tested true h = h
+          tested false h = tt
 
       found_within : (t : Transition) → named_stmts t.block.body ≡ true → Chosen t.chosen → (f : Found) → received s g p t.when ≡ f → FiredWithin m (fire_found s budget g p t f)
       found_within t good rise NotNeeded e = with_within t good rise [] tt

@@ -5,12 +5,12 @@ use Rattle.std.specs.List.{AllByRecursion}
 use Rattle.std.proofs.lemmas.Bool.Decides.{nat_tests}
 use Rattle.std.proofs.lemmas.Int.{ints}
 use Rattle.pascal_values.specs.Integers.{is_between, is_integer, difference_of}
-use Rattle.pascal_values.specs.declared.fault.Fault.{Fault}
 use Rattle.pascal_values.specs.declared.fault.Fault.TheVariants.{Overflow}
 use Rattle.pascal_values.specs.declared.value.Value.{Value, Value-F, out-Value}
 use Rattle.pascal_values.specs.declared.value.Value.TheVariants as value
 use Rattle.estelle_tree.specs.declared.tree.type_expr.Sign.{Sign}
 use Rattle.estelle_tree.specs.declared.tree.type_expr.Sign.TheVariants as sign
+use Rattle.estelle_model.specs.Stops.{Stop}
 use Rattle.estelle_model.specs.declared.denoter.Host.{Host}
 use Rattle.estelle_model.specs.declared.denoter.Host.TheVariants as host
 use Rattle.estelle_model.specs.declared.denoter.Denoter.{Denoter, out-Denoter}
@@ -96,7 +96,7 @@ whole_firm (host.Enumeration last) s = firm_ordinal (host.Enumeration last) (pos
 abbrev pub BoundFirm : Value → Type 0
 BoundFirm v = is_integer (bound_at (ordinal_of v)) ≡ true
 
-abbrev pub ResultFirm : Result Value Fault → Type 0
+abbrev pub ResultFirm : Result Value Stop → Type 0
 ResultFirm (Ok v) = BoundFirm v
 ResultFirm (Err e) = Unit {0}
 
@@ -113,7 +113,7 @@ char_firm n h = ap (λ (l : Value-F Value). is_integer (bound_at (ordinal_at l))
 pub enum_firm : (n : ℕ) → n < 2 ^ 63 → BoundFirm (value.Enum n)
 enum_firm n h = ap (λ (l : Value-F Value). is_integer (bound_at (ordinal_at l))) (value.outs-Enum n) ∙ natural_in n h
 
-plus_firm : (l : Value-F Value) → is_integer (bound_at (ordinal_at l)) ≡ true → ResultFirm (an_int (int_at l))
+plus_firm : (l : Value-F Value) → is_integer (bound_at (ordinal_at l)) ≡ true → ResultFirm (int_at l >>> λ n. Ok (value.Int n))
 plus_firm (Value-F.Int n) h = int_firm n h
 plus_firm _ h = tt
 
@@ -131,7 +131,7 @@ sign_firm None v h = h
 sign_firm (Some sign.Plus) v h = plus_firm (out-Value v) h
 sign_firm (Some sign.Minus) v h = minus_firm (out-Value v)
 
-pub bound_firm : (r : Result Value Fault) → ResultFirm r → is_integer (bound_at (r >>> ordinal_of)) ≡ true
+pub bound_firm : (r : Result Value Stop) → ResultFirm r → is_integer (bound_at (r >>> ordinal_of)) ≡ true
 bound_firm (Ok v) h = h
 bound_firm (Err e) h = refl
 
@@ -155,7 +155,7 @@ IsOfHost host.Char l = IsCharacter l
 IsOfHost (host.Enumeration last) l = IsListed l
 
 -- what is no value is of every type
-abbrev pub ResultOf : Host → Result Value Fault → Type 0
+abbrev pub ResultOf : Host → Result Value Stop → Type 0
 ResultOf h (Ok v) = IsOfHost h (out-Value v)
 ResultOf h (Err e) = Unit {0}
 
@@ -168,17 +168,17 @@ pub enum_of : (n : ℕ) → n < 2 ^ 32 → IsListed (out-Value (value.Enum n))
 enum_of n h = subst IsListed (sym (value.outs-Enum n)) h
 
 -- of integers nothing is asked
-pub any_integer : (r : Result Value Fault) → ResultOf host.Integer r
+pub any_integer : (r : Result Value Stop) → ResultOf host.Integer r
 any_integer (Ok v) = tt
 any_integer (Err e) = tt
 
 -- nor of truth values
-any_boolean : (r : Result Value Fault) → ResultOf host.Boolean r
+any_boolean : (r : Result Value Stop) → ResultOf host.Boolean r
 any_boolean (Ok v) = tt
 any_boolean (Err e) = tt
 
 -- what is made of an integer alone is of no host of characters and of no enumeration
-from_int : (h : Host) (f : ℤ → Result Value Fault) (l : Value-F Value) → IsOfHost h l → ResultOf h (int_at l >>> f)
+from_int : (h : Host) (f : ℤ → Result Value Stop) (l : Value-F Value) → IsOfHost h l → ResultOf h (int_at l >>> f)
 from_int host.Integer f l o = any_integer (int_at l >>> f)
 from_int host.Boolean f l o = any_boolean (int_at l >>> f)
 from_int host.Char f (Value-F.Char n) o = tt
@@ -187,9 +187,9 @@ from_int (host.Enumeration last) f (Value-F.Enum n) o = tt
 from_int (host.Enumeration last) f l o = absurd o
 
 -- a plus sign keeps an integer, and gives nothing of another value
-plus_of : (h : Host) (l : Value-F Value) → IsOfHost h l → ResultOf h (an_int (int_at l))
-plus_of host.Integer l o = any_integer (an_int (int_at l))
-plus_of host.Boolean l o = any_boolean (an_int (int_at l))
+plus_of : (h : Host) (l : Value-F Value) → IsOfHost h l → ResultOf h (int_at l >>> λ n. Ok (value.Int n))
+plus_of host.Integer l o = any_integer (int_at l >>> λ n. Ok (value.Int n))
+plus_of host.Boolean l o = any_boolean (int_at l >>> λ n. Ok (value.Int n))
 plus_of host.Char (Value-F.Char n) o = tt
 plus_of host.Char l o = absurd o
 plus_of (host.Enumeration last) (Value-F.Enum n) o = tt
@@ -213,7 +213,7 @@ listed_last (Value-F.Enum n) o = o
 listed_last l o = absurd o
 
 -- a greater bound of the host type is a last ordinal
-pub last_of : (h : Host) (r : Result Value Fault) → ResultOf h r → IsLast h (bound_at (r >>> ordinal_of))
+pub last_of : (h : Host) (r : Result Value Stop) → ResultOf h r → IsLast h (bound_at (r >>> ordinal_of))
 last_of host.Integer r o = tt
 last_of host.Boolean r o = tt
 last_of host.Char (Ok v) o = character_last (out-Value v) o

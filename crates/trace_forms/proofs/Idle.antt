@@ -2,7 +2,6 @@
 use Rattle.std.proofs.Common.{ℕ, suc, ◌+◌, List, [], ◌∷◌, ◌++◌, length, map, Result, Ok, Err, refl, ◌≡◌, ◌∙◌, ap, sym, subst}
 use Rattle.std.specs.Prelude.{flat_map}
 use Rattle.std.specs.List.{AllByRecursion}
-use Rattle.pascal_values.specs.declared.fault.Fault.{Fault}
 use Rattle.pascal_values.specs.declared.value.Value.{Value}
 use Rattle.pascal_values.specs.declared.value.Value.TheVariants as pascal
 use Rattle.estelle_tree.specs.declared.names.Use.{Use}
@@ -24,6 +23,7 @@ use Rattle.estelle_tree.specs.declared.tree.clause.Block.{Block}
 use Rattle.estelle_tree.specs.declared.tree.clause.AnyDom.{AnyDom}
 use Rattle.estelle_tree.specs.declared.tree.clause.Clause.{Clause}
 use Rattle.type_rules.specs.Meanings.{Env}
+use Rattle.estelle_model.specs.Stops.{Stop}
 use Rattle.estelle_model.specs.declared.denoter.Host.{Host}
 use Rattle.estelle_model.specs.declared.denoter.Denoter.{Denoter}
 use Rattle.estelle_model.specs.declared.meaning.Meaning.{Meaning}
@@ -136,7 +136,7 @@ types_idle (x ∷ xs) = both (section x).1.declares (types_declare (map section 
 
 -- ---- definitions, routines, blocks and clauses
 
-defined_idle : (h : Host) (r : Result Value Fault) → ParametersFilled (defined h r)
+defined_idle : (h : Host) (r : Result Value Stop) → ParametersFilled (defined h r)
 defined_idle h (Ok v) = tt
 defined_idle h (Err e) = tt
 

@@ -4,13 +4,11 @@ use Rattle.std.proofs.Common.{◌≡◌, ℕ, ◌-◌, ◌<◌, Bool, true, fals
 use Rattle.std.proofs.lemmas.Bool.{ltb-true}
 use Rattle.std.specs.Prelude.{slice_get, nat_lt}
 use Rattle.std.specs.FinMap as fin
-use Rattle.pascal_values.specs.declared.fault.Fault.{Fault}
-use Rattle.pascal_values.specs.declared.fault.Fault.TheVariants.{Unset, StepLimit}
+use Rattle.pascal_values.specs.declared.fault.Fault.TheVariants.{StepLimit}
 use Rattle.pascal_values.specs.declared.value.Value.{Value}
 use Rattle.pascal_values.specs.declared.value.Value.TheVariants as pascal
 use Rattle.pascal_values.specs.Values.{changed_at, with_part}
 use Rattle.pascal_values.specs.Sets.{IsSet, union}
-use Rattle.pascal_values.specs.Shapes.{fit_of}
 use Rattle.estelle_tree.specs.declared.tree.expression.Adding.{Adding}
 use Rattle.estelle_tree.specs.declared.tree.expression.Adding.TheVariants as adding
 use Rattle.estelle_tree.specs.declared.tree.expression.Multiplying.{Multiplying}
@@ -19,20 +17,21 @@ use Rattle.estelle_model.specs.Core.{Instance}
 use Rattle.estelle_model.specs.Effects.{Store}
 use Rattle.estelle_model.specs.Belonging.{may_store}
 use Rattle.estelle_model.specs.declared.denoter.Denoter.{Denoter}
-use Rattle.estelle_model.specs.Types.{ordinal_of, shape_of, host_of, value_in}
+use Rattle.estelle_model.specs.Types.{ordinal_of, shape_of, host_of, value_in, assignable}
 use Rattle.estelle_model.specs.Operators.{bool_of, plus, minus, times, divided, modulo, one_member, members_from}
 use Rattle.estelle_model.specs.States.{Offers}
-use Rattle.estelle_model.specs.Steps.{Running, StepResult, Step, Do, and_then, ◌>>=◌, ◌>>◌, pure, fail, checked, all, spend}
+use Rattle.estelle_model.specs.Stops.{Stop, Faults, Broken, stopping}
+use Rattle.estelle_model.specs.Steps.{Running, StepResult, Step, Do, and_then, ◌>>=◌, ◌>>◌, pure, checked, all, spend, stop}
 use Rattle.estelle_model.specs.declared.meaning.Routine.{Routine}
 use Rattle.estelle_model.specs.declared.meaning.Passing.{Passing}
 use Rattle.estelle_model.specs.declared.meaning.Passing.TheVariants.{ByValue, ByPlace}
 use Rattle.estelle_model.specs.declared.place.Place.{Place}
 use Rattle.estelle_model.specs.declared.place.Place.TheVariants.{Of, In}
-use Rattle.estelle_model.specs.Places.{known, held, held_in, module_variables_of, load, put, put_in_instance, store, store_ordinal, child_step}
+use Rattle.estelle_model.specs.Places.{known, blanked, held, held_in, held_step, module_variables_of, load, put, put_in_instance, store, store_ordinal, blank_there, blank_at, child_step}
 use Rattle.estelle_model.specs.declared.place.ActualParameters.{ActualParameters}
 use Rattle.estelle_model.specs.Expressions.{Call, Operand, Access, Selecting, bool_step, ordinal_step, both, conjunction, disjunction, multiplied, added, place_of_operand, give, give_all, member_step, set_step}
 use Rattle.estelle_model.proofs.Units.{Each, IfThere}
-use Rattle.trace_forms.proofs.Values.{Rises, AllRise, Yields, bool_rises, set_rises, union_is, plus_yields, minus_yields, times_yield, divided_yields, modulo_yields, value_in_yields, set_value_yields}
+use Rattle.trace_forms.proofs.Values.{Rises, AllRise, Yields, bool_rises, set_rises, union_is, plus_yields, minus_yields, times_yield, divided_yields, modulo_yields, value_in_yields, set_value_yields, blanked_rises}
 use Rattle.trace_forms.proofs.Lists.{all_append}
 
 -- of every result it is said
@@ -74,8 +73,8 @@ module _ (S : Type 0) (I : Running S → Type 0) where
   pub pure_any : (A : Type 0) (a : A) → Gives Any (pure a)
   pure_any A a s i = (tt, i)
 
-  pub fail_sound : (A : Type 0) (P : A → Type 0) (f : Fault) → Gives P (fail f)
-  fail_sound A P f s i = tt
+  pub stop_sound : (A : Type 0) (P : A → Type 0) (e : Stop) → Gives P (stop e)
+  stop_sound A P e s i = tt
 
   weaker : (A : Type 0) (P : A → Type 0) (o : StepResult S A) → Comes P o → Comes Any o
   weaker A P (Ok r) h = (tt, h.1)
@@ -84,15 +83,15 @@ module _ (S : Type 0) (I : Running S → Type 0) where
   pub gives_any : (A : Type 0) (P : A → Type 0) (p : Step S A) → Gives P p → Gives Any p
   gives_any A P p h s i = weaker A P (p s) (h s i)
 
-  pub checked_any : (A : Type 0) (x : Result A Fault) → Gives Any (checked x)
+  pub checked_any : (A : Type 0) (x : Result A Stop) → Gives Any (checked x)
   checked_any A (Ok a) s i = (tt, i)
   checked_any A (Err f) s i = tt
 
-  pub checked_sound : (x : Result Value Fault) → Yields x → Gives Rises (checked x)
+  pub checked_sound : (x : Result Value Stop) → Yields x → Gives Rises (checked x)
   checked_sound (Ok a) h s i = (h, i)
   checked_sound (Err f) h s i = tt
 
-  pub read_any : (A : Type 0) (f : Running S → Result A Fault) → Gives Any (λ s. checked (f s) s)
+  pub read_any : (A : Type 0) (f : Running S → Result A Stop) → Gives Any (λ s. checked (f s) s)
   read_any A f s i = checked_any A (f s) s i
 
   pub if_sound : (A : Type 0) (P : A → Type 0) (b : Bool) (p q : Step S A) → Gives P p → Gives P q → Gives P (cond b p q)
@@ -122,13 +121,13 @@ module _ (S : Type 0) (I : Running S → Type 0) where
   abbrev pub CallSound : (Routine → Type 0) → Call S → Type 0
   CallSound Told call = (r : Routine) (g : ActualParameters) → Told r → GivenRise g → Gives Rises (call r g)
 
-  pub of_value_any : (A : Type 0) (f : Value → Result A Fault) (p : Step S Value) → Gives Rises p → Gives Any (p >>= λ v. checked (f v))
+  pub of_value_any : (A : Type 0) (f : Value → Result A Stop) (p : Step S Value) → Gives Rises p → Gives Any (p >>= λ v. checked (f v))
   of_value_any A f p h = then_sound Value A Rises Any p (λ v. checked (f v)) h (λ v _. checked_any A (f v))
 
-  pub of_value_sound : (f : Value → Result Value Fault) → ((v : Value) → Yields (f v)) → (p : Step S Value) → Gives Rises p → Gives Rises (p >>= λ v. checked (f v))
+  pub of_value_sound : (f : Value → Result Value Stop) → ((v : Value) → Yields (f v)) → (p : Step S Value) → Gives Rises p → Gives Rises (p >>= λ v. checked (f v))
   of_value_sound f y p h = then_sound Value Value Rises Rises p (λ v. checked (f v)) h (λ v _. checked_sound (f v) (y v))
 
-  pub both_sound : (f : Value → Value → Result Value Fault) → ((v w : Value) → Yields (f v w)) → (p q : Step S Value) → Gives Rises p → Gives Rises q → Gives Rises (both f p q)
+  pub both_sound : (f : Value → Value → Result Value Stop) → ((v w : Value) → Yields (f v w)) → (p q : Step S Value) → Gives Rises p → Gives Rises q → Gives Rises (both f p q)
   both_sound f y p q h k = then_sound Value Value Rises Rises p (λ v. q >>= λ w. checked (f v w)) h (λ v _. of_value_sound (f v) (y v) q k)
 
   bool_value_sound : (q : Step S Value) → Gives Rises q → Gives Rises (bool_step q >>= λ c. pure (pascal.Bool c))
@@ -156,18 +155,18 @@ module _ (S : Type 0) (I : Running S → Type 0) where
   added_sound adding.Or p q h k = disjunction_sound p q h k
 
   place_of_sound : (o : Option (Step S Place)) → IfThere (Gives {A = Place} Any) o → Gives Any (place_of_operand o)
-  place_of_sound None h = fail_sound Place Any Unset
+  place_of_sound None h = stop_sound Place Any Broken
   place_of_sound (Some p) h = h
 
   give_sound : (p : Passing) (e : Operand S) (g : ActualParameters) → GivenRise g → OperandSound e → Gives GivenRise (give p e g)
-  give_sound (ByValue t) e g r h = then_sound Value ActualParameters Rises GivenRise e.value (λ v. checked (fit_of (shape_of t) v) >>= λ ok. pure (record g { values = g.values ++ v ∷ [] })) h.value
-      (λ v y. then_any (Unit {0}) ActualParameters GivenRise (checked (fit_of (shape_of t) v)) (λ ok. pure (record g { values = g.values ++ v ∷ [] })) (checked_any (Unit {0}) (fit_of (shape_of t) v)) (λ ok. pure_sound ActualParameters GivenRise (record g { values = g.values ++ v ∷ [] }) (all_append Rises g.values (v ∷ []) r (y, tt))))
+  give_sound (ByValue t) e g r h = then_sound Value ActualParameters Rises GivenRise e.value (λ v. checked (stopping (assignable (shape_of t) v)) >>= λ ok. pure (record g { values = g.values ++ v ∷ [] })) h.value
+      (λ v y. then_any (Unit {0}) ActualParameters GivenRise (checked (stopping (assignable (shape_of t) v))) (λ ok. pure (record g { values = g.values ++ v ∷ [] })) (checked_any (Unit {0}) (stopping (assignable (shape_of t) v))) (λ ok. pure_sound ActualParameters GivenRise (record g { values = g.values ++ v ∷ [] }) (all_append Rises g.values (v ∷ []) r (y, tt))))
   give_sound ByPlace e g r h = then_any Place ActualParameters GivenRise (place_of_operand e.place) (λ p. pure (record g { references = g.references ++ p ∷ [] })) (place_of_sound e.place h.place) (λ p. pure_sound ActualParameters GivenRise (record g { references = g.references ++ p ∷ [] }) r)
 
   pub give_all_sound : (ps : List Passing) (es : List (Operand S)) (g : ActualParameters) → GivenRise g → Each OperandSound es → Gives GivenRise (give_all ps es g)
   give_all_sound [] [] g r h = pure_sound ActualParameters GivenRise g r
-  give_all_sound [] (e ∷ es) g r h = fail_sound ActualParameters GivenRise Unset
-  give_all_sound (p ∷ ps) [] g r h = fail_sound ActualParameters GivenRise Unset
+  give_all_sound [] (e ∷ es) g r h = stop_sound ActualParameters GivenRise Broken
+  give_all_sound (p ∷ ps) [] g r h = stop_sound ActualParameters GivenRise Broken
   give_all_sound (p ∷ ps) (e ∷ es) g r h = then_sound ActualParameters ActualParameters GivenRise GivenRise (give p e g) (λ k. give_all ps es k) (give_sound p e g r h.0) (λ k y. give_all_sound ps es k y h.1)
 
   pub member_sound : (e : Operand S) (o : Option (Operand S)) → OperandSound e → IfThere OperandSound o → Gives Any (member_step e o)
@@ -186,11 +185,11 @@ module _ (S : Type 0) (I : Running S → Type 0) where
     unfolding spend
     spend_sound s i = by (nat_lt 0 s.left) refl
       where
-        by : (b : Bool) → nat_lt 0 s.left ≡ b → Comes Any (cond b (Ok (tt {0}, record s { left = s.left - 1 })) (Err (StepLimit, s.left)))
+        by : (b : Bool) → nat_lt 0 s.left ≡ b → Comes Any (cond b (Ok (tt {0}, record s { left = s.left - 1 })) (Err (Faults StepLimit, s.left)))
         by true is = (tt, closed.spent s i (ltb-true 0 s.left is))
         by false is = tt
 
-    known_yields : (r : Result (Option Value) Fault) → ((v : Value) → r ≡ Ok (Some v) → Rises v) → Yields (known r)
+    known_yields : (r : Result (Option Value) Stop) → ((v : Value) → r ≡ Ok (Some v) → Rises v) → Yields (known r)
     known_yields (Ok None) h = tt
     known_yields (Ok (Some v)) h = set_value_yields v (h v refl)
     known_yields (Err e) h = tt
@@ -203,7 +202,7 @@ module _ (S : Type 0) (I : Running S → Type 0) where
     put_at_sound p x way v y s i None = tt
     put_at_sound p x way v y s i (Some z) = by (may_store ((on.core s.state).types z.body) x way v)
       where
-        by : (b : Bool) → Comes {A = Unit {0}} Any (cond b (Ok (tt {0}, record s { state = on.keeps p (Store x way v) s.state })) (Err (Unset, s.left)))
+        by : (b : Bool) → Comes {A = Unit {0}} Any (cond b (Ok (tt {0}, record s { state = on.keeps p (Store x way v) s.state })) (Err (Broken, s.left)))
         by true = (tt, closed.stored s i p x way v y)
         by false = tt
 
@@ -214,7 +213,16 @@ module _ (S : Type 0) (I : Running S → Type 0) where
 
     pub store_sound : (d : Denoter) (a : Place) (v : Value) → Rises v → Gives {A = Unit {0}} Any (store S on d a v)
     unfolding store
-    store_sound d a v y = seq_sound (Unit {0}) Any (checked (fit_of (shape_of d) v)) (put S on a v) (checked_any (Unit {0}) (fit_of (shape_of d) v)) (put_sound a v y)
+    store_sound d a v y = seq_sound (Unit {0}) Any (held_step S on a >> checked (stopping (assignable (shape_of d) v))) (put S on a v)
+        (then_any (Option Value) (Unit {0}) Any (held_step S on a) (λ o. checked (stopping (assignable (shape_of d) v))) (read_any (Option Value) (λ s. held S on a s)) (λ o. checked_any (Unit {0}) (stopping (assignable (shape_of d) v)))) (put_sound a v y)
+
+    blank_there_sound : (a : Place) (o : Option Value) → Gives {A = Unit {0}} Any (blank_there S on a o)
+    blank_there_sound a None = stop_sound (Unit {0}) Any Broken
+    blank_there_sound a (Some v) = put_sound a (blanked v) (blanked_rises v)
+
+    pub blank_sound : (a : Place) → Gives {A = Unit {0}} Any (blank_at S on a)
+    unfolding blank_at
+    blank_sound a = then_any (Option Value) (Unit {0}) Any (held_step S on a) (blank_there S on a) (read_any (Option Value) (λ s. held S on a s)) (blank_there_sound a)
 
     pub store_ordinal_sound : (d : Denoter) (a : Place) (n : ℤ) → Gives {A = Unit {0}} Any (store_ordinal S on d a n)
     unfolding store_ordinal

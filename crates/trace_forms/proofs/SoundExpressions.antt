@@ -1,13 +1,12 @@
 -- Every expression keeps the invariant, and gives values in which sets rise, where every call of a routine that a name means does.
 use Rattle.std.proofs.Common.{ℕ, List, [], ◌∷◌, map, ℤ, Option, Some, None, arith}
 use Rattle.std.specs.Prelude.{slice_get}
-use Rattle.pascal_values.specs.declared.fault.Fault.TheVariants.{Unset}
 use Rattle.pascal_values.specs.declared.value.Value.{Value}
 use Rattle.pascal_values.specs.declared.value.Value.TheVariants as pascal
-use Rattle.pascal_values.specs.Shapes.{place_of}
 use Rattle.estelle_tree.specs.declared.span.Span.{Span}
 use Rattle.estelle_tree.specs.declared.tree.name.Name.{Name}
 use Rattle.estelle_tree.specs.declared.tree.type_expr.Sign.{Sign}
+use Rattle.estelle_tree.specs.declared.tree.type_expr.Sign.TheVariants as sign
 use Rattle.estelle_tree.specs.declared.tree.expression.Relation.{Relation}
 use Rattle.estelle_tree.specs.declared.tree.expression.Adding.{Adding}
 use Rattle.estelle_tree.specs.declared.tree.expression.Multiplying.{Multiplying}
@@ -18,12 +17,13 @@ use Rattle.estelle_tree.specs.declared.tree.expression.Factor.TheOpen.{Factor-F,
 use Rattle.estelle_tree.proofs.Folds.{Related, Pairs, KeepsAt, folds_related}
 use Rattle.estelle_tree.proofs.ExpressionFolds as kind
 use Rattle.estelle_tree.proofs.ExpressionFolds.{Kind, Layer, expressions}
-use Rattle.estelle_model.specs.Types.{ordinal_of, bounds_of}
+use Rattle.estelle_model.specs.Types.{ordinal_of, item_place}
 use Rattle.estelle_tree.specs.declared.required.Required.{Required}
 use Rattle.estelle_model.specs.Operators.{negation, signed, related, required_value}
 use Rattle.estelle_tree.specs.Paths.{Path}
 use Rattle.estelle_model.specs.States.{Offers}
-use Rattle.estelle_model.specs.Steps.{Step, Running, ◌>>=◌, pure, checked}
+use Rattle.estelle_model.specs.Stops.{Broken}
+use Rattle.estelle_model.specs.Steps.{Step, Running, ◌>>=◌, pure, checked, breaks}
 use Rattle.estelle_model.specs.declared.meaning.Routine.{Routine}
 use Rattle.estelle_model.specs.declared.meaning.Meaning.{Meaning}
 use Rattle.estelle_model.specs.declared.meaning.Meaning.TheVariants.{Constant, Own, Exported, Local, Var, Field, Called, RequiredFunction, Module}
@@ -36,7 +36,7 @@ use Rattle.estelle_model.specs.declared.place.ActualParameters.{ActualParameters
 use Rattle.estelle_model.specs.Expressions.{Call, Operand, Access, Selecting, Written, ordinal_step, multiplied, multiplied_host, added, added_host, computed, give_all, no_arguments, reference_at, index_step, indexed, fielded, selected, exported, behind_dot, behind_module, accessed, of_access, called, valued, required_of, designated, term_of, with_sign, simple_of, factor, selector, args, elem, expr, simple, term, variable}
 use Rattle.estelle_model.proofs.Units.{Each, IfThere}
 use Rattle.estelle_model.proofs.Kept.{each_has, each_marked_has}
-use Rattle.trace_forms.proofs.Sound.{Any, IsClosed, Gives, OperandSound, AccessSound, SelectingSound, CallSound, GivenRise, then_sound, then_any, pure_sound, pure_any, fail_sound, checked_any, checked_sound, of_value_any, of_value_sound, both_sound, multiplied_sound, added_sound, give_all_sound, member_sound, set_sound, load_sound, child_sound}
+use Rattle.trace_forms.proofs.Sound.{Any, IsClosed, Gives, OperandSound, AccessSound, SelectingSound, CallSound, GivenRise, then_sound, then_any, pure_sound, pure_any, stop_sound, checked_any, checked_sound, of_value_any, of_value_sound, both_sound, multiplied_sound, added_sound, give_all_sound, member_sound, set_sound, load_sound, child_sound}
 use Rattle.trace_forms.proofs.Values.{Rises, int_rises, char_rises, set_value_yields, signed_yields, negation_yields, related_yields, required_yields}
 use Rattle.estelle_model.proofs.ExpressionEquations.{Results, layers}
 
@@ -57,9 +57,9 @@ module _ (S : Type 0) (on : Offers S) (I : Running S → Type 0) (closed : IsClo
   place_sound p = pure_any S I Place p
 
   index_sound : (a : Access S) (e : Operand S) → AccessSound S I a → ON e → Gives S I Any (index_step S on meant call here a e)
-  index_sound a e h k = then_any S I Place Place Any a.place (λ p. ordinal_step e.value >>= λ n. checked (place_of (bounds_of a.denoter).0 (bounds_of a.denoter).1 n) >>= λ j. pure (deeper p j)) h
-      (λ p. then_any S I ℤ Place Any (ordinal_step e.value) (λ n. checked (place_of (bounds_of a.denoter).0 (bounds_of a.denoter).1 n) >>= λ j. pure (deeper p j)) (of_value_any S I ℤ ordinal_of e.value k.value)
-      (λ n. then_any S I ℕ Place Any (checked (place_of (bounds_of a.denoter).0 (bounds_of a.denoter).1 n)) (λ j. pure (deeper p j)) (checked_any S I ℕ (place_of (bounds_of a.denoter).0 (bounds_of a.denoter).1 n)) (λ j. place_sound (deeper p j))))
+  index_sound a e h k = then_any S I Place Place Any a.place (λ p. ordinal_step e.value >>= λ n. checked (item_place a.denoter n) >>= λ j. pure (deeper p j)) h
+      (λ p. then_any S I ℤ Place Any (ordinal_step e.value) (λ n. checked (item_place a.denoter n) >>= λ j. pure (deeper p j)) (of_value_any S I ℤ ordinal_of e.value k.value)
+      (λ n. then_any S I ℕ Place Any (checked (item_place a.denoter n)) (λ j. pure (deeper p j)) (checked_any S I ℕ (item_place a.denoter n)) (λ j. place_sound (deeper p j))))
 
   indexed_sound : (es : List (Operand S)) (a : Access S) → Each ON es → AccessSound S I a → AccessSound S I (indexed S on meant call here es a)
   indexed_sound [] a h k = k
@@ -67,7 +67,7 @@ module _ (S : Type 0) (on : Offers S) (I : Running S → Type 0) (closed : IsClo
 
   fielded_sound : (x : Meaning) (a : Access S) → AccessSound S I a → AccessSound S I (fielded S on meant call here x a)
   fielded_sound (Field k) a h = then_any S I Place Place Any a.place (λ p. pure (deeper p k)) h (λ p. place_sound (deeper p k))
-  fielded_sound _ a h = h
+  fielded_sound _ a h = then_any S I Place Place Any a.place (λ p. breaks) h (λ p. stop_sound S I Place Any Broken)
 
   selected_sound : (xs : List (Selecting S)) (a : Access S) → Each (SelectingSound S I) xs → AccessSound S I a → AccessSound S I (selected S on meant call here xs a)
   selected_sound [] a h k = k
@@ -95,7 +95,7 @@ module _ (S : Type 0) (on : Offers S) (I : Running S → Type 0) (closed : IsClo
   accessed_sound _ xs h = tt
 
   of_access_sound : (o : Option (Access S)) → IfThere (AccessSound S I) o → ON (of_access S on meant call here o)
-  of_access_sound None h = record { value = fail_sound S I Value Rises Unset; place = tt }
+  of_access_sound None h = record { value = stop_sound S I Value Rises Broken; place = tt }
   of_access_sound (Some a) h = record { value = then_any S I Place Value Rises a.place (λ p. load S on p) h (λ p. load_sound S I on closed p); place = h }
 
   called_sound : (r : Routine) → Told r → (es : List (Operand S)) → Each ON es → Gives S I Rises (called S on meant call here r es)
@@ -114,14 +114,14 @@ module _ (S : Type 0) (on : Offers S) (I : Running S → Type 0) (closed : IsClo
   valued_sound _ m xs k = of_access_sound None tt
 
   required_sound : (f : Required) (es : List (Operand S)) → Each ON es → ON (required_of S on meant call here f es)
-  required_sound f [] h = record { value = fail_sound S I Value Rises Unset; place = tt }
+  required_sound f [] h = record { value = stop_sound S I Value Rises Broken; place = tt }
   required_sound f (a ∷ []) h = record { value = of_value_sound S I (λ v. required_value f a.host v) (λ v. required_yields f a.host v) a.value h.0.value; place = tt }
-  required_sound f (a ∷ (b ∷ more)) h = record { value = fail_sound S I Value Rises Unset; place = tt }
+  required_sound f (a ∷ (b ∷ more)) h = record { value = stop_sound S I Value Rises Broken; place = tt }
 
   designated_sound : (x : Meaning) → MeaningTold Told x → (es : List (Operand S)) → Each ON es → ON (designated S on meant call here x es)
   designated_sound (Called r) m es h = record { value = called_sound r m es h; place = tt }
   designated_sound (RequiredFunction f) m es h = required_sound f es h
-  designated_sound _ m es h = record { value = fail_sound S I Value Rises Unset; place = tt }
+  designated_sound _ m es h = record { value = stop_sound S I Value Rises Broken; place = tt }
 
   term_of_sound : (e : Operand S) (xs : List (Multiplying × Operand S)) → ON e → Each (λ (x : Multiplying × Operand S). ON x.1) xs → ON (term_of S on meant call here e xs)
   term_of_sound e [] h k = h
@@ -133,7 +133,8 @@ module _ (S : Type 0) (on : Offers S) (I : Running S → Type 0) (closed : IsClo
 
   with_sign_sound : (sign : Option Sign) (e : Operand S) → ON e → ON (with_sign S on meant call here sign e)
   with_sign_sound None e h = h
-  with_sign_sound (Some sign) e h = record { value = of_value_sound S I (λ v. signed sign v) (λ v. signed_yields sign v) e.value h.value; place = tt }
+  with_sign_sound (Some sign.Plus) e h = record { value = h.value; place = tt }
+  with_sign_sound (Some sign.Minus) e h = record { value = of_value_sound S I (signed sign.Minus) (signed_yields sign.Minus) e.value h.value; place = tt }
 
   -- ---- trees
 

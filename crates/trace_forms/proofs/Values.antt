@@ -4,8 +4,8 @@ use Rattle.std.specs.Prelude.{slice_get, slice_set}
 use Rattle.std.specs.List.{list_all, AllByRecursion}
 use Rattle.pascal_values.specs.declared.fault.Fault.{Fault}
 use Rattle.pascal_values.specs.declared.fault.Fault.TheVariants.{Unset, Range}
-use Rattle.pascal_values.specs.declared.value.Value.{Value, Value-F, out-Value, map-Value, fold_out-Value}
-use Rattle.pascal_values.specs.declared.value.Value.TheFolds.{fold-Value}
+use Rattle.pascal_values.specs.declared.value.Value.{Value, Value-F, out-Value, roll-Value, map-Value, fold_out-Value}
+use Rattle.pascal_values.specs.declared.value.Value.TheFolds.{fold-Value, ind-Value, fold-roll-Value}
 use Rattle.pascal_values.specs.declared.value.Value.TheVariants as value
 use Rattle.pascal_values.specs.declared.value.Shape.{Shape, roll-Shape, map-Shape}
 use Rattle.pascal_values.specs.declared.value.Shape.TheOpen.{Shape-F}
@@ -18,15 +18,17 @@ use Rattle.estelle_tree.specs.declared.tree.type_expr.Sign.{Sign}
 use Rattle.estelle_tree.specs.declared.tree.type_expr.Sign.TheVariants as sign
 use Rattle.estelle_tree.specs.declared.tree.expression.Relation.{Relation}
 use Rattle.estelle_tree.specs.declared.tree.expression.Relation.TheVariants as relation
+use Rattle.estelle_model.specs.Stops.{Stop, Faults, stopping}
 use Rattle.estelle_model.specs.declared.denoter.Denoter.{Denoter}
 use Rattle.estelle_model.specs.declared.denoter.Host.{Host}
 use Rattle.estelle_model.specs.declared.denoter.Host.TheVariants as host
-use Rattle.estelle_model.specs.Types.{shape_of, ordinal_of, value_of, value_in, least, greatest}
+use Rattle.estelle_model.specs.Types.{shape_of, ordinal_of, value_of, value_in, least, greatest, whole, assignable}
 use Rattle.estelle_tree.specs.declared.required.Required.{Required}
 use Rattle.estelle_tree.specs.declared.required.Required.TheVariants.{Abs, Sqr, Odd, Succ, Pred, Ord, Chr}
-use Rattle.estelle_model.specs.Operators.{◌>>>◌, int_of, bool_of, set_of_value, an_int, two_ints, by_kind, plus, minus, times, divided, modulo, signed, negation, related, beyond, stepped, is_odd, required_value}
+use Rattle.estelle_model.specs.Operators.{◌>>>◌, int_of, bool_of, set_of_value, an_int, two_ints, by_kind, plus, minus, times, divided, modulo, signed, negation, related, beyond, stepped, host_told, succeeding, preceding, in_host, is_odd, required_value}
 use Rattle.estelle_model.specs.Belonging.{rises}
-use Rattle.estelle_model.specs.Places.{set_value}
+use Rattle.estelle_model.specs.Places as places
+use Rattle.estelle_model.specs.Places.{set_value, blanked}
 use Rattle.estelle_model.proofs.Fitting.{is_rises}
 use Rattle.pascal_values.specs.Integers.{is_between, sum_of, difference_of, product_of, quotient_of, remainder_of}
 use Rattle.estelle_model.specs.Subject.{blanks}
@@ -188,9 +190,44 @@ pub blanks_rise : (types : List Denoter) → AllRise (blanks types)
 blanks_rise [] = tt
 blanks_rise (d ∷ types) = (blank_rises (shape_of d), blanks_rise types)
 
+-- ---- a value in which nothing is set
+
+abbrev Blanked : Value → Type 0
+Blanked v = Rises (blanked v)
+
+abbrev ShownValue : Type 0
+ShownValue = (x : Value) × Blanked x
+
+all_blanked : (vs : List ShownValue) → AllRise (map blanked (map (λ (e : ShownValue). e.0) vs))
+all_blanked [] = tt
+all_blanked (x ∷ vs) = (x.1, all_blanked vs)
+
+abbrev value_layer : Value-F ShownValue → Value-F Value
+value_layer z = map-Value ShownValue Value (λ e. e.0) z
+
+blanked_made : (z : Value-F ShownValue) → blanked (roll-Value (value_layer z)) ≡ places.blank_step (map-Value Value Value blanked (value_layer z))
+unfolding blanked
+blanked_made z = fold-roll-Value Value places.blank_step (value_layer z)
+
+blanked_step_rises : (x : Value-F Value) (y : Value-F ShownValue) → map-Value ShownValue Value (λ e. e.0) y ≡ x → Blanked (roll-Value x)
+blanked_step_rises x y is = subst (λ (z : Value-F Value). Blanked (roll-Value z)) is (subst Rises (sym (blanked_made y)) (go y))
+  where
+    go : (z : Value-F ShownValue) → Rises (places.blank_step (map-Value Value Value blanked (value_layer z)))
+    go (Value-F.Array vs) = array_rises (map blanked (map (λ (e : ShownValue). e.0) vs)) (all_blanked vs)
+    go (Value-F.Fields vs) = fields_rise (map blanked (map (λ (e : ShownValue). e.0) vs)) (all_blanked vs)
+    go Value-F.Unset = unset_rises
+    go (Value-F.Int n) = unset_rises
+    go (Value-F.Bool b) = unset_rises
+    go (Value-F.Char n) = unset_rises
+    go (Value-F.Enum n) = unset_rises
+    go (Value-F.Set ns) = unset_rises
+
+pub blanked_rises : (v : Value) → Rises (blanked v)
+blanked_rises = ind-Value Blanked blanked_step_rises
+
 -- ---- what operators give
 
-abbrev pub Yields : Result Value Fault → Type 0
+abbrev pub Yields : Result Value Stop → Type 0
 Yields (Ok v) = Rises v
 Yields (Err e) = Unit {0}
 
@@ -198,7 +235,7 @@ int_yields : (r : Result ℤ Fault) → Yields (an_int r)
 int_yields (Ok n) = int_rises n
 int_yields (Err e) = tt
 
-and_then_yields : {A : Type 0} (r : Result A Fault) (f : A → Result Value Fault) → ((a : A) → Yields (f a)) → Yields (r >>> f)
+and_then_yields : {A : Type 0} (r : Result A Stop) (f : A → Result Value Stop) → ((a : A) → Yields (f a)) → Yields (r >>> f)
 and_then_yields (Ok a) f h = h a
 and_then_yields (Err e) f h = tt
 
@@ -249,7 +286,7 @@ modulo_yields v w = two_ints_yield remainder_of v w
 
 pub signed_yields : (s : Sign) (v : Value) → Yields (signed s v)
 unfolding signed
-signed_yields sign.Plus v = int_yields (int_of v)
+signed_yields sign.Plus v = and_then_yields (int_of v) _ (λ n. int_rises n)
 signed_yields sign.Minus v = and_then_yields (int_of v) _ (λ n. int_yields _)
 
 pub negation_yields : (v : Value) → Yields (negation v)
@@ -275,30 +312,42 @@ value_of_rises (host.Enumeration last) n = enum_rises _
 stepped_yields : (h : Host) (n : ℤ) → Yields (stepped h n)
 stepped_yields h n = by (is_between (least h) (greatest h) n)
   where
-    by : (b : Bool) → Yields (cond b (Ok (value_of h n)) (Err (beyond h)))
+    by : (b : Bool) → Yields (cond b (Ok (value_of h n)) (Err (Faults (beyond h))))
     by true = value_of_rises h n
     by false = tt
 
 pub value_in_yields : (h : Host) (n : ℤ) → Yields (value_in h n)
 value_in_yields h n = by (is_between (least h) (greatest h) n)
   where
-    by : (b : Bool) → Yields (cond b (Ok (value_of h n)) (Err Range))
+    by : (b : Bool) → Yields (cond b (Ok (value_of h n)) (Err (Faults Range)))
     by true = value_of_rises h n
     by false = tt
+
+-- a test of the host changes no value
+in_host_yields : (h : Host) (r : Result Value Stop) → Yields r → Yields (r >>> in_host h)
+in_host_yields h (Err e) y = tt
+in_host_yields host.Integer (Ok v) y = y
+in_host_yields host.Boolean (Ok v) y = y
+in_host_yields host.Char (Ok v) y = y
+in_host_yields (host.Enumeration last) (Ok v) y = by (stopping (assignable (shape_of (whole (host.Enumeration last))) v))
+  where
+    by : (r : Result (Unit {0}) Stop) → Yields (r >>> λ ok. Ok v)
+    by (Ok ok) = y
+    by (Err e) = tt
 
 pub required_yields : (f : Required) (h : Host) (v : Value) → Yields (required_value f h v)
 unfolding required_value
 required_yields Abs h v = and_then_yields (int_of v) _ (λ n. int_yields _)
 required_yields Sqr h v = and_then_yields (int_of v) _ (λ n. int_yields _)
-required_yields Odd h v = and_then_yields (int_of v) _ (λ n. and_then_yields (is_odd n) (λ b. Ok (value.Bool b)) (λ b. bool_rises b))
-required_yields Succ h v = and_then_yields (ordinal_of v) _ (λ n. stepped_yields h _)
-required_yields Pred h v = and_then_yields (ordinal_of v) _ (λ n. stepped_yields h _)
-required_yields Ord h v = int_yields (ordinal_of v)
+required_yields Odd h v = and_then_yields (int_of v) _ (λ n. and_then_yields (stopping (is_odd n)) (λ b. Ok (value.Bool b)) (λ b. bool_rises b))
+required_yields Succ h v = in_host_yields h (succeeding v) (and_then_yields (ordinal_of v) _ (λ n. stepped_yields (host_told v) _))
+required_yields Pred h v = in_host_yields h (preceding v) (and_then_yields (ordinal_of v) _ (λ n. stepped_yields (host_told v) _))
+required_yields Ord h v = and_then_yields (ordinal_of v) _ (λ n. int_rises n)
 required_yields Chr h v = and_then_yields (int_of v) _ (λ n. stepped_yields host.Char n)
 
 pub set_value_yields : (v : Value) → Rises v → Yields (set_value (Some v))
 set_value_yields v h = by (is_unset v)
   where
-    by : (b : Bool) → Yields (cond b (Err Unset) (Ok v))
+    by : (b : Bool) → Yields (cond b (Err (Faults Unset)) (Ok v))
     by true = tt
     by false = h

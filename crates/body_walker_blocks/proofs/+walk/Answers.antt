@@ -18,6 +18,7 @@ use Rattle.estelle_tree.specs.declared.tree.statement.Stmts.{Stmts}
 use Rattle.estelle_tree.specs.declared.tree.statement.Case.{Case}
 use Rattle.estelle_model.specs.declared.denoter.Host.{Host}
 use Rattle.estelle_model.specs.declared.meaning.Meaning.{Meaning}
+use Rattle.estelle_model.specs.declared.meaning.Meaning.TheVariants.{Interaction}
 use Rattle.estelle_model.specs.declared.meaning.Passing.TheVariants.{ByValue}
 use Rattle.estelle_model.specs.declared.place.Place.{Place}
 use Rattle.estelle_model.specs.Core.{Instances}
@@ -39,19 +40,19 @@ use Rattle.body_walker_blocks.specs.Scopes.{meanings}
 use Rattle.body_walker_blocks.specs.Located.{Located}
 use Rattle.body_walker_blocks.specs.Operands.{with_reference}
 use Rattle.body_walker_blocks.specs.Labels.{labelled}
-use Rattle.body_walker_blocks.specs.Accesses.{is_variable, field, item}
+use Rattle.body_walker_blocks.specs.Accesses.{is_variable, variable_host, field, item}
 use Rattle.body_walker_blocks.specs.Turns.{following}
 use Rattle.body_walker_blocks.specs.Walked as walked
 use Rattle.body_walker_blocks.proofs.Weights.{total, part, of_factor, of_selector, of_elem, of_expr, of_right, of_other_term, of_other_factor, of_stmt, of_case, of_stmts, args_weigh, elem_weighs, expr_weighs, simple_weighs, term_weighs, variable_weighs, stmts_weigh, item_at, factor_is, selector_is, stmt_is, variable_part, case_part, arguments_weigh, behind_weighs}
 use Rattle.body_walker_blocks.proofs.Depths.{call_falls, init_falls}
-use Rattle.body_walker_blocks.proofs.Plans.{Runs, then, stops, with, without, last, gives, given, finished, finishes, refused, itself, leaves, ends, faults, exits}
+use Rattle.body_walker_blocks.proofs.Plans.{Runs, then, stops, with, without, last, gives, given, finished, finishes, refused, broken, itself, leaves, ends, faults, breaks, exits}
 use Rattle.body_walker_blocks.proofs.Chains.{left_begins, left_turn, left_stops, left_ends}
 use Rattle.body_walker_blocks.proofs.ExpressionSteps.{added_is, multiplied_is, expr_steps, simple_steps, term_steps, factor_walks, set_steps_from, members_is, elem_steps}
 use Rattle.body_walker_blocks.proofs.AccessSteps.{indexed_is, item_is, selected_steps, accessed_steps, target_steps, target_other}
 use Rattle.body_walker_blocks.proofs.CallSteps.{valued_steps, valued_other, designated_steps, designated_required, designated_wrongly, designated_other, give_steps, reference_steps, reference_reads, given_begins, given_turn, given_stops, given_spare, given_short, given_all, give_is, types_length, type_item, spend_stops, deep_call, next_call, within_steps}
 use Rattle.body_walker_blocks.proofs.LoopSteps.{loop_begins, while_turn, while_takes, while_ends, while_test_stops, while_spend_stops, while_body_stops, repeat_turn, repeat_takes, repeat_ends, repeat_spend_stops, repeat_body_stops, repeat_test_stops, count_begins, count_turn, count_takes, count_ends, count_spend_stops, count_set_stops, count_body_stops, count_same, none_comes, TurnsFrom}
 use Rattle.body_walker_blocks.proofs.StatementSteps.{stmts_steps, assign_steps, procedure_steps, procedure_other, select_plan, select_steps, count_steps, stmt_steps, if_steps}
-use Rattle.body_walker_blocks.proofs.ActionSteps.{output_steps, init_no_module, init_no_body, init_walks}
+use Rattle.body_walker_blocks.proofs.ActionSteps.{output_steps, sent_other, init_no_module, init_no_body, init_walks}
 use Rattle.body_walker_blocks.proofs.InitSteps.{Tested, tested, create_refused, body_is_there, create_goes, create_stops, create_unspent, deep_create, next_create, spend_keeps, initialize_some, initialize_none}
 use Rattle.body_walker_blocks.proofs.+walk.Goals as goal
 
@@ -98,10 +99,10 @@ pub calls::designated-returns-in_ok-value-in-Called : goal.calls::designated-ret
 calls::designated-returns-in_ok-value-in-Called t c = leaves (designated_steps c.args.scope.now c.args.here.now c.args.name.now c.args.exprs.now _ (sym c.meaning.ensures ∙ c.in-Called.is)) (then c.in_ok-value-in-Called.ensures (gives c.set_value.ensures))
 
 pub calls::designated-returns-in_default : goal.calls::designated-returns-in_default
-calls::designated-returns-in_default t c = faults (designated_other c.args.scope.now c.args.here.now c.args.name.now c.args.exprs.now _ (sym c.meaning.ensures) c.in_default.not-Called c.in_default.not-RequiredFunction) refused
+calls::designated-returns-in_default t c = breaks (designated_other c.args.scope.now c.args.here.now c.args.name.now c.args.exprs.now _ (sym c.meaning.ensures) c.in_default.not-Called c.in_default.not-RequiredFunction) broken
 
 pub calls::designated-returns-then-exprs-ne1 : goal.calls::designated-returns-then-exprs-ne1
-calls::designated-returns-then-exprs-ne1 t c = faults (designated_wrongly c.args.scope.now c.args.here.now c.args.name.now c.args.exprs.now c.in-RequiredFunction.required (sym c.meaning.ensures ∙ c.in-RequiredFunction.is) c.if-exprs-ne1.true) refused
+calls::designated-returns-then-exprs-ne1 t c = breaks (designated_wrongly c.args.scope.now c.args.here.now c.args.name.now c.args.exprs.now c.in-RequiredFunction.required (sym c.meaning.ensures ∙ c.in-RequiredFunction.is) c.if-exprs-ne1.true) broken
 
 pub calls::designated-returns-in_err-value-in-RequiredFunction : goal.calls::designated-returns-in_err-value-in-RequiredFunction
 calls::designated-returns-in_err-value-in-RequiredFunction t c = exits c.from_residual-in_err-value-in-RequiredFunction.result c.from_residual-in_err-value-in-RequiredFunction.ensures.1 (designated_required c.args.scope.now c.args.here.now c.args.name.now c.args.exprs.now c.in-RequiredFunction.required c.index-exprs-0.result (sym c.meaning.ensures ∙ c.in-RequiredFunction.is) (omega (arith, c.if-exprs-ne1.false)) (omega (arith, c.if-exprs-ne1.false)) c.index-exprs-0.is) (stops c.in_err-value-in-RequiredFunction.ensures)
@@ -116,7 +117,7 @@ pub calls::give-returns-in_err-reached-in-Some : goal.calls::give-returns-in_err
 calls::give-returns-in_err-reached-in-Some t c = exits c.from_residual.result c.from_residual.ensures.1 (reference_reads c.args.scope.now c.args.here.now c.args.passing.now c.args.actual.now c.in-Some.variable.now c.args.given _ _ c.in-ByPlace.is (sym c.in-Some.ensures) c.meaning-meaning.ensures c.items.ensures) (stops c.in_err-reached-in-Some.ensures)
 
 pub calls::give-returns-in-None : goal.calls::give-returns-in-None
-calls::give-returns-in-None t c = faults (reference_steps c.args.scope.now c.args.here.now c.args.passing.now c.args.actual.now None c.args.given c.in-ByPlace.is (sym c.in-None.ensures)) refused
+calls::give-returns-in-None t c = breaks (reference_steps c.args.scope.now c.args.here.now c.args.passing.now c.args.actual.now None c.args.given c.in-ByPlace.is (sym c.in-None.ensures)) broken
 
 pub calls::give-returns-in_ok-reached-in-Some : goal.calls::give-returns-in_ok-reached-in-Some
 calls::give-returns-in_ok-reached-in-Some t c = leaves (reference_reads c.args.scope.now c.args.here.now c.args.passing.now c.args.actual.now c.in-Some.variable.now c.args.given _ _ c.in-ByPlace.is (sym c.in-Some.ensures) c.meaning-meaning.ensures c.items.ensures) (then c.in_ok-reached-in-Some.ensures (gives (subst (λ (l : Located). Gives (with_reference c.args.given l.place) c.with_reference.result) c.reached.view_is c.with_reference.ensures)))
@@ -301,6 +302,12 @@ expressions::multiplied-returns t c = leaves (multiplied_is c.args.operator c.ar
 pub expressions::ordinal-expr-requires : goal.expressions::ordinal-expr-requires
 expressions::ordinal-expr-requires t c = (omega (arith, c.decreases), tt)
 
+pub expressions::bound-expr-requires : goal.expressions::bound-expr-requires
+expressions::bound-expr-requires t c = (omega (arith, c.decreases), tt)
+
+pub expressions::selector_ordinal-expr-requires : goal.expressions::selector_ordinal-expr-requires
+expressions::selector_ordinal-expr-requires t c = (omega (arith, c.decreases), tt)
+
 pub expressions::set_of-loop-elem-init : goal.expressions::set_of-loop-elem-init
 expressions::set_of-loop-elem-init t c = left_begins
 
@@ -362,31 +369,31 @@ pub expressions::term-returns : goal.expressions::term-returns
 expressions::term-returns t c = ends (term_steps c.args.scope.now c.args.here.now c.args.node.now) (then c.in_ok-value.ensures (left_ends c.loop-other.invariant c.loop-other-test.false c.items-other-items.ensures))
 
 pub loops::count-returns-then-not-is_variable : goal.loops::count-returns-then-not-is_variable
-loops::count-returns-then-not-is_variable t c = faults (count_steps c.args.scope.now c.args.here.now c.args.variable.now c.args.first.now c.args.direction c.args.last.now c.args.body.now _ (ap is_variable (sym c.meaning-meaning.ensures) ∙ sym c.if-not-is_variable.ensures)) refused
+loops::count-returns-then-not-is_variable t c = breaks (count_steps c.args.scope.now c.args.here.now c.args.variable.now c.args.first.now c.args.direction c.args.last.now c.args.body.now (variable_host (meanings c.args.scope.now c.args.variable.now)) _ refl (ap is_variable (sym c.meaning-meaning.ensures) ∙ sym c.if-not-is_variable.ensures)) broken
 
-pub loops::count-ordinal-requires : goal.loops::count-ordinal-requires
-loops::count-ordinal-requires t c = (omega (arith, c.decreases), tt)
+pub loops::count-bound-requires : goal.loops::count-bound-requires
+loops::count-bound-requires t c = (omega (arith, c.decreases), tt)
 
 pub loops::count-returns-in_err-first : goal.loops::count-returns-in_err-first
-loops::count-returns-in_err-first t c = exits c.from_residual.result c.from_residual.ensures.1 (count_steps c.args.scope.now c.args.here.now c.args.variable.now c.args.first.now c.args.direction c.args.last.now c.args.body.now _ (ap is_variable (sym c.meaning-meaning.ensures) ∙ sym c.if-not-is_variable.ensures)) (stops c.in_err-first.ensures)
+loops::count-returns-in_err-first t c = exits c.from_residual.result c.from_residual.ensures.1 (count_steps c.args.scope.now c.args.here.now c.args.variable.now c.args.first.now c.args.direction c.args.last.now c.args.body.now c.variable_host-host.result _ (c.variable_host-host.ensures ∙ ap variable_host c.meaning-meaning.ensures) (ap is_variable (sym c.meaning-meaning.ensures) ∙ sym c.if-not-is_variable.ensures)) (stops c.in_err-first.ensures)
 
-pub loops::count-ordinal-requires-2 : goal.loops::count-ordinal-requires-2
-loops::count-ordinal-requires-2 t c = (omega (arith, c.decreases), tt)
+pub loops::count-bound-requires-2 : goal.loops::count-bound-requires-2
+loops::count-bound-requires-2 t c = (omega (arith, c.decreases), tt)
 
 pub loops::count-returns-in_err-last : goal.loops::count-returns-in_err-last
-loops::count-returns-in_err-last t c = exits c.from_residual-in_err-last.result c.from_residual-in_err-last.ensures.1 (count_steps c.args.scope.now c.args.here.now c.args.variable.now c.args.first.now c.args.direction c.args.last.now c.args.body.now _ (ap is_variable (sym c.meaning-meaning.ensures) ∙ sym c.if-not-is_variable.ensures)) (then c.in_ok-first.ensures (stops c.in_err-last.ensures))
+loops::count-returns-in_err-last t c = exits c.from_residual-in_err-last.result c.from_residual-in_err-last.ensures.1 (count_steps c.args.scope.now c.args.here.now c.args.variable.now c.args.first.now c.args.direction c.args.last.now c.args.body.now c.variable_host-host.result _ (c.variable_host-host.ensures ∙ ap variable_host c.meaning-meaning.ensures) (ap is_variable (sym c.meaning-meaning.ensures) ∙ sym c.if-not-is_variable.ensures)) (then c.in_ok-first.ensures (stops c.in_err-last.ensures))
 
 pub loops::count-accessed-requires : goal.loops::count-accessed-requires
 loops::count-accessed-requires t c = (omega (arith, c.decreases), tt)
 
 pub loops::count-returns-in_err-to : goal.loops::count-returns-in_err-to
-loops::count-returns-in_err-to t c = exits c.from_residual-in_err-to.result c.from_residual-in_err-to.ensures.1 (count_steps c.args.scope.now c.args.here.now c.args.variable.now c.args.first.now c.args.direction c.args.last.now c.args.body.now _ (ap is_variable (sym c.meaning-meaning.ensures) ∙ sym c.if-not-is_variable.ensures)) (then c.in_ok-first.ensures (then c.in_ok-last.ensures (stops (subst (λ (m : Meaning). Follows (walked.accessed c.args.scope.now c.args.here.now m []) c.ordinal-2.new.walk (Err c.in_err-to.field-0.0) c.accessed.new.walk) c.meaning-meaning.ensures c.in_err-to.ensures))))
+loops::count-returns-in_err-to t c = exits c.from_residual-in_err-to.result c.from_residual-in_err-to.ensures.1 (count_steps c.args.scope.now c.args.here.now c.args.variable.now c.args.first.now c.args.direction c.args.last.now c.args.body.now c.variable_host-host.result _ (c.variable_host-host.ensures ∙ ap variable_host c.meaning-meaning.ensures) (ap is_variable (sym c.meaning-meaning.ensures) ∙ sym c.if-not-is_variable.ensures)) (then c.in_ok-first.ensures (then c.in_ok-last.ensures (stops (subst (λ (m : Meaning). Follows (walked.accessed c.args.scope.now c.args.here.now m []) c.bound-2.new.walk (Err c.in_err-to.field-0.0) c.accessed.new.walk) c.meaning-meaning.ensures c.in_err-to.ensures))))
 
 pub loops::count-count_loop-requires : goal.loops::count-count_loop-requires
 loops::count-count_loop-requires t c = (omega (arith, c.decreases), tt)
 
 pub loops::count-returns : goal.loops::count-returns
-loops::count-returns t c = leaves (count_steps c.args.scope.now c.args.here.now c.args.variable.now c.args.first.now c.args.direction c.args.last.now c.args.body.now _ (ap is_variable (sym c.meaning-meaning.ensures) ∙ sym c.if-not-is_variable.ensures)) (then c.in_ok-first.ensures (then c.in_ok-last.ensures (then (subst (λ (m : Meaning). walked.accessed c.args.scope.now c.args.here.now m [] (running c.ordinal-2.new.walk) ≡ Ok (c.in_ok-to.to, running c.accessed.new.walk)) c.meaning-meaning.ensures c.in_ok-to.ensures) (last (subst (λ (l : Located). Follows (walked.count_loop c.args.scope.now c.args.here.now l.denoter l.place c.in_ok-first.first c.args.direction c.in_ok-last.last c.args.body.now) c.accessed.new.walk c.count_loop.result c.count_loop.new.walk) c.to.view_is (subst (λ (n : ℤ). Follows (walked.count_loop c.args.scope.now c.args.here.now c.to.inside.denoter.now c.to.inside.place c.in_ok-first.first c.args.direction n c.args.body.now) c.accessed.new.walk c.count_loop.result c.count_loop.new.walk) (to_z-of_z w64 c.in_ok-last.last (search rules)) (subst (λ (n : ℤ). Follows (walked.count_loop c.args.scope.now c.args.here.now c.to.inside.denoter.now c.to.inside.place n c.args.direction (to_z w64 (of_z w64 c.in_ok-last.last)) c.args.body.now) c.accessed.new.walk c.count_loop.result c.count_loop.new.walk) (to_z-of_z w64 c.in_ok-first.first (search rules)) c.count_loop.ensures)))))))
+loops::count-returns t c = leaves (count_steps c.args.scope.now c.args.here.now c.args.variable.now c.args.first.now c.args.direction c.args.last.now c.args.body.now c.variable_host-host.result _ (c.variable_host-host.ensures ∙ ap variable_host c.meaning-meaning.ensures) (ap is_variable (sym c.meaning-meaning.ensures) ∙ sym c.if-not-is_variable.ensures)) (then c.in_ok-first.ensures (then c.in_ok-last.ensures (then (subst (λ (m : Meaning). walked.accessed c.args.scope.now c.args.here.now m [] (running c.bound-2.new.walk) ≡ Ok (c.in_ok-to.to, running c.accessed.new.walk)) c.meaning-meaning.ensures c.in_ok-to.ensures) (last (subst (λ (l : Located). Follows (walked.count_loop c.args.scope.now c.args.here.now l.denoter l.place c.in_ok-first.first c.args.direction c.in_ok-last.last c.args.body.now) c.accessed.new.walk c.count_loop.result c.count_loop.new.walk) c.to.view_is (subst (λ (n : ℤ). Follows (walked.count_loop c.args.scope.now c.args.here.now c.to.inside.denoter.now c.to.inside.place c.in_ok-first.first c.args.direction n c.args.body.now) c.accessed.new.walk c.count_loop.result c.count_loop.new.walk) (to_z-of_z w64 c.in_ok-last.last (search rules)) (subst (λ (n : ℤ). Follows (walked.count_loop c.args.scope.now c.args.here.now c.to.inside.denoter.now c.to.inside.place n c.args.direction (to_z w64 (of_z w64 c.in_ok-last.last)) c.args.body.now) c.accessed.new.walk c.count_loop.result c.count_loop.new.walk) (to_z-of_z w64 c.in_ok-first.first (search rules)) c.count_loop.ensures)))))))
 
 pub loops::count_loop-loop-coming-init : goal.loops::count_loop-loop-coming-init
 loops::count_loop-loop-coming-init t c = subst (λ (o : Option ℤ). TurnsFrom c.args.scope.now c.args.here.now c.args.denoter.now c.args.place.now (to_z w64 (of_z w64 c.args.first)) c.args.direction (to_z w64 (of_z w64 c.args.last)) c.args.body.now o (running c.args.walk.now) (running c.args.walk.now)) (sym c.beginning-coming.ensures) (count_begins c.args.scope.now c.args.here.now c.args.denoter.now c.args.place.now (to_z w64 (of_z w64 c.args.first)) c.args.direction (to_z w64 (of_z w64 c.args.last)) c.args.body.now)
@@ -410,7 +417,7 @@ pub loops::count_loop-loop-coming-preserved : goal.loops::count_loop-loop-coming
 loops::count_loop-loop-coming-preserved t c = subst (λ (o : Option ℤ). TurnsFrom c.args.scope.now c.args.here.now c.args.denoter.now c.args.place.now (to_z w64 (of_z w64 c.args.first)) c.args.direction (to_z w64 (of_z w64 c.args.last)) c.args.body.now o (running c.stmt.new.walk) (running c.args.walk.now)) (sym (c.following-coming.ensures ∙ ap (λ (n : ℤ). following c.args.direction n (to_z w64 (of_z w64 c.args.last))) (to_z-of_z w64 c.in-Some.number (search rules)))) (count_turn c.args.scope.now c.args.here.now c.args.denoter.now c.args.place.now (to_z w64 (of_z w64 c.args.first)) c.args.direction (to_z w64 (of_z w64 c.args.last)) c.args.body.now (subst (λ (o : Option ℤ). TurnsFrom c.args.scope.now c.args.here.now c.args.denoter.now c.args.place.now (to_z w64 (of_z w64 c.args.first)) c.args.direction (to_z w64 (of_z w64 c.args.last)) c.args.body.now o (running c.loop-coming.walk) (running c.args.walk.now)) c.in-Some.is c.loop-coming.invariant) c.in_ok-spend.ensures (subst (λ (n : ℤ). store_ordinal Logged on_log c.args.denoter.now c.args.place.now n (running c.spend.new.self) ≡ Ok (tt, running c.store_ordinal.new.self)) (to_z-of_z w64 c.in-Some.number (search rules)) c.in_ok-store_ordinal.ensures) c.in_ok-stmt.ensures)
 
 pub loops::count_loop-returns : goal.loops::count_loop-returns
-loops::count_loop-returns t c = leaves (count_same c.args.scope.now c.args.here.now c.args.denoter.now c.args.place.now c.args.first (to_z w64 (of_z w64 c.args.first)) c.args.direction c.args.last (to_z w64 (of_z w64 c.args.last)) c.args.body.now (to_z-of_z w64 c.args.first (search rules)) (to_z-of_z w64 c.args.last (search rules))) (count_ends c.args.scope.now c.args.here.now c.args.denoter.now c.args.place.now (to_z w64 (of_z w64 c.args.first)) c.args.direction (to_z w64 (of_z w64 c.args.last)) c.args.body.now (subst (λ (o : Option ℤ). TurnsFrom c.args.scope.now c.args.here.now c.args.denoter.now c.args.place.now (to_z w64 (of_z w64 c.args.first)) c.args.direction (to_z w64 (of_z w64 c.args.last)) c.args.body.now o (running c.loop-coming.walk) (running c.args.walk.now)) (none_comes c.loop-coming.coming c.in_default.not-Some) c.loop-coming.invariant) c.put.ensures)
+loops::count_loop-returns t c = leaves (count_same c.args.scope.now c.args.here.now c.args.denoter.now c.args.place.now c.args.first (to_z w64 (of_z w64 c.args.first)) c.args.direction c.args.last (to_z w64 (of_z w64 c.args.last)) c.args.body.now (to_z-of_z w64 c.args.first (search rules)) (to_z-of_z w64 c.args.last (search rules))) (count_ends c.args.scope.now c.args.here.now c.args.denoter.now c.args.place.now (to_z w64 (of_z w64 c.args.first)) c.args.direction (to_z w64 (of_z w64 c.args.last)) c.args.body.now (subst (λ (o : Option ℤ). TurnsFrom c.args.scope.now c.args.here.now c.args.denoter.now c.args.place.now (to_z w64 (of_z w64 c.args.first)) c.args.direction (to_z w64 (of_z w64 c.args.last)) c.args.body.now o (running c.loop-coming.walk) (running c.args.walk.now)) (none_comes c.loop-coming.coming c.in_default.not-Some) c.loop-coming.invariant) c.blank.ensures)
 
 pub loops::repeat_loop-loop-walk-init : goal.loops::repeat_loop-loop-walk-init
 loops::repeat_loop-loop-walk-init t c = loop_begins
@@ -491,10 +498,10 @@ pub statements::procedure-returns-in_ok-invoke-in-Called : goal.statements::proc
 statements::procedure-returns-in_ok-invoke-in-Called t c = ends (procedure_steps c.args.scope.now c.args.here.now c.args.name.now c.args.args.now _ (sym c.meaning.ensures ∙ c.in-Called.is)) (then (subst (λ (es : List Expr). walked.invoked c.args.scope.now c.args.here.now c.in-Called.routine es (running c.args.walk.now) ≡ Ok (c.in_ok-invoke-in-Called.field-0, running c.invoke.new.walk)) c.exprs_of.ensures c.in_ok-invoke-in-Called.ensures) finished)
 
 pub statements::procedure-returns-in_default : goal.statements::procedure-returns-in_default
-statements::procedure-returns-in_default t c = faults (procedure_other c.args.scope.now c.args.here.now c.args.name.now c.args.args.now _ (sym c.meaning.ensures) c.in_default.not-Called) refused
+statements::procedure-returns-in_default t c = breaks (procedure_other c.args.scope.now c.args.here.now c.args.name.now c.args.args.now _ (sym c.meaning.ensures) c.in_default.not-Called) broken
 
-pub statements::select-ordinal-requires : goal.statements::select-ordinal-requires
-statements::select-ordinal-requires t c = (omega (arith, c.decreases), tt)
+pub statements::select-selector_ordinal-requires : goal.statements::select-selector_ordinal-requires
+statements::select-selector_ordinal-requires t c = (omega (arith, c.decreases), tt)
 
 pub statements::select-returns-in_err-number : goal.statements::select-returns-in_err-number
 statements::select-returns-in_err-number t c = exits c.from_residual.result c.from_residual.ensures.1 (select_steps c.args.scope.now c.args.here.now c.args.selector.now c.args.cases.now) (stops c.in_err-number.ensures)
@@ -503,10 +510,10 @@ pub statements::select-stmt-requires : goal.statements::select-stmt-requires
 statements::select-stmt-requires t c = (omega (arith, c.decreases, case_part (meanings c.args.scope.now) (to_z w64 (of_z w64 c.in_ok-number.number)) c.args.cases.now c.in-Some.body.now (sym c.in_ok-labelled.ensures ∙ ap option_copied c.in-Some.is)), tt)
 
 pub statements::select-returns-in-None : goal.statements::select-returns-in-None
-statements::select-returns-in-None t c = faults (select_steps c.args.scope.now c.args.here.now c.args.selector.now c.args.cases.now) (then c.in_ok-number.ensures (subst (λ (o : Option Stmt). Runs (select_plan c.args.scope.now c.args.here.now o) (running c.ordinal.new.walk) (Err (stop.Fault NoCase)) (running c.ordinal.new.walk)) (sym (ap option_copied c.in-None.is) ∙ c.in_ok-labelled.ensures ∙ ap (λ (n : ℤ). labelled (meanings c.args.scope.now) n c.args.cases.now) (to_z-of_z w64 c.in_ok-number.number (search rules))) refused))
+statements::select-returns-in-None t c = faults (select_steps c.args.scope.now c.args.here.now c.args.selector.now c.args.cases.now) (then c.in_ok-number.ensures (subst (λ (o : Option Stmt). Runs (select_plan c.args.scope.now c.args.here.now o) (running c.selector_ordinal.new.walk) (Err (stop.Fault NoCase)) (running c.selector_ordinal.new.walk)) (sym (ap option_copied c.in-None.is) ∙ c.in_ok-labelled.ensures ∙ ap (λ (n : ℤ). labelled (meanings c.args.scope.now) n c.args.cases.now) (to_z-of_z w64 c.in_ok-number.number (search rules))) refused))
 
 pub statements::select-returns-in-Some : goal.statements::select-returns-in-Some
-statements::select-returns-in-Some t c = leaves (select_steps c.args.scope.now c.args.here.now c.args.selector.now c.args.cases.now) (then c.in_ok-number.ensures (subst (λ (o : Option Stmt). Runs (select_plan c.args.scope.now c.args.here.now o) (running c.ordinal.new.walk) c.stmt.result (running c.stmt.new.walk)) (sym (ap option_copied c.in-Some.is) ∙ c.in_ok-labelled.ensures ∙ ap (λ (n : ℤ). labelled (meanings c.args.scope.now) n c.args.cases.now) (to_z-of_z w64 c.in_ok-number.number (search rules))) (last c.stmt.ensures)))
+statements::select-returns-in-Some t c = leaves (select_steps c.args.scope.now c.args.here.now c.args.selector.now c.args.cases.now) (then c.in_ok-number.ensures (subst (λ (o : Option Stmt). Runs (select_plan c.args.scope.now c.args.here.now o) (running c.selector_ordinal.new.walk) c.stmt.result (running c.stmt.new.walk)) (sym (ap option_copied c.in-Some.is) ∙ c.in_ok-labelled.ensures ∙ ap (λ (n : ℤ). labelled (meanings c.args.scope.now) n c.args.cases.now) (to_z-of_z w64 c.in_ok-number.number (search rules))) (last c.stmt.ensures)))
 
 pub statements::stmt-assign-requires : goal.statements::stmt-assign-requires
 statements::stmt-assign-requires t c = (omega (arith, c.decreases, stmt_is c.args.node.now _ (ap out-Stmt c.in-Assign.is ∙ stmt.outs-Assign _ _ _)), tt)
@@ -677,10 +684,10 @@ pub children::init-create-requires : goal.children::init-create-requires
 children::init-create-requires t c = (omega (arith, c.decreases), tt)
 
 pub children::init-returns-in_default : goal.children::init-returns-in_default
-children::init-returns-in_default t c = faults (init_no_module c.args.scope.now c.args.here.now c.args.modvar.now c.args.body.now c.args.args.now _ (sym c.meaning.ensures) c.in_default.not-Module) refused
+children::init-returns-in_default t c = breaks (init_no_module c.args.scope.now c.args.here.now c.args.modvar.now c.args.body.now c.args.args.now _ (sym c.meaning.ensures) c.in_default.not-Module) broken
 
 pub children::init-returns-in_default-meaning : goal.children::init-returns-in_default-meaning
-children::init-returns-in_default-meaning t c = faults (init_no_body c.args.scope.now c.args.here.now c.args.modvar.now c.args.body.now c.args.args.now _ _ (sym c.meaning.ensures ∙ c.in-Module.is) (sym c.meaning-2.ensures) c.in_default-meaning.not-Body) refused
+children::init-returns-in_default-meaning t c = breaks (init_no_body c.args.scope.now c.args.here.now c.args.modvar.now c.args.body.now c.args.args.now _ _ (sym c.meaning.ensures ∙ c.in-Module.is) (sym c.meaning-2.ensures) c.in_default-meaning.not-Body) broken
 
 pub children::init-returns-in_err-given : goal.children::init-returns-in_err-given
 children::init-returns-in_err-given t c = exits c.from_residual.result c.from_residual.ensures.1 (init_walks c.args.scope.now c.args.here.now c.args.modvar.now c.args.body.now c.args.args.now _ _ c.parameters-types.result.now c.exprs_of.result.now (sym c.meaning.ensures ∙ c.in-Module.is) (sym c.meaning-2.ensures ∙ c.in-Body.is) (c.parameters-types.ensures ∙ ap (λ (s : Subject). (child_of s c.in-Body.number).parameters) c.bodies.ensures) c.exprs_of.ensures) (stops c.in_err-given.ensures)
@@ -750,5 +757,8 @@ output::output-returns-in_err-spend t c = exits c.from_residual-in_err-spend.res
 pub output::output-returns-in_err-a : goal.output::output-returns-in_err-a
 output::output-returns-in_err-a t c = exits c.from_residual-in_err-a.result c.from_residual-in_err-a.ensures.1 (output_steps c.args.scope.now c.args.here.now c.args.ip.now c.args.interaction.now c.args.args.now c.args.scope.now.subject c.meaning-meaning.result.now c.types_received-types.result.now c.exprs_of.result.now refl c.meaning-meaning.ensures c.types_received-types.ensures c.exprs_of.ensures) (then c.in_ok-given.ensures (then c.in_ok-spend.ensures (without c.in_err-a.ensures)))
 
-pub output::output-returns : goal.output::output-returns
-output::output-returns t c = leaves (output_steps c.args.scope.now c.args.here.now c.args.ip.now c.args.interaction.now c.args.args.now c.bodies.result.now c.meaning-meaning.result.now c.types_received-types.result.now c.exprs_of.result.now c.bodies.ensures c.meaning-meaning.ensures c.types_received-types.ensures c.exprs_of.ensures) (then c.in_ok-given.ensures (then c.in_ok-spend.ensures (with c.in_ok-a.ensures (last c.output_at.ensures))))
+pub output::output-returns-in-Interaction : goal.output::output-returns-in-Interaction
+output::output-returns-in-Interaction t c = leaves (output_steps c.args.scope.now c.args.here.now c.args.ip.now c.args.interaction.now c.args.args.now c.bodies.result.now (Interaction c.in-Interaction.kind) c.types_received-types.result.now c.exprs_of.result.now c.bodies.ensures (sym c.in-Interaction.is ∙ c.meaning-meaning.ensures) (c.types_received-types.ensures ∙ ap types_received c.in-Interaction.is) c.exprs_of.ensures) (then c.in_ok-given.ensures (then c.in_ok-spend.ensures (with c.in_ok-a.ensures (last c.output_at.ensures))))
+
+pub output::output-returns-in_default : goal.output::output-returns-in_default
+output::output-returns-in_default t c = breaks (output_steps c.args.scope.now c.args.here.now c.args.ip.now c.args.interaction.now c.args.args.now c.args.scope.now.subject c.meaning-meaning.result.now c.types_received-types.result.now c.exprs_of.result.now refl c.meaning-meaning.ensures c.types_received-types.ensures c.exprs_of.ensures) (then c.in_ok-given.ensures (then c.in_ok-spend.ensures (with c.in_ok-a.ensures (sent_other c.args.scope.now c.args.here.now c.args.scope.now.subject c.args.ip.now.word c.args.interaction.now.word c.meaning-meaning.result.now c.in_ok-given.given.values c.in_ok-a.a c.in_default.not-Interaction))))

@@ -75,6 +75,12 @@ decreases-expressions::multiplied l = of_calls l.scope.now l.here.now + (of_fact
 abbrev pub decreases-expressions::ordinal : goal.decreases-expressions::ordinal
 decreases-expressions::ordinal l = of_calls l.scope.now l.here.now + (of_expr l.node.now + 1)
 
+abbrev pub decreases-expressions::bound : goal.decreases-expressions::bound
+decreases-expressions::bound l = of_calls l.scope.now l.here.now + (of_expr l.node.now + 1)
+
+abbrev pub decreases-expressions::selector_ordinal : goal.decreases-expressions::selector_ordinal
+decreases-expressions::selector_ordinal l = of_calls l.scope.now l.here.now + (of_expr l.node.now + 1)
+
 abbrev pub decreases-expressions::set_of : goal.decreases-expressions::set_of
 decreases-expressions::set_of l = of_calls l.scope.now l.here.now + (total of_elem l.elems.now + 1)
 

@@ -1,5 +1,5 @@
 use Rattle.std.proofs.Common.{◌≡◌, ◌++◌, take}
-use Rattle.body_machine.specs.Steps.{blanks_of}
+use Rattle.body_machine.specs.Frames.{blanks_of}
 use Rattle.body_machine.proofs.given.add_blanks.Given as goal
 
 abbrev pub invariant-loop-local : goal.invariant-loop-local

@@ -1,5 +1,5 @@
-use Rattle.std.proofs.Common.{◌∙◌, sym, arith}
-use Rattle.body_values.proofs.BelongingLemmas.{simple_belongs, fields_belong_apart, values_fail, values_more}
+use Rattle.std.proofs.Common.{sym, arith}
+use Rattle.body_values.proofs.BelongingLemmas.{fields_belong_apart, values_fail, values_more}
 use Rattle.body_values.proofs.belonging.+belonging.Goals as goal
 
 pub fields_belong-returns-then-fields-values : goal.fields_belong-returns-then-fields-values
@@ -10,6 +10,3 @@ fields_belong-returns-then-not-belongs t c = values_fail c.args.fields.now c.arg
 
 pub fields_belong-loop-i-preserved : goal.fields_belong-loop-i-preserved
 fields_belong-loop-i-preserved t c = values_more c.args.fields.now c.args.values.now c.loop-i.i c.index-fields-i.result c.index-values-i.result c.loop-i-test.true (omega arith) c.index-fields-i.is c.index-values-i.is c.if-not-belongs.false c.belongs.ensures c.loop-i.invariant
-
-pub belongs-returns-in_default : goal.belongs-returns-in_default
-belongs-returns-in_default t c = c.lies_within.ensures ∙ simple_belongs c.args.denoter.now c.args.value.now c.in_default.not-Array c.in_default.not-Fields c.in_default.not-Set

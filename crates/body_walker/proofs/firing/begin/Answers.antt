@@ -14,6 +14,6 @@ pub returns : goal.returns
 returns c =
     let s : Subject = c.args.program.now in
     let b : Subject = c.bodies-bodies.result.now in
-    made_as b s (meanings_of c.table.result.now) (meant s) c.root-path.result [] c.args.routine.now c.args.routine.now c.none-values.result [] c.args.to c.args.to (core_of b c.in_ok-image.image) (bare s).core c.args.budget c.run_on.result
-    c.bodies-bodies.ensures (ap meanings_of c.table.ensures) c.root-path.ensures refl c.none-values.ensures refl
+    made_as b s (meanings_of c.table.result.now) (meant s) c.root-path.result [] _ [] c.args.routine.now c.args.routine.now c.none-values.result [] c.args.to c.args.to (core_of b c.in_ok-image.image) (bare s).core c.args.budget c.run_on.result
+    c.bodies-bodies.ensures (ap meanings_of c.table.ensures) c.root-path.ensures refl refl c.none-values.ensures refl
     (root_core b c.in_ok-image.image c.in_ok-image.ensures ∙ ap (λ (x : Subject). (bare x).core) c.bodies-bodies.ensures) c.run_on.ensures

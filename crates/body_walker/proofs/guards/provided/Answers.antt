@@ -1,9 +1,9 @@
-use Rattle.std.proofs.Common.{sym, ap, subst}
-use Rattle.std.specs.Option.{option_copied}
-use Rattle.estelle_model.specs.States.{Logged, on_log}
-use Rattle.estelle_model.specs.Clauses.{provided_step}
-use Rattle.body_state.specs.Follows.{Follows}
+use Rattle.body_walker.proofs.GuardLemmas.{provided_some, provided_none}
+use Rattle.body_state.specs.Progress.{running}
 use Rattle.body_walker.proofs.guards.provided.Goals as goal
 
 pub returns-in-Some : goal.returns-in-Some
-returns-in-Some c = λ t is. subst (λ o. Follows (provided_step Logged on_log c.args.bodies.now c.args.path.now t c.args.values.now o) c.args.walk.now c.truth.result c.truth.new.walk) (sym (ap option_copied c.in-Some.is)) (c.truth.ensures t is)
+returns-in-Some c = λ is. provided_some c.args.bodies.now c.args.transition.now c.args.path.now c.args.values.now c.args.transition.now.provided c.in-Some.node.now c.holds.result (running c.args.walk.now) (running c.holds.new.walk) c.in-Some.ensures (c.holds.ensures is)
+
+pub returns-in-None : goal.returns-in-None
+returns-in-None c = λ is. provided_none c.args.bodies.now c.args.transition.now c.args.path.now c.args.values.now c.args.transition.now.provided (running c.args.walk.now) c.in-None.ensures

@@ -1,5 +1,5 @@
 use Rattle.std.proofs.Common.{◌∙◌, sym, refl}
-use Rattle.body_walker_blocks.proofs.Plans.{then, stops, last, refused, leaves, faults, exits}
+use Rattle.body_walker_blocks.proofs.Plans.{then, stops, last, broken, leaves, breaks, exits}
 use Rattle.body_walker_blocks.proofs.ActionSteps.{release_walks, release_other}
 use Rattle.body_walker_blocks.proofs.linking.release.Goals as goal
 
@@ -10,4 +10,4 @@ pub returns-in_ok-child-in-Module : goal.returns-in_ok-child-in-Module
 returns-in_ok-child-in-Module c = leaves (release_walks c.args.scope.now c.args.here.now c.args.modvar.now _ c.bodies.result.now (sym c.meaning.ensures ∙ c.in-Module.is) c.bodies.ensures) (then c.in_ok-child-in-Module.ensures (last c.release_child.ensures))
 
 pub returns-in_default : goal.returns-in_default
-returns-in_default c = faults (release_other c.args.scope.now c.args.here.now c.args.modvar.now _ (sym c.meaning.ensures) c.in_default.not-Module) refused
+returns-in_default c = breaks (release_other c.args.scope.now c.args.here.now c.args.modvar.now _ (sym c.meaning.ensures) c.in_default.not-Module) broken
