@@ -406,7 +406,7 @@ module _ (c : Site) (scope : Scope) (within : IsScope c scope) (call : Call Logg
   unfolding row
   with_sign_does None e f h = h
   with_sign_does (Some sign.Minus) e f h = computed_does c _ _ _ (of_does c op.Neg (signed sign.Minus) (λ a. refl) f.value e.value h.value)
-  with_sign_does (Some sign.Plus) e f h = computed_does c _ _ _ (refused_does c [] e.value datum)
+  with_sign_does (Some sign.Plus) e f h = computed_does c _ _ _ h.value
 
   -- ---- trees
 

@@ -237,7 +237,7 @@ module _ (scope : Scope) where
 
   abbrev pub with_sign : Option Sign → Operand → Operand
   with_sign None e = e
-  with_sign (Some sign.Plus) e = computed hosts.Integer refused
+  with_sign (Some sign.Plus) e = computed hosts.Integer e.value
   with_sign (Some sign.Minus) e = computed hosts.Integer (e.value ⨾ one op.Neg)
 
   -- terms from left to right
