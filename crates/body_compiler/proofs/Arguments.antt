@@ -144,7 +144,7 @@ last_regrouped {A} {B} {D} {E} (Ok x) f g h = by (f x.0 x.1)
     by (Err e) = refl
 
 module _ (c : Site) (scope : Scope) (within : IsScope c scope) where
-  fit_does : (k : ℕ) (t : Denoter) → shape_numbered c.numbers k ≡ Some (shape_of t) → (v : Value) → Does c (one (op.Fit k)) (datum v) (checked (stopping (assignable (shape_of t) v)) >>= λ ok. pure v) datum
+  pub fit_does : (k : ℕ) (t : Denoter) → shape_numbered c.numbers k ≡ Some (shape_of t) → (v : Value) → Does c (one (op.Fit k)) (datum v) (checked (stopping (assignable (shape_of t) v)) >>= λ ok. pure v) datum
   unfolding row
   fit_does k t is v = instr_does c (op.Fit k) (datum v) (checked (stopping (assignable (shape_of t) v)) >>= λ ok. pure v) datum
       (λ at turned old r below same. by at turned old r below same (stopping (assignable (shape_of t) v)) (ap (λ o. goes_on ((checked (fit_as o v) >> leaves (Datum v)) (full c old r)) below (machine c at (Datum v ∷ below) turned (full c old r))) is))

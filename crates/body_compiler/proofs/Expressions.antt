@@ -30,10 +30,11 @@ use Rattle.body_code.specs.declared.instr.Instr.TheVariants as op
 use Rattle.estelle_tree.specs.declared.required.Required.{Required}
 use Rattle.estelle_tree.specs.declared.required.Required.TheVariants as required
 use Rattle.estelle_model.specs.declared.denoter.Host.{Host}
+use Rattle.estelle_model.specs.declared.denoter.Host.TheVariants as hosts
 use Rattle.estelle_model.specs.declared.denoter.Denoter.{Denoter, out-Denoter}
 use Rattle.estelle_model.specs.declared.denoter.Denoter.TheOpen.{Denoter-F}
-use Rattle.estelle_model.specs.Types.{ordinal_at, ordinal_of, host_of, item_of, field_of, place_at, item_place}
-use Rattle.estelle_model.specs.Operators.{◌>>>◌, int_at, set_at, by_kind, one_member, members_from, plus, minus, times, divided, modulo, signed, negation, related, required_value, required_host, bool_of}
+use Rattle.estelle_model.specs.Types.{ordinal_at, ordinal_of, shape_of, host_of, whole, assignable, item_of, field_of, place_at, item_place}
+use Rattle.estelle_model.specs.Operators.{◌>>>◌, int_at, set_at, by_kind, one_member, members_from, plus, minus, times, divided, modulo, signed, negation, related, succeeding, preceding, in_host, required_value, required_host, bool_of}
 use Rattle.estelle_model.specs.Stops.{Stop, stopping}
 use Rattle.estelle_model.specs.States.{Logged, on_log}
 use Rattle.estelle_tree.specs.Paths.{Path}
@@ -50,18 +51,19 @@ use Rattle.estelle_model.proofs.ExpressionEquations as meant
 use Rattle.body_machine.specs.declared.item.Item.{Item}
 use Rattle.body_machine.specs.declared.item.Item.TheVariants.{Datum, Spot}
 use Rattle.body_machine.specs.Operations.{a_set}
-use Rattle.body_machine.specs.Rows.{row, gives, leaves, by_export}
+use Rattle.body_machine.specs.Machine.{Activation}
+use Rattle.body_machine.specs.Rows.{OfValue, row, gives, leaves, by_export}
 use Rattle.body_machine.specs.Steps.{goes_on}
 use Rattle.body_compiler.specs.Pieces.{Piece, refused, one, ◌⨾◌, fork}
 use Rattle.body_compiler.specs.ExpressionCode as code
 use Rattle.body_compiler.specs.ExpressionCode.{Scope, by_number}
 use Rattle.body_compiler.proofs.Frames.{IsNamed}
 use Rattle.body_compiler.proofs.Does.{Site, machine, full, Does, then_does, under_does, as_does, none_does}
-use Rattle.body_compiler.proofs.Single.{datum, spot, result, leaves_does, value_does, push_does, of_does, above_does, both_does, load_does}
+use Rattle.body_compiler.proofs.Single.{datum, spot, result, leaves_does, value_does, unary_does, push_does, of_does, above_does, both_does, load_does}
 use Rattle.body_compiler.proofs.Control.{fork_does}
 use Rattle.body_compiler.proofs.CodeFolds.{Results, layers}
 use Rattle.body_compiler.proofs.Operands.{OperandDoes, AccessDoes, SelectingDoes, WrittenDoes, refused_does, computed_does, by_number_does, IsScope, local_does, same_then, bind_regrouped}
-use Rattle.body_compiler.proofs.Arguments.{CallsDo, called_does}
+use Rattle.body_compiler.proofs.Arguments.{CallsDo, fit_does, called_does}
 
 module _ (c : Site) (scope : Scope) (within : IsScope c scope) (call : Call Logged) (calls : CallsDo c scope call) where
   -- ---- places
@@ -228,19 +230,42 @@ module _ (c : Site) (scope : Scope) (within : IsScope c scope) (call : Call Logg
   valued_does z (Module n) is xs ys k = variable_does (Module n) xs ys k
   valued_does z _ is xs ys k = of_access_does None None tt
 
-  uncoded : (f : Required) (a : model.Operand Logged) (b : code.Operand) → OperandDoes c a b → Does c (b.value ⨾ refused) [] (a.value >>= λ v. checked (required_value f a.host v)) datum
-  uncoded f a b h = then_does c b.value refused [] a.value (λ v. checked (required_value f a.host v)) datum datum h.value (λ v named. refused_does c (datum v) (checked (required_value f a.host v)) datum)
+  -- a value that is tested against its type
+  host_does : (h : Host) (w : Value) → Does c (code.host_test scope h) (datum w) (checked (in_host h w)) datum
+  host_does hosts.Integer w = none_does c (datum w) w datum refl tt
+  host_does hosts.Boolean w = none_does c (datum w) w datum refl tt
+  host_does hosts.Char w = none_does c (datum w) w datum refl tt
+  host_does (hosts.Enumeration last) w = by_number_does c (scope.number (shape_of type)) (λ n. one (op.Fit n)) (datum w) (checked (in_host (hosts.Enumeration last) w)) datum
+      (λ k is. as_does c (one (op.Fit k)) (datum w) (checked (stopping (assignable (shape_of type) w)) >>= λ ok. pure w) (checked (in_host (hosts.Enumeration last) w)) datum (λ r. by r (stopping (assignable (shape_of type) w)))
+      (fit_does c scope within k type (within.number (shape_of type) k is) w))
+    where
+      type : Denoter
+      type = whole (hosts.Enumeration last)
 
-  -- what is computed does not depend on the type of the argument
-  computed_by : (f : Required) (a : model.Operand Logged) (b : code.Operand) → OperandDoes c a b → Does c (b.value ⨾ code.required_code scope f) [] (a.value >>= λ v. checked (required_value f a.host v)) datum
+      by : (r : Running Logged) (o : Result (Unit {0}) Stop) → and_then (checked_at o r) (λ ok. pure w) ≡ checked_at (o >>> λ ok. Ok w) r
+      by r (Ok done) = refl
+      by r (Err e) = refl
+
+  -- the value behind or before another one, as a value of its type
+  stepped_does : (i : Instr) (f : Value → Result Value Stop) → ((a : Activation) → row c.subject c.numbers a i ≡ OfValue (λ v. gives (f v))) → (h : Host) (p : Piece) (x : Step Logged Value) → Does c p [] x datum
+      → Does c (p ⨾ one i ⨾ code.host_test scope h) [] (x >>= λ v. checked (f v >>> in_host h)) datum
+  stepped_does i f is h p x d = then_does c p (one i ⨾ code.host_test scope h) [] x (λ v. checked (f v >>> in_host h)) datum datum d
+      (λ v named. as_does c (one i ⨾ code.host_test scope h) (datum v) (checked (f v) >>= λ w. checked (in_host h w)) (checked (f v >>> in_host h)) datum (λ r. by r (f v))
+      (then_does c (one i) (code.host_test scope h) (datum v) (checked (f v)) (λ w. checked (in_host h w)) datum datum (unary_does c i f is v) (λ w none. host_does h w)))
+    where
+      by : (r : Running Logged) (o : Result Value Stop) → and_then (checked_at o r) (λ w. checked (in_host h w)) ≡ checked_at (o >>> in_host h) r
+      by r (Ok w) = refl
+      by r (Err e) = refl
+
+  computed_by : (f : Required) (a : model.Operand Logged) (b : code.Operand) → OperandDoes c a b → Does c (b.value ⨾ code.required_code scope f a.host) [] (a.value >>= λ v. checked (required_value f a.host v)) datum
   unfolding row required_value
   computed_by required.Abs a b h = of_does c op.Abs (required_value required.Abs a.host) (λ x. refl) b.value a.value h.value
   computed_by required.Sqr a b h = of_does c op.Sqr (required_value required.Sqr a.host) (λ x. refl) b.value a.value h.value
   computed_by required.Odd a b h = of_does c op.Odd (required_value required.Odd a.host) (λ x. refl) b.value a.value h.value
   computed_by required.Ord a b h = of_does c op.Ord (required_value required.Ord a.host) (λ x. refl) b.value a.value h.value
   computed_by required.Chr a b h = of_does c op.Chr (required_value required.Chr a.host) (λ x. refl) b.value a.value h.value
-  computed_by required.Succ a b h = uncoded required.Succ a b h
-  computed_by required.Pred a b h = uncoded required.Pred a b h
+  computed_by required.Succ a b h = stepped_does op.Succ succeeding (λ x. refl) a.host b.value a.value h.value
+  computed_by required.Pred a b h = stepped_does op.Pred preceding (λ x. refl) a.host b.value a.value h.value
 
   designated_does : (z : Name) (x : Meaning) → scope.meant z ≡ x → (es : List (model.Operand Logged)) (fs : List code.Operand) → EachAlike (OperandDoes c) es fs → OperandDoes c (model.designated Logged on_log scope.meant call c.here x es) (code.designated scope z x fs)
   designated_does z (Called r) is es fs h = called_does c scope within call calls z r is es fs h
@@ -250,7 +275,7 @@ module _ (c : Site) (scope : Scope) (within : IsScope c scope) (call : Call Logg
       required_does f [] [] h = unknown_does _ breaks
       required_does f [] (b ∷ bs) h = absurd h
       required_does f (a ∷ xs) [] h = absurd h
-      required_does f (a ∷ []) (b ∷ []) h = record { value = computed_by f a b h.0; host = ap (λ (g : Host). required_host f g) h.0.host; place = tt }
+      required_does f (a ∷ []) (b ∷ []) h = record { value = subst (λ (g : Host). Does c (b.value ⨾ code.required_code scope f g) [] (a.value >>= λ v. checked (required_value f a.host v)) datum) h.0.host (computed_by f a b h.0); host = ap (λ (g : Host). required_host f g) h.0.host; place = tt }
       required_does f (a ∷ []) (b ∷ (d ∷ bs)) h = absurd h.1
       required_does f (a ∷ (d ∷ xs)) (b ∷ []) h = absurd h.1
       required_does f (a ∷ (d ∷ xs)) (b ∷ (g ∷ bs)) h = unknown_does _ breaks

@@ -21,7 +21,7 @@ use Rattle.estelle_model.specs.declared.denoter.Host.{Host}
 use Rattle.estelle_model.specs.declared.denoter.Host.TheVariants as hosts
 use Rattle.estelle_model.specs.declared.denoter.Denoter.{Denoter, out-Denoter}
 use Rattle.estelle_model.specs.declared.denoter.Denoter.TheOpen.{Denoter-F}
-use Rattle.estelle_model.specs.Types.{shape_of, host_of, item_of, field_of}
+use Rattle.estelle_model.specs.Types.{shape_of, host_of, whole, item_of, field_of}
 use Rattle.estelle_model.specs.declared.meaning.Passing.{Passing}
 use Rattle.estelle_model.specs.declared.meaning.Passing.TheVariants.{ByValue, ByPlace}
 use Rattle.estelle_model.specs.declared.meaning.Routine.{Routine}
@@ -169,17 +169,23 @@ module _ (scope : Scope) where
   valued x (Called r) ss = called x r []
   valued x m ss = of_access (accessed m ss)
 
-  -- `succ` and `pred` need the type of their argument
-  abbrev pub required_code : Required → Piece
-  required_code required.Abs = one op.Abs
-  required_code required.Sqr = one op.Sqr
-  required_code required.Odd = one op.Odd
-  required_code required.Ord = one op.Ord
-  required_code required.Chr = one op.Chr
-  required_code _ = refused
+  -- a value of an enumeration is tested against its type
+  abbrev pub host_test : Host → Piece
+  host_test (hosts.Enumeration last) = by_number (scope.number (shape_of (whole (hosts.Enumeration last)))) (λ n. one (op.Fit n))
+  host_test _ = none
+
+  -- what a required function computes of an argument whose type has this host
+  abbrev pub required_code : Required → Host → Piece
+  required_code required.Abs h = one op.Abs
+  required_code required.Sqr h = one op.Sqr
+  required_code required.Odd h = one op.Odd
+  required_code required.Succ h = one op.Succ ⨾ host_test h
+  required_code required.Pred h = one op.Pred ⨾ host_test h
+  required_code required.Ord h = one op.Ord
+  required_code required.Chr h = one op.Chr
 
   abbrev pub required_of : Required → List Operand → Operand
-  required_of f (e ∷ []) = computed (required_host f e.host) (e.value ⨾ required_code f)
+  required_of f (e ∷ []) = computed (required_host f e.host) (e.value ⨾ required_code f e.host)
   required_of f _ = computed hosts.Integer refused
 
   -- a function designator (ISO 7185, 6.7.3)
