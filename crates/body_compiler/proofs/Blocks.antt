@@ -141,7 +141,7 @@ module _ (s : Subject) (n : Numbers) (units : List CodeUnit) (known : Known) (is
   block_does r made fits all_values nothing state budget = plainly (and_then o (λ done. leave r)) (subst (λ (t : Option Denoter). ComesTo start result_item (and_then (and_then o (λ done. leave r)) (λ v. back t v))) nothing
       (subst (ComesTo start result_item) (sym (leave_back r o)) (unit_does r P made fits all_values (λ F. take (length F - 1) F) (λ F e. ap (λ k. take (k - 1) F) e) (x >>= λ done. result_step r) result_item
       (then_does here (compiled.stmts (within known body r) r.body) (result_code (within known body r) r r.result) [] x (λ done. result_step r) no_item result_item
-      (statements_do known max_depth here placed refl is_code r scope) (λ done none. result_does here placed (within known body r) scope r)) state budget)))
+      (statements_do known max_depth here placed (site_has r P made fits all_values) refl is_code r scope) (λ done none. result_does here placed (within known body r) scope r)) state budget)))
     where
       P : Piece
       P = routine_code known body r

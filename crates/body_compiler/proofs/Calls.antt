@@ -57,6 +57,7 @@ use Rattle.body_compiler.proofs.Acts.{values_taken, acts_do}
 use Rattle.body_compiler.proofs.Statements.{stmts_does}
 use Rattle.body_compiler.proofs.Locals.{slot_is, reference_is, given_is_actual, stack_taken}
 use Rattle.body_compiler.proofs.Units.{IsPlaced, waits, inner_placed, callee, Ended, BodyDoes, enters_do}
+use Rattle.body_compiler.proofs.Temporaries.{HasTemporaries, callee_has}
 
 -- ---- what is known in a unit that is entered
 
@@ -116,7 +117,7 @@ Nested known s n = nested Logged on_log known.meant (Act known s) n
 
 -- the statements of every unit at that depth do what they mean
 abbrev pub StatementsDo : Known → ℕ → Type 0
-StatementsDo known n = (c : Site) → IsPlaced c → c.here.frame + n ≡ max_depth → IsCode c.subject c.numbers c.code known → (r : Routine) → IsScope c (within known c.body r)
+StatementsDo known n = (c : Site) → IsPlaced c → HasTemporaries c → c.here.frame + n ≡ max_depth → IsCode c.subject c.numbers c.code known → (r : Routine) → IsScope c (within known c.body r)
     → Does c (compiled.stmts (within known c.body r) r.body) [] (stmts Logged on_log known.meant (Act known c.subject (Nested known c.subject n)) (call_by (Nested known c.subject n) c.here.path) c.here r.body) no_item
 
 -- and so do those that they call
@@ -142,7 +143,8 @@ module _ (known : Known) (n : ℕ) (deeper : Deeper known n) (c : Site) (placed 
 
       by : (n : ℕ) → Deeper known n → c.here.frame + n ≡ max_depth → BodyDoes c placed known body r unit made path a return at below turned old (Act known c.subject) here before blind n
       by zero deeper deep = tt
-      by (suc m) deeper deep = deeper (callee c placed known body r unit made path a return at below turned old) (inner_placed c body unit path (places_of r.parameters a) return _ _ _ _ old placed) (omega (arith, deep)) is_code r here
+      by (suc m) deeper deep = deeper (callee c placed known body r unit made path a return at below turned old) (inner_placed c body unit path (places_of r.parameters a) return _ _ _ _ old placed)
+          (callee_has c placed known body r unit made path a return at below turned old) (omega (arith, deep)) is_code r here
 
   result_named : (o : Option Value) → AreNamed c (result_item o)
   result_named None = tt
@@ -334,14 +336,14 @@ module _ (known : Known) (n : ℕ) (deeper : Deeper known n) (c : Site) (placed 
       by (Module m) (Body k) = with_types m k (known.parameters k) refl
       by y z = refused_does c [] breaks no_item
 
-  statements_at : (r : Routine) → IsScope c (within known c.body r)
+  statements_at : HasTemporaries c → (r : Routine) → IsScope c (within known c.body r)
       → Does c (compiled.stmts (within known c.body r) r.body) [] (stmts Logged on_log known.meant (Act known c.subject N) (call_by N c.here.path) c.here r.body) no_item
-  statements_at r here = stmts_does c (within known c.body r) here (Act known c.subject N) (call_by N c.here.path) (calls_do c.body r) (acts_do c (within known c.body r) here N (inits_do c.body r here)) r.body
+  statements_at has r here = stmts_does c placed has (within known c.body r) here (Act known c.subject N) (call_by N c.here.path) (calls_do c.body r) (acts_do c (within known c.body r) here N (inits_do c.body r here)) r.body
 
 -- the statements of every unit do what they mean
 pub statements_do : (known : Known) (n : ℕ) → StatementsDo known n
-statements_do known zero c placed deep is_code r here = statements_at known zero tt c placed deep is_code r here
-statements_do known (suc m) c placed deep is_code r here = statements_at known (suc m) (statements_do known m) c placed deep is_code r here
+statements_do known zero c placed has deep is_code r here = statements_at known zero tt c placed deep is_code has r here
+statements_do known (suc m) c placed has deep is_code r here = statements_at known (suc m) (statements_do known m) c placed deep is_code has r here
 
 -- and so do their calls
 pub depth_calls : (known : Known) (n : ℕ) (c : Site) → IsPlaced c → c.here.frame + n ≡ max_depth → IsCode c.subject c.numbers c.code known → (body : ℕ) (r : Routine) → CallsDo c (within known body r) (call_by (Nested known c.subject n) c.here.path)

@@ -1,5 +1,5 @@
 -- What expressions and statements are compiled to, one layer of the tree at a time.
-use Rattle.std.proofs.Common.{List}
+use Rattle.std.proofs.Common.{List, ℤ}
 use Rattle.estelle_tree.proofs.ExpressionFolds as kind
 use Rattle.estelle_tree.proofs.ExpressionFolds.{Kind, Layer}
 use Rattle.estelle_tree.proofs.StatementFolds as statement
@@ -28,7 +28,7 @@ layers scope kind.variable = variable_layer scope
 -- of statements
 abbrev pub StatementResults : statement.Kind → Type 0
 StatementResults statement.stmt = Piece
-StatementResults statement.branch = Piece
+StatementResults statement.branch = List ℤ × Piece
 StatementResults statement.stmts = Piece
 
 abbrev pub statement_layers : Scope → (k : statement.Kind) → statement.Layer k StatementResults → StatementResults k

@@ -257,6 +257,9 @@ module _ (c : Site) where
   pub as_there_does : (p : Piece) (taken : List Item) {A : Type 0} (step other : Step Logged A) (left : A → List Item) → ((r : Running Logged) → outline r.frames ≡ c.counts → step r ≡ other r) → Does p taken step left → Does p taken other left
   as_there_does p taken step other left e h fine at free turned old r below stands low room same = subst (Leads _ _ _ _ _ _ left) (e r same) (h fine at free turned old r below stands low room same)
 
+  pub as_where : (I : ℕ → List Value → Type 0) (p : Piece) (taken : List Item) {A : Type 0} (step other : Step Logged A) (left : A → List Item) → ((r : Running Logged) → step r ≡ other r) → DoesWhere I p taken step left → DoesWhere I p taken other left
+  as_where I p taken step other left e h fine at free turned old r below stands low room same known = subst (Leads _ _ _ _ _ _ left) (e r) (h fine at free turned old r below stands low room same known)
+
   -- no code does nothing
   pub none_does : (taken : List Item) {A : Type 0} (a : A) (left : A → List Item) → left a ≡ taken → AreNamed taken → Does none taken (pure a) left
   none_does taken a left is named fine at free turned old r below stands low room same = subst (λ k. Leads (machine at (taken ++ below) turned (full old r)) k free old r.left below left (Ok (a, r))) (let e : at ≡ at + 0 = omega arith in e) (record {

@@ -59,7 +59,7 @@ use Rattle.body_compiler.specs.ExpressionCode as code
 use Rattle.body_compiler.specs.ExpressionCode.{Scope, by_number}
 use Rattle.body_compiler.proofs.Frames.{IsNamed}
 use Rattle.body_compiler.proofs.Does.{Site, machine, full, Does, then_does, under_does, as_does, none_does}
-use Rattle.body_compiler.proofs.Single.{datum, spot, result, leaves_does, value_does, unary_does, push_does, of_does, above_does, both_does, load_does}
+use Rattle.body_compiler.proofs.Single.{datum, spot, int_item, ord_does, result, leaves_does, value_does, unary_does, push_does, of_does, above_does, both_does, load_does}
 use Rattle.body_compiler.proofs.Control.{fork_does}
 use Rattle.body_compiler.proofs.CodeFolds.{Results, layers}
 use Rattle.body_compiler.proofs.Operands.{OperandDoes, AccessDoes, SelectingDoes, WrittenDoes, refused_does, computed_does, by_number_does, IsScope, local_does, same_then, bind_regrouped}
@@ -115,18 +115,6 @@ module _ (c : Site) (scope : Scope) (within : IsScope c scope) (call : Call Logg
   unfolding row
   field_does k p named = leaves_does c (op.Field k) (spot p) (Spot (deeper p k)) (deeper p k) spot refl (named_deeper k p named, tt) (λ at turned old r below. refl)
 
-  -- the ordinal of a value, as an integer
-  abbrev int_item : ℤ → List Item
-  int_item i = Datum (pascal.Int i) ∷ []
-
-  ord_does : (v : Value) → Does c (one op.Ord) (datum v) (checked (ordinal_of v)) int_item
-  unfolding row required_value
-  ord_does v = value_does c op.Ord (datum v) (λ r. ordinal_of v) int_item (λ r i is. tt) (λ at turned old r below same. by at turned old r below (ordinal_of v))
-    where
-      by : (at : ℕ) (turned : Bool) (old : List Value) (r : Running Logged) (below : List Item) (o : Result ℤ Stop) → goes_on (gives (o >>> λ i. Ok (pascal.Int i)) (full c old r)) below (machine c at (Datum v ∷ below) turned (full c old r)) ≡ goes_on (and_then (checked_at o (full c old r)) (λ i. pure (int_item i))) below (machine c at (Datum v ∷ below) turned (full c old r))
-      by at turned old r below (Ok i) = refl
-      by at turned old r below (Err e) = refl
-
   index_instr : (low high i : ℤ) (p : Place) → IsNamed c.counts p → Does c (one (op.Index low high)) (Datum (pascal.Int i) ∷ spot p) (checked (stopping (place_of low high i)) >>= λ k. pure (deeper p k)) spot
   unfolding row
   index_instr low high i p named = as_does c (one (op.Index low high)) (Datum (pascal.Int i) ∷ spot p) (λ r. checked_at placed r) (checked (stopping (place_of low high i)) >>= λ k. pure (deeper p k)) spot (λ r. by r (stopping (place_of low high i)))
@@ -163,7 +151,7 @@ module _ (c : Site) (scope : Scope) (within : IsScope c scope) (call : Call Logg
     place = subst (λ (d : Denoter). Does c (b.place ⨾ (f.value ⨾ one op.Ord) ⨾ code.item_code (out-Denoter d)) [] (index_step Logged on_log scope.meant call c.here a e) spot) h.denoter
         (then_does c b.place ((f.value ⨾ one op.Ord) ⨾ code.item_code (out-Denoter a.denoter)) [] a.place (λ p. ordinal_step e.value >>= λ i. checked (item_place a.denoter i) >>= λ j. pure (deeper p j)) spot spot h.place
         (λ p named. then_does c (f.value ⨾ one op.Ord) (code.item_code (out-Denoter a.denoter)) (spot p) (ordinal_step e.value) (λ i. checked (item_place a.denoter i) >>= λ j. pure (deeper p j)) (λ i. Datum (pascal.Int i) ∷ spot p) spot
-        (under_does c (f.value ⨾ one op.Ord) [] (spot p) (ordinal_step e.value) int_item named (then_does c f.value (one op.Ord) [] e.value (λ v. checked (ordinal_of v)) datum int_item k.value (λ v none. ord_does v)))
+        (under_does c (f.value ⨾ one op.Ord) [] (spot p) (ordinal_step e.value) int_item named (then_does c f.value (one op.Ord) [] e.value (λ v. checked (ordinal_of v)) datum int_item k.value (λ v none. ord_does c v)))
         (λ i inside. item_does (out-Denoter a.denoter) i p named.0)));
   }
 
@@ -369,7 +357,7 @@ module _ (c : Site) (scope : Scope) (within : IsScope c scope) (call : Call Logg
   member_does a b None (Some g) h k = absurd k
   member_does a b (Some f) None h k = absurd k
   member_does a b (Some f) (Some g) h k = then_does c (b.value ⨾ one op.Ord) (g.value ⨾ one op.Span) [] (ordinal_step a.value) (λ i. ordinal_step f.value >>= λ j. checked (members_from i j)) int_item set_item
-      (then_does c b.value (one op.Ord) [] a.value (λ v. checked (ordinal_of v)) datum int_item h.value (λ v named. ord_does v))
+      (then_does c b.value (one op.Ord) [] a.value (λ v. checked (ordinal_of v)) datum int_item h.value (λ v named. ord_does c v))
       (λ i named. as_does c (g.value ⨾ one op.Span) (int_item i) (f.value >>= λ w. checked (ordinal_of w >>> members_from i)) (ordinal_step f.value >>= λ j. checked (members_from i j)) set_item
       (λ r. same_then (f.value r) (λ w. checked (ordinal_of w >>> members_from i)) (λ w. checked (ordinal_of w) >>= λ j. checked (members_from i j)) (span_step i) ∙ bind_regrouped f.value (λ w. checked (ordinal_of w)) (λ j. checked (members_from i j)) r)
       (then_does c g.value (one op.Span) (int_item i) f.value (λ w. checked (ordinal_of w >>> members_from i)) (λ w. Datum w ∷ int_item i) set_item (above_does c g.value f.value (int_item i) tt k.value) (λ w named. span_does i w)))

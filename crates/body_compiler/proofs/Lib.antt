@@ -9,9 +9,10 @@ pub mod Blind
 pub mod PlanCode
 pub mod Acts
 pub mod Expressions
-pub mod Statements
 pub mod Locals
 pub mod Units
 pub mod Temporaries
+pub mod Cases
+pub mod Statements
 pub mod Calls
 pub mod Blocks

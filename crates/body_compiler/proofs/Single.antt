@@ -1,14 +1,16 @@
 -- What single instructions do: places, loads and stores, and what is computed of values.
-use Rattle.std.proofs.Common.{◌≡◌, ◌∙◌, refl, sym, ap, subst, ℕ, suc, Bool, true, false, cond, List, [], ◌∷◌, ◌++◌, Result, Ok, Err, Option, Some, None, arith}
+use Rattle.std.proofs.Common.{◌≡◌, ◌∙◌, refl, sym, ap, subst, ℕ, suc, Bool, true, false, cond, List, [], ◌∷◌, ◌++◌, ℤ, Result, Ok, Err, Option, Some, None, arith}
 use Rattle.std.specs.FinMap as map
 use Rattle.pascal_values.specs.declared.value.Value.{Value}
+use Rattle.pascal_values.specs.declared.value.Value.TheVariants as pascal
 use Rattle.body_code.specs.declared.instr.Instr.{Instr}
 use Rattle.body_code.specs.declared.instr.Instr.TheVariants as op
 use Rattle.estelle_model.specs.Core.{Instance}
 use Rattle.estelle_model.specs.Effects.{Store}
 use Rattle.estelle_model.specs.Belonging.{may_store}
 use Rattle.estelle_model.specs.declared.denoter.Denoter.{Denoter}
-use Rattle.estelle_model.specs.Types.{shape_of, assignable}
+use Rattle.estelle_model.specs.Types.{ordinal_of, shape_of, assignable}
+use Rattle.estelle_model.specs.Operators.{◌>>>◌, required_value}
 use Rattle.estelle_model.specs.Stops.{Stop, Broken, stopping}
 use Rattle.estelle_model.specs.States.{Logged, on_log}
 use Rattle.estelle_model.specs.Steps.{Running, StepResult, Step, Do, and_then, ◌>>=◌, ◌>>◌, pure, checked, checked_at}
@@ -32,6 +34,10 @@ datum v = Datum v ∷ []
 
 abbrev pub spot : Place → List Item
 spot p = Spot p ∷ []
+
+-- an ordinal, as an integer
+abbrev pub int_item : ℤ → List Item
+int_item i = Datum (pascal.Int i) ∷ []
 
 abbrev pub no_item : Unit {0} → List Item
 no_item done = []
@@ -85,6 +91,15 @@ module _ (c : Site) where
   pub binary_does : (i : Instr) (f : Value → Value → Result Value Stop) → ((a : Activation) → row c.subject c.numbers a i ≡ OfValues (λ v w. gives (f v w))) → (v w : Value) → D (one i) (Datum w ∷ (Datum v ∷ [])) (checked (f v w)) datum
   binary_does i f is v w = value_does i (Datum w ∷ (Datum v ∷ [])) (λ r. f v w) datum (λ r x is. tt)
       (λ at turned old r below same. ap (λ x. by_row c.subject c.numbers c.code x (Datum w ∷ (Datum v ∷ below)) (M at (Datum w ∷ (Datum v ∷ below)) turned (F old r))) (is (M at (Datum w ∷ (Datum v ∷ below)) turned (F old r)).active))
+
+  -- the ordinal of a value, as an integer
+  pub ord_does : (v : Value) → D (one op.Ord) (datum v) (checked (ordinal_of v)) int_item
+  unfolding row required_value
+  ord_does v = value_does op.Ord (datum v) (λ r. ordinal_of v) int_item (λ r i is. tt) (λ at turned old r below same. by at turned old r below (ordinal_of v))
+    where
+      by : (at : ℕ) (turned : Bool) (old : List Value) (r : Running Logged) (below : List Item) (o : Result ℤ Stop) → goes_on (gives (o >>> λ i. Ok (pascal.Int i)) (F old r)) below (M at (Datum v ∷ below) turned (F old r)) ≡ goes_on (and_then (checked_at o (F old r)) (λ i. pure (int_item i))) below (M at (Datum v ∷ below) turned (F old r))
+      by at turned old r below (Ok i) = refl
+      by at turned old r below (Err e) = refl
 
   -- a value, and what is computed of it
   pub of_does : (i : Instr) (f : Value → Result Value Stop) → ((a : Activation) → row c.subject c.numbers a i ≡ OfValue (λ v. gives (f v))) → (p : Piece) (x : Step Logged Value) → D p [] x datum → D (p ⨾ one i) [] (x >>= λ v. checked (f v)) datum

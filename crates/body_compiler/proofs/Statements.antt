@@ -1,7 +1,8 @@
 -- What a statement is compiled to does what the statement means.
-use Rattle.std.proofs.Common.{◌≡◌, refl, subst, List, [], ◌∷◌, Option, Some, None}
+use Rattle.std.proofs.Common.{◌≡◌, refl, subst, List, [], ◌∷◌, ℤ, Option, Some, None}
 use Rattle.pascal_values.specs.declared.value.Value.{Value}
 use Rattle.estelle_tree.specs.declared.tree.name.Name.{Name}
+use Rattle.estelle_tree.specs.declared.tree.type_expr.Const.{Const}
 use Rattle.estelle_tree.specs.declared.tree.expression.Expr.{Expr}
 use Rattle.estelle_tree.specs.declared.tree.expression.Args.{Args}
 use Rattle.estelle_tree.specs.declared.tree.expression.Variable.{Variable}
@@ -24,7 +25,7 @@ use Rattle.estelle_model.specs.Places.{store}
 use Rattle.estelle_model.specs.Expressions as model
 use Rattle.estelle_model.specs.Expressions.{Call, target}
 use Rattle.estelle_model.specs.Statements as meaning
-use Rattle.estelle_model.specs.Statements.{Acts, Init, Release, Connect, Disconnect, Attach, Detach, Output, assign, choose, invoke}
+use Rattle.estelle_model.specs.Statements.{Acts, Init, Release, Connect, Disconnect, Attach, Detach, Output, assign, choose, invoke, select}
 use Rattle.estelle_model.proofs.Alike.{EachAlike, MaybeAlike, each_related}
 use Rattle.estelle_model.proofs.StatementEquations as meant
 use Rattle.body_machine.specs.declared.item.Item.TheVariants.{Datum}
@@ -40,9 +41,12 @@ use Rattle.body_compiler.proofs.CodeFolds.{StatementResults, statement_layers}
 use Rattle.body_compiler.proofs.Operands.{IsScope, AccessDoes, OperandDoes, refused_does, by_number_does, local_does}
 use Rattle.body_compiler.proofs.Arguments.{CallsDo, invoked_does}
 use Rattle.body_compiler.proofs.Acts.{ActsDo}
+use Rattle.body_compiler.proofs.Units.{IsPlaced}
+use Rattle.body_compiler.proofs.Temporaries.{HasTemporaries}
+use Rattle.body_compiler.proofs.Cases.{BranchDoes, select_does}
 use Rattle.body_compiler.proofs.Expressions.{accessed_does, decided_does, expr_does, args_do, variable_written}
 
-module _ (c : Site) (scope : Scope) (within : IsScope c scope) (act : Acts Logged) (call : Call Logged) (calls : CallsDo c scope call) (acts : ActsDo c scope act) where
+module _ (c : Site) (placed : IsPlaced c) (has : HasTemporaries c) (scope : Scope) (within : IsScope c scope) (act : Acts Logged) (call : Call Logged) (calls : CallsDo c scope call) (acts : ActsDo c scope act) where
   -- code of a statement
   abbrev pub StatementDoes : Do Logged → Piece → Type 0
   StatementDoes x p = Does c p [] x no_item
@@ -103,11 +107,15 @@ module _ (c : Site) (scope : Scope) (within : IsScope c scope) (act : Acts Logge
   unfolding invoke
   called x es = invoke_does x (scope.meant x) refl es
 
+  selected : (e : Expr) (xs : List (List Const × Do Logged)) (ys : List (List ℤ × Piece)) → EachAlike (BranchDoes c scope) xs ys → StatementDoes (select Logged on_log scope.meant act call c.here e xs) (compiled.select scope e ys)
+  unfolding select
+  selected e xs ys h = select_does c placed has scope within (meaning.value_of_expr Logged on_log scope.meant act call c.here e) (compiled.value_of_expr scope e) (expr_does c scope within call calls e).value xs ys h
+
   -- ---- trees
 
   abbrev NodeDoes : (k : Kind) → meant.Results Logged k → StatementResults k → Type 0
   NodeDoes kind.stmt = StatementDoes
-  NodeDoes kind.branch = λ x p. Unit {0}
+  NodeDoes kind.branch = BranchDoes c scope
   NodeDoes kind.stmts = StatementDoes
 
   keeps : (k : Kind) (l : Layer k (Pairs statements (meant.Results Logged) StatementResults (meant.layers Logged on_log scope.meant act call c.here) (statement_layers scope) NodeDoes)) → KeepsAt statements (meant.Results Logged) StatementResults (meant.layers Logged on_log scope.meant act call c.here) (statement_layers scope) NodeDoes k l
@@ -127,8 +135,9 @@ module _ (c : Site) (scope : Scope) (within : IsScope c scope) (act : Acts Logge
   keeps kind.stmt (Stmt-F.Attach p x q span) = acts (Attach p x q) [] [] tt
   keeps kind.stmt (Stmt-F.Detach p span) = acts (Detach p) [] [] tt
   keeps kind.stmt (Stmt-F.Output p n es span) = acts (Output p n) _ _ (arguments_does es)
+  keeps kind.stmt (Stmt-F.Case e cases semicolon span) = selected e _ _ (each_related (BranchDoes c scope) cases)
   keeps kind.stmt _ = refused_does c [] _ no_item
-  keeps kind.branch l = tt
+  keeps kind.branch l = (refl, l.body.holds)
   keeps kind.stmts l = all_does _ _ (each_related StatementDoes l.stmts)
 
   pub stmts_does : (x : Stmts) → StatementDoes (meaning.stmts Logged on_log scope.meant act call c.here x) (compiled.stmts scope x)

@@ -1,4 +1,4 @@
--- Temporaries of a unit: how they are read and set, which `for` and `case` will need.
+-- Temporaries of a unit: how they are read and set.
 use Rattle.std.proofs.Common.{◌≡◌, ◌∙◌, refl, sym, ap, subst, ℕ, zero, suc, ◌+◌, ◌-◌, ◌≤◌, ◌<◌, Bool, List, [], ◌∷◌, ◌++◌, length, map, length-append, Result, Ok, Err, Some, arith}
 use Rattle.std.specs.Prelude.{IsTrue, slice_get, slice_set}
 use Rattle.pascal_values.specs.declared.value.Value.{Value}

@@ -1,6 +1,9 @@
 -- What statements are compiled to.
-use Rattle.std.specs.Prelude.{ℕ, List, [], ◌∷◌, length, map, option_map, Option, Some, None}
+use Rattle.std.specs.Prelude.{ℕ, true, false, List, [], ◌∷◌, length, map, option_map, Option, Some, None, ℤ, Result, Ok, Err}
+use Rattle.pascal_values.specs.declared.fault.Fault.TheVariants as fault
+use Rattle.pascal_values.specs.declared.value.Value.TheVariants as pascal
 use Rattle.estelle_tree.specs.declared.tree.name.Name.{Name}
+use Rattle.estelle_tree.specs.declared.tree.type_expr.Const.{Const}
 use Rattle.estelle_tree.specs.declared.tree.expression.Expr.{Expr}
 use Rattle.estelle_tree.specs.declared.tree.expression.Args.{Args}
 use Rattle.estelle_tree.specs.declared.tree.expression.Variable.{Variable}
@@ -13,16 +16,46 @@ use Rattle.body_code.specs.declared.instr.Ends as ends
 use Rattle.body_code.specs.declared.instr.Ends.TheVariants.{Point, Child}
 use Rattle.body_code.specs.declared.instr.Instr.TheVariants as op
 use Rattle.estelle_model.specs.declared.denoter.Denoter.{Denoter}
-use Rattle.estelle_model.specs.Types.{shape_of}
+use Rattle.estelle_model.specs.declared.denoter.Host.TheVariants as hosts
+use Rattle.estelle_model.specs.Stops.{Stop}
+use Rattle.estelle_model.specs.Types.{ordinal_of, shape_of, whole}
+use Rattle.estelle_model.specs.Operators.{◌>>>◌}
+use Rattle.estelle_model.specs.Constants.{constant_of}
 use Rattle.estelle_model.specs.declared.meaning.Routine.{Routine}
 use Rattle.estelle_model.specs.declared.meaning.Meaning.{Meaning}
 use Rattle.estelle_model.specs.declared.meaning.Meaning.TheVariants.{Called, Ip, Module, Body}
 use Rattle.estelle_model.specs.declared.meaning.Passing.TheVariants.{ByValue}
 use Rattle.estelle_model.specs.Definitions.{types_received}
 use Rattle.estelle_model.specs.Statements.{Statement, Init, Release, Connect, Disconnect, Attach, Detach, Output}
-use Rattle.estelle_model.specs.Meant.{result_number}
-use Rattle.body_compiler.specs.Pieces.{Piece, none, refused, one, ◌⨾◌, fork, loop, repeat}
+use Rattle.estelle_model.specs.Meant.{Meanings, result_number}
+use Rattle.body_compiler.specs.Pieces.{Piece, none, refused, one, ◌⨾◌, fork, loop, repeat, keep, recall}
 use Rattle.body_compiler.specs.ExpressionCode.{by_number, Scope, Access, Operand, Selecting, expr, args, variable, accessed, give_all, call}
+
+-- ---- `case`
+
+abbrev pub with_ordinal : Result ℤ Stop → List ℤ → List ℤ
+with_ordinal (Ok m) ms = m ∷ ms
+with_ordinal (Err e) ms = ms
+
+-- the ordinals of labels
+abbrev pub ordinals_of : Meanings → List Const → List ℤ
+ordinals_of meant [] = []
+ordinals_of meant (c ∷ cs) = with_ordinal (constant_of meant c >>> ordinal_of) (ordinals_of meant cs)
+
+-- whether a temporary holds this integer
+abbrev pub is_one : ℕ → ℤ → Piece
+is_one t m = recall t ⨾ one (op.Push (pascal.Int m)) ⨾ one op.Eq
+
+-- or one of these
+abbrev pub is_one_of : ℕ → List ℤ → Piece
+is_one_of t [] = one (op.Push (pascal.Bool false))
+is_one_of t (m ∷ []) = is_one t m
+is_one_of t (m ∷ (k ∷ ms)) = is_one t m ⨾ fork (one (op.Push (pascal.Bool true))) (is_one_of t (k ∷ ms))
+
+-- the statement of the first case with the label that the temporary holds
+abbrev pub first_of : ℕ → List (List ℤ × Piece) → Piece
+first_of t [] = one (op.Fail fault.NoCase)
+first_of t (c ∷ cs) = is_one_of t c.0 ⨾ fork c.1 (first_of t cs)
 
 module _ (scope : Scope) where
   -- stores by the number of the type's shape
@@ -55,6 +88,10 @@ module _ (scope : Scope) where
 
   abbrev pub choose : Expr → Piece → Option Piece → Piece
   choose test then_part else_part = value_of_expr test ⨾ fork then_part (or_nothing else_part)
+
+  -- the ordinal of the selector, which is an integer, is kept
+  abbrev pub select : Expr → List (List ℤ × Piece) → Piece
+  select e cases = by_number (scope.number (shape_of (whole hosts.Integer))) (λ n. keep (shape_of (whole hosts.Integer)) n (value_of_expr e ⨾ one op.Ord) (λ t. first_of t cases))
 
   -- a procedure alone leaves nothing
   abbrev pub where_no_result : Option Denoter → Piece → Piece
@@ -139,7 +176,7 @@ module _ (scope : Scope) where
   act (Init x b) es = init (scope.meant x) (scope.meant b) es
   act st es = give_all scope (map ByValue (given_types st)) es ⨾ plan st
 
-  abbrev pub stmt_layer : Stmt-F Piece Piece Piece → Piece
+  abbrev pub stmt_layer : Stmt-F Piece (List ℤ × Piece) Piece → Piece
   stmt_layer Stmt-F.Empty = none
   stmt_layer (Stmt-F.Assign v e span) = assign_to (target v) (expr scope e)
   stmt_layer (Stmt-F.Call x es span) = invoke_of x (scope.meant x) (arguments es)
@@ -147,6 +184,7 @@ module _ (scope : Scope) where
   stmt_layer (Stmt-F.If test then_part else_part span) = choose test then_part else_part
   stmt_layer (Stmt-F.While test body span) = loop (value_of_expr test) body
   stmt_layer (Stmt-F.Repeat body test span) = repeat (body ⨾ value_of_expr test)
+  stmt_layer (Stmt-F.Case e cases semicolon span) = select e cases
   stmt_layer (Stmt-F.Init x b es span) = act (Init x b) (arguments es)
   stmt_layer (Stmt-F.Release x span) = act (Release x) []
   stmt_layer (Stmt-F.Connect a b span) = act (Connect a b) []
@@ -156,15 +194,15 @@ module _ (scope : Scope) where
   stmt_layer (Stmt-F.Output p m es span) = act (Output p m) (arguments es)
   stmt_layer _ = refused
 
-  abbrev pub case_layer : Case-F Piece Piece Piece → Piece
-  case_layer c = refused
+  abbrev pub case_layer : Case-F Piece (List ℤ × Piece) Piece → List ℤ × Piece
+  case_layer c = (ordinals_of scope.meant c.labels, c.body)
 
   abbrev pub all : List Piece → Piece
   all [] = none
   all (p ∷ ps) = p ⨾ all ps
 
-  abbrev pub stmts_layer : Stmts-F Piece Piece Piece → Piece
+  abbrev pub stmts_layer : Stmts-F Piece (List ℤ × Piece) Piece → Piece
   stmts_layer x = all x.stmts
 
   unfoldable pub stmts : Stmts → Piece
-  stmts = fold-Stmts Piece Piece Piece stmt_layer case_layer stmts_layer
+  stmts = fold-Stmts Piece (List ℤ × Piece) Piece stmt_layer case_layer stmts_layer
