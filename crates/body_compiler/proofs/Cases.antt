@@ -1,6 +1,5 @@
 -- What `case` is compiled to does what it means.
-use Rattle.std.proofs.Common.{◌≡◌, ◌∙◌, refl, sym, ap, ap₂, ℕ, ◌+◌, ◌<◌, Bool, true, false, cond, List, [], ◌∷◌, ◌++◌, ℤ, Result, Ok, Err, Some, arith}
-use Rattle.std.proofs.lemmas.Int.{ints}
+use Rattle.std.proofs.Common.{◌≡◌, ◌∙◌, refl, sym, ap, ap₂, ℕ, ◌+◌, ◌<◌, Bool, true, false, cond, List, [], ◌∷◌, ◌++◌, ℤ, Result, Ok, Err, Some}
 use Rattle.std.specs.Prelude.{◌&&◌, ◌||◌, int_lt, int_le}
 use Rattle.std.specs.Ordering.{is_eq, int_cmp}
 use Rattle.std.specs.declared.cmp.Ordering.TheVariants.{Less, Equal, Greater}
@@ -41,15 +40,10 @@ use Rattle.body_compiler.proofs.Single.{datum, int_item, no_item, push_does, ord
 use Rattle.body_compiler.proofs.Control.{fork_where}
 use Rattle.body_compiler.proofs.Operands.{IsScope, by_number_does}
 use Rattle.body_compiler.proofs.Units.{IsPlaced}
+use Rattle.body_compiler.proofs.Ordinals.{above, not_above}
 use Rattle.body_compiler.proofs.Temporaries.{HasTemporaries, Holds, holds_stable, recall_does, keep_does}
 
 -- ---- integers
-
-not_above : (n m : ℤ) → int_lt m n ≡ false → int_le n m ≡ true
-not_above n m h = grind (arith, ints)
-
-above : (n m : ℤ) → int_lt m n ≡ true → int_le n m ≡ false
-above n m h = grind (arith, ints)
 
 -- two are equal where each is at most the other
 same_integers : (n m : ℤ) → is_eq (int_cmp n m) ≡ is_between n n m

@@ -187,9 +187,9 @@ module _ (c : Site) where
       (λ a named. anywhere (λ k own. Unit {0}) q (left a) (more a) end (hq a named)) fine at free turned old r below stands low room same tt
 
   -- items that are below the code's own stay
-  pub under_does : (p : Piece) (taken more : List Item) {A : Type 0} (step : Step Logged A) (left : A → List Item) → AreNamed more → Does p taken step left → Does p (taken ++ more) step (λ a. left a ++ more)
-  under_does p taken more {A} step left named h fine at free turned old r below stands low room same =
-      by (step r) (subst (λ items. Leads (machine at items turned (full old r)) (at + length (p.code free at)) free old r.left (more ++ below) left (step r)) (sym (append_assoc taken more below)) (h fine at free turned old r (more ++ below) stands low room same))
+  pub under_where : (I : ℕ → List Value → Type 0) (p : Piece) (taken more : List Item) {A : Type 0} (step : Step Logged A) (left : A → List Item) → AreNamed more → DoesWhere I p taken step left → DoesWhere I p (taken ++ more) step (λ a. left a ++ more)
+  under_where I p taken more {A} step left named h fine at free turned old r below stands low room same known =
+      by (step r) (subst (λ items. Leads (machine at items turned (full old r)) (at + length (p.code free at)) free old r.left (more ++ below) left (step r)) (sym (append_assoc taken more below)) (h fine at free turned old r (more ++ below) stands low room same known))
     where
       all_named : (xs ys : List Item) → AreNamed xs → AreNamed ys → AreNamed (xs ++ ys)
       all_named [] ys h k = k
@@ -209,6 +209,10 @@ module _ (c : Site) where
         fewer = h.fewer;
         named = all_named (left x.0) more h.named named;
       }
+
+  pub under_does : (p : Piece) (taken more : List Item) {A : Type 0} (step : Step Logged A) (left : A → List Item) → AreNamed more → Does p taken step left → Does p (taken ++ more) step (λ a. left a ++ more)
+  under_does p taken more step left named h fine at free turned old r below stands low room same =
+      under_where (λ k own. Unit {0}) p taken more step left named (anywhere (λ k own. Unit {0}) p taken step left h) fine at free turned old r below stands low room same tt
 
   -- ---- one instruction
 

@@ -68,7 +68,7 @@ use Rattle.body_compiler.proofs.Arguments.{CallsDo, fit_does, called_does}
 module _ (c : Site) (scope : Scope) (within : IsScope c scope) (call : Call Logged) (calls : CallsDo c scope call) where
   -- ---- places
 
-  own_does : (k : ℕ) → Does c (one (op.Var k)) [] (pure (Of c.here.path k [])) spot
+  pub own_does : (k : ℕ) → Does c (one (op.Var k)) [] (pure (Of c.here.path k [])) spot
   unfolding row
   own_does k = leaves_does c (op.Var k) [] (Spot (Of c.here.path k [])) (Of c.here.path k []) spot refl (tt, tt) (λ at turned old r below. refl)
 

@@ -12,6 +12,9 @@ pub mod Expressions
 pub mod Locals
 pub mod Units
 pub mod Temporaries
+pub mod Ordinals
+pub mod Counting
+pub mod Fors
 pub mod Cases
 pub mod Statements
 pub mod Calls

@@ -16,7 +16,7 @@ use Rattle.estelle_model.specs.States.{Logged, on_log}
 use Rattle.estelle_model.specs.Steps.{Running, StepResult, Step, Do, and_then, ◌>>=◌, ◌>>◌, pure, checked, checked_at}
 use Rattle.estelle_model.specs.declared.place.Place.{Place}
 use Rattle.estelle_model.specs.declared.place.Place.TheVariants.{Of, In}
-use Rattle.estelle_model.specs.Places.{known, held, load, put_in_instance, put, store}
+use Rattle.estelle_model.specs.Places.{known, held, load, put_in_instance, put, store, blanked, blank_there, blank_at}
 use Rattle.estelle_model.specs.Expressions.{both}
 use Rattle.body_machine.specs.declared.item.Item.{Item}
 use Rattle.body_machine.specs.declared.item.Item.TheVariants.{Datum, Spot}
@@ -123,29 +123,29 @@ module _ (c : Site) where
       (held_joined p (c.callers ++ old ∷ []) r (subst (λ ns. IsNamed ns p) (sym same) named)))
 
   -- what is put at a place
-  put_does : (p : Place) (v : Value) (i : Instr) (at : ℕ) (turned : Bool) (old : List Value) (r : Running Logged) (below : List Item) → outline r.frames ≡ c.counts → IsNamed c.counts p
-      → result i (Datum v ∷ (Spot p ∷ below)) at turned old r ≡ goes_on (and_then (put Logged on_log p v (F old r)) (λ done. pure [])) below (M at (Datum v ∷ (Spot p ∷ below)) turned (F old r))
-      → Does1 c i (Datum v ∷ spot p) no_item at turned old r below (put Logged on_log p v r)
+  put_does : (p : Place) (v : Value) (i : Instr) (taken : List Item) (at : ℕ) (turned : Bool) (old : List Value) (r : Running Logged) (below : List Item) → outline r.frames ≡ c.counts → IsNamed c.counts p
+      → result i (taken ++ below) at turned old r ≡ goes_on (and_then (put Logged on_log p v (F old r)) (λ done. pure [])) below (M at (taken ++ below) turned (F old r))
+      → Does1 c i taken no_item at turned old r below (put Logged on_log p v r)
   unfolding put
-  put_does (In f x way) v i at turned old r below same named h = (
+  put_does (In f x way) v i taken at turned old r below same named h = (
     h ∙ ap (λ frames. Goes (M (suc at) below turned (record r { frames = frames }))) (put_joined f x way v (c.callers ++ old ∷ []) r.frames (subst (λ ns. IsNamed ns (In f x way)) (sym same) named)),
     outline_kept f x way v r.frames (subst (λ ns. IsNamed ns (In f x way)) (sym same) named) ∙ same,
     omega arith,
     tt,
   )
-  put_does (Of p x way) v i at turned old r below same named h = by (map.get r.state.image.instances p) h
+  put_does (Of p x way) v i taken at turned old r below same named h = by (map.get r.state.image.instances p) h
     where
       -- where the value may be stored
       chosen : Bool → Running Logged → StepResult Logged (Unit {0})
       chosen b q = cond b (Ok (tt, record q { state = on_log.keeps p (Store x way v) q.state })) (Err (Broken, q.left))
 
-      there : (b : Bool) → result i (Datum v ∷ (Spot (Of p x way) ∷ below)) at turned old r ≡ goes_on (and_then (chosen b (F old r)) (λ done. pure [])) below (M at (Datum v ∷ (Spot (Of p x way) ∷ below)) turned (F old r))
-          → Does1 c i (Datum v ∷ spot (Of p x way)) no_item at turned old r below (chosen b r)
+      there : (b : Bool) → result i (taken ++ below) at turned old r ≡ goes_on (and_then (chosen b (F old r)) (λ done. pure [])) below (M at (taken ++ below) turned (F old r))
+          → Does1 c i taken no_item at turned old r below (chosen b r)
       there true h = (h, same, omega arith, tt)
       there false h = h
 
-      by : (o : Option Instance) → result i (Datum v ∷ (Spot (Of p x way) ∷ below)) at turned old r ≡ goes_on (and_then (put_in_instance Logged on_log o p x way v (F old r)) (λ done. pure [])) below (M at (Datum v ∷ (Spot (Of p x way) ∷ below)) turned (F old r))
-          → Does1 c i (Datum v ∷ spot (Of p x way)) no_item at turned old r below (put_in_instance Logged on_log o p x way v r)
+      by : (o : Option Instance) → result i (taken ++ below) at turned old r ≡ goes_on (and_then (put_in_instance Logged on_log o p x way v (F old r)) (λ done. pure [])) below (M at (taken ++ below) turned (F old r))
+          → Does1 c i taken no_item at turned old r below (put_in_instance Logged on_log o p x way v r)
       by None h = h
       by (Some instance) h = there (may_store (r.state.image.types instance.body) x way v) h
 
@@ -165,4 +165,18 @@ module _ (c : Site) where
           → Does1 c (op.Store k) (Datum v ∷ spot p) no_item at turned old r below (tested g o r)
       by at turned old r below same (Err e) o h = h
       by at turned old r below same (Ok there) (Err e) h = h
-      by at turned old r below same (Ok there) (Ok done) h = put_does p v (op.Store k) at turned old r below same named h
+      by at turned old r below same (Ok there) (Ok done) h = put_does p v (op.Store k) (Datum v ∷ spot p) at turned old r below same named h
+
+  -- what stands at a place is made unset
+  pub blank_does : (p : Place) → IsNamed c.counts p → D (one op.Blank) (spot p) (blank_at Logged on_log p) no_item
+  unfolding blank_at row
+  blank_does p named = instr_does c op.Blank (spot p) (blank_at Logged on_log p) no_item
+      (λ at turned old r below same. by at turned old r below same (held Logged on_log p r)
+      (ap (λ g. goes_on (nothing (checked g >>= blank_there Logged on_log p) (F old r)) below (M at (Spot p ∷ below) turned (F old r))) (held_joined p (c.callers ++ old ∷ []) r (subst (λ ns. IsNamed ns p) (sym same) named))))
+    where
+      by : (at : ℕ) (turned : Bool) (old : List Value) (r : Running Logged) (below : List Item) → outline r.frames ≡ c.counts → (g : Result (Option Value) Stop)
+          → result op.Blank (Spot p ∷ below) at turned old r ≡ goes_on (nothing (checked g >>= blank_there Logged on_log p) (F old r)) below (M at (Spot p ∷ below) turned (F old r))
+          → Does1 c op.Blank (spot p) no_item at turned old r below ((checked g >>= blank_there Logged on_log p) r)
+      by at turned old r below same (Err e) h = h
+      by at turned old r below same (Ok None) h = h
+      by at turned old r below same (Ok (Some v)) h = put_does p (blanked v) op.Blank (spot p) at turned old r below same named h

@@ -6,6 +6,7 @@ use Rattle.estelle_tree.specs.declared.tree.type_expr.Const.{Const}
 use Rattle.estelle_tree.specs.declared.tree.expression.Expr.{Expr}
 use Rattle.estelle_tree.specs.declared.tree.expression.Args.{Args}
 use Rattle.estelle_tree.specs.declared.tree.expression.Variable.{Variable}
+use Rattle.estelle_tree.specs.declared.tree.statement.Direction.{Direction}
 use Rattle.estelle_tree.specs.declared.tree.statement.Stmts.{Stmts}
 use Rattle.estelle_tree.specs.declared.tree.statement.Stmt.TheOpen.{Stmt-F}
 use Rattle.estelle_tree.proofs.Folds.{Pairs, KeepsAt, folds_related}
@@ -18,20 +19,21 @@ use Rattle.estelle_model.specs.States.{Logged, on_log}
 use Rattle.estelle_model.specs.Steps.{Step, Do, ◌>>=◌, breaks, all}
 use Rattle.estelle_model.specs.declared.meaning.Routine.{Routine}
 use Rattle.estelle_model.specs.declared.meaning.Meaning.{Meaning}
-use Rattle.estelle_model.specs.declared.meaning.Meaning.TheVariants.{Called}
+use Rattle.estelle_model.specs.declared.meaning.Meaning.TheVariants.{Called, Own, Exported, Local}
 use Rattle.estelle_model.specs.Meant.{result_number}
 use Rattle.estelle_model.specs.declared.place.Place.{Place}
+use Rattle.estelle_model.specs.declared.place.Place.TheVariants.{Of, In}
 use Rattle.estelle_model.specs.Places.{store}
 use Rattle.estelle_model.specs.Expressions as model
 use Rattle.estelle_model.specs.Expressions.{Call, target}
 use Rattle.estelle_model.specs.Statements as meaning
-use Rattle.estelle_model.specs.Statements.{Acts, Init, Release, Connect, Disconnect, Attach, Detach, Output, assign, choose, invoke, select}
+use Rattle.estelle_model.specs.Statements.{Acts, Init, Release, Connect, Disconnect, Attach, Detach, Output, assign, choose, invoke, count, select}
 use Rattle.estelle_model.proofs.Alike.{EachAlike, MaybeAlike, each_related}
 use Rattle.estelle_model.proofs.StatementEquations as meant
 use Rattle.body_machine.specs.declared.item.Item.TheVariants.{Datum}
 use Rattle.body_compiler.specs.Pieces.{Piece, one, ◌⨾◌}
 use Rattle.body_compiler.specs.ExpressionCode as code
-use Rattle.body_compiler.specs.ExpressionCode.{Scope}
+use Rattle.body_compiler.specs.ExpressionCode.{Scope, by_number}
 use Rattle.body_compiler.specs.StatementCode as compiled
 use Rattle.body_compiler.proofs.Frames.{IsNamed}
 use Rattle.body_compiler.proofs.Does.{Site, Does, then_does, none_does}
@@ -43,8 +45,9 @@ use Rattle.body_compiler.proofs.Arguments.{CallsDo, invoked_does}
 use Rattle.body_compiler.proofs.Acts.{ActsDo}
 use Rattle.body_compiler.proofs.Units.{IsPlaced}
 use Rattle.body_compiler.proofs.Temporaries.{HasTemporaries}
+use Rattle.body_compiler.proofs.Fors.{for_does}
 use Rattle.body_compiler.proofs.Cases.{BranchDoes, select_does}
-use Rattle.body_compiler.proofs.Expressions.{accessed_does, decided_does, expr_does, args_do, variable_written}
+use Rattle.body_compiler.proofs.Expressions.{own_does, accessed_does, decided_does, expr_does, args_do, variable_written}
 
 module _ (c : Site) (placed : IsPlaced c) (has : HasTemporaries c) (scope : Scope) (within : IsScope c scope) (act : Acts Logged) (call : Call Logged) (calls : CallsDo c scope call) (acts : ActsDo c scope act) where
   -- code of a statement
@@ -111,6 +114,19 @@ module _ (c : Site) (placed : IsPlaced c) (has : HasTemporaries c) (scope : Scop
   unfolding select
   selected e xs ys h = select_does c placed has scope within (meaning.value_of_expr Logged on_log scope.meant act call c.here e) (compiled.value_of_expr scope e) (expr_does c scope within call calls e).value xs ys h
 
+  counted : (m : Meaning) (dir : Direction) (x y : Step Logged Value) (p q : Piece) (body : Do Logged) (z : Piece) → Does c p [] x datum → Does c q [] y datum → StatementDoes body z
+      → StatementDoes (meaning.count_over Logged on_log scope.meant act call c.here (model.accessed Logged on_log scope.meant call c.here m []) x dir y body) (compiled.count_over scope (compiled.control scope m) p dir q z)
+  counted (Own k d) dir x y p q body z h i j = for_does c placed has scope within d (Of c.here.path k []) (one (op.Var k)) (own_does c scope within call calls k) dir p q z x y body h i j
+  counted (Exported k d) dir x y p q body z h i j = for_does c placed has scope within d (Of c.here.path k []) (one (op.Var k)) (own_does c scope within call calls k) dir p q z x y body h i j
+  counted (Local k d) dir x y p q body z h i j = for_does c placed has scope within d (In c.here.frame k []) (by_number (scope.local k) (λ n. one (op.Loc n))) (local_does c scope within k) dir p q z x y body h i j
+  counted m dir x y p q body z h i j = refused_does c [] (meaning.count_over Logged on_log scope.meant act call c.here (model.accessed Logged on_log scope.meant call c.here m []) x dir y body) no_item
+
+  count_does : (x : Name) (first : Expr) (dir : Direction) (last : Expr) (body : Do Logged) (z : Piece) → StatementDoes body z
+      → StatementDoes (count Logged on_log scope.meant act call c.here x first dir last body) (compiled.count_over scope (compiled.control scope (scope.meant x)) (compiled.value_of_expr scope first) dir (compiled.value_of_expr scope last) z)
+  unfolding count
+  count_does x first dir last body z h = counted (scope.meant x) dir (meaning.value_of_expr Logged on_log scope.meant act call c.here first) (meaning.value_of_expr Logged on_log scope.meant act call c.here last) (compiled.value_of_expr scope first) (compiled.value_of_expr scope last) body z
+      (expr_does c scope within call calls first).value (expr_does c scope within call calls last).value h
+
   -- ---- trees
 
   abbrev NodeDoes : (k : Kind) → meant.Results Logged k → StatementResults k → Type 0
@@ -135,8 +151,8 @@ module _ (c : Site) (placed : IsPlaced c) (has : HasTemporaries c) (scope : Scop
   keeps kind.stmt (Stmt-F.Attach p x q span) = acts (Attach p x q) [] [] tt
   keeps kind.stmt (Stmt-F.Detach p span) = acts (Detach p) [] [] tt
   keeps kind.stmt (Stmt-F.Output p n es span) = acts (Output p n) _ _ (arguments_does es)
+  keeps kind.stmt (Stmt-F.Count x first dir last body span) = count_does x first dir last body.left body.right body.holds
   keeps kind.stmt (Stmt-F.Case e cases semicolon span) = selected e _ _ (each_related (BranchDoes c scope) cases)
-  keeps kind.stmt _ = refused_does c [] _ no_item
   keeps kind.branch l = (refl, l.body.holds)
   keeps kind.stmts l = all_does _ _ (each_related StatementDoes l.stmts)
 

@@ -26,8 +26,9 @@ use Rattle.body_machine.specs.Steps.{goes_on, Comes}
 use Rattle.body_compiler.specs.Pieces.{Piece, keep, recall}
 use Rattle.body_compiler.specs.UnitCode.{Known, variable, own_shapes, routine_code, IsUnit}
 use Rattle.body_compiler.proofs.Frames.{outline, count_last, last_part, last_changed}
-use Rattle.body_compiler.proofs.Does.{Site, machine, full, StandsAt, Leads, HasRoom, Does, DoesWhere, IsStable, comes_then, stands_first, stands_second, step_at, moved, both_true}
+use Rattle.body_compiler.proofs.Does.{Site, machine, full, StandsAt, Leads, HasRoom, Does, DoesWhere, IsStable, comes_then, stands_first, stands_second, step_at, moved, both_true, anywhere}
 use Rattle.body_compiler.proofs.Single.{datum}
+use Rattle.body_compiler.proofs.Control.{lower}
 use Rattle.body_compiler.proofs.Arguments.{Given}
 use Rattle.body_compiler.proofs.Locals.{temporary_slot}
 use Rattle.body_compiler.proofs.Units.{IsPlaced, callee}
@@ -116,29 +117,35 @@ module _ (c : Site) (placed : IsPlaced c) (has : HasTemporaries c) where
 
   -- ---- one that is set
 
-  there_is : (xs : List Value) (i : ℕ) → i < length xs → (w : Value) × (slice_get xs i ≡ Some w)
+  pub there_is : (xs : List Value) (i : ℕ) → i < length xs → (w : Value) × (slice_get xs i ≡ Some w)
   there_is [] i h = absurd (let no : i < 0 = h in omega (arith, no))
   there_is (x ∷ xs) zero h = (x, refl)
   there_is (x ∷ xs) (suc i) h = there_is xs i (let less : suc i < suc (length xs) = h in omega (arith, less))
 
-  set_there : (xs : List Value) (i : ℕ) (v : Value) → i < length xs → slice_get (slice_set xs i v) i ≡ Some v
+  pub set_there : (xs : List Value) (i : ℕ) (v : Value) → i < length xs → slice_get (slice_set xs i v) i ≡ Some v
   set_there [] i v h = absurd (let no : i < 0 = h in omega (arith, no))
   set_there (x ∷ xs) zero v h = refl
   set_there (x ∷ xs) (suc i) v h = set_there xs i v (let less : suc i < suc (length xs) = h in omega (arith, less))
 
-  set_below : (xs : List Value) (i j : ℕ) (v : Value) → j < i → slice_get (slice_set xs i v) j ≡ slice_get xs j
+  pub set_below : (xs : List Value) (i j : ℕ) (v : Value) → j < i → slice_get (slice_set xs i v) j ≡ slice_get xs j
   set_below [] i j v h = refl
   set_below (x ∷ xs) zero j v h = absurd (let no : j < 0 = h in omega (arith, no))
   set_below (x ∷ xs) (suc i) zero v h = refl
   set_below (x ∷ xs) (suc i) (suc j) v h = set_below xs i j v (let less : suc j < suc i = h in omega (arith, less))
 
-  set_long : (xs : List Value) (i : ℕ) (v : Value) → length (slice_set xs i v) ≡ length xs
+  pub set_above : (xs : List Value) (i j : ℕ) (v : Value) → i < j → slice_get (slice_set xs i v) j ≡ slice_get xs j
+  set_above [] i j v h = refl
+  set_above (x ∷ xs) i zero v h = absurd (let no : i < 0 = h in omega (arith, no))
+  set_above (x ∷ xs) zero (suc j) v h = refl
+  set_above (x ∷ xs) (suc i) (suc j) v h = set_above xs i j v (let less : suc i < suc j = h in omega (arith, less))
+
+  pub set_long : (xs : List Value) (i : ℕ) (v : Value) → length (slice_set xs i v) ≡ length xs
   set_long [] i v = refl
   set_long (x ∷ xs) zero v = refl
   set_long (x ∷ xs) (suc i) v = ap suc (set_long xs i v)
 
   -- what is come to from a start by way of other temporaries
-  by_way : (start mid : Machine) (at free more : ℕ) (old own : List Value) (units fewer : ℕ) (below : List Item) {A : Type 0} (left : A → List Item) (o : StepResult Logged A) → C (Goes start) (Goes mid) → free ≤ more → fewer ≤ units
+  pub by_way : (start mid : Machine) (at free more : ℕ) (old own : List Value) (units fewer : ℕ) (below : List Item) {A : Type 0} (left : A → List Item) (o : StepResult Logged A) → C (Goes start) (Goes mid) → free ≤ more → fewer ≤ units
       → ((j : ℕ) → c.base + j < free → slice_get own j ≡ slice_get old j) → length own ≡ length old → Leads c mid at more own fewer below left o → Leads c start at free old units below left o
   by_way start mid at free more old own units fewer below left (Err e) h l u kept long k = comes_then c.subject c.numbers c.code _ _ _ h k
   by_way start mid at free more old own units fewer below left (Ok y) h l u kept long k = record {
@@ -152,19 +159,28 @@ module _ (c : Site) (placed : IsPlaced c) (has : HasTemporaries c) where
     named = k.named;
   }
 
-  -- a value is kept in a temporary, and then the rest knows it
-  module _ (shape : Shape) (k : ℕ) (is : shape_numbered c.numbers k ≡ Some shape) (value : Piece) (rest : ℕ → Piece) (uniform : (n : ℕ) → ((rest n).temporaries ≡ (rest 0).temporaries) × ((rest n).fine ≡ (rest 0).fine))
+  -- the code does what the step says, and keeps temporaries below a level
+  abbrev pub DoesDown : (ℕ → ℕ) → (ℕ → List Value → Type 0) → Piece → {A : Type 0} → Step Logged A → (A → List Item) → Type 0
+  DoesDown level I p step left = IsTrue p.fine → (at free : ℕ) (turned : Bool) (old : List Value) (r : Running Logged) (below : List Item) →
+      StandsAt c at (p.code free at) → c.base ≤ free → HasRoom c free p old → outline r.frames ≡ c.counts → I free old →
+      Leads c (machine c at below turned (full c old r)) (at + length (p.code free at)) (level free) old r.left below left (step r)
+
+  -- a value is kept in a temporary, and then the rest knows it; the rest may change temporaries that are kept before, from a level on
+  module _ (level : ℕ → ℕ) (I : ℕ → List Value → Type 0) (stable : IsStable c I) (lower : (free : ℕ) (own : List Value) → I free own → level free ≤ free)
+      (shape : Shape) (k : ℕ) (is : shape_numbered c.numbers k ≡ Some shape) (value : Piece) (rest : ℕ → Piece) (uniform : (n : ℕ) → ((rest n).temporaries ≡ (rest 0).temporaries) × ((rest n).fine ≡ (rest 0).fine))
       (A B : Type 0) (x : Step Logged A) (v : A → Value) (more : A → Step Logged B) (left : B → List Item)
-      (value_does : Does c value [] x (λ a. Datum (v a) ∷ [])) (rest_does : (i : ℕ) → i < c.number → (a : A) → DoesWhere c (Holds i (v a)) (rest (c.base + i)) [] (more a) left) where
+      (value_does : DoesWhere c I value [] x (λ a. Datum (v a) ∷ []))
+      (rest_does : (i : ℕ) → i < c.number → (before : List Value) → I (c.base + i) before → (a : A) → stopping (assignable shape (v a)) ≡ Ok (tt {0}) → DoesDown (λ free. level (c.base + i)) (λ free own. I free own × Holds i (v a) free own) (rest (c.base + i)) (more a) left) where
     abbrev kept_step : Step Logged B
     kept_step = x >>= λ a. checked (stopping (assignable shape (v a))) >>= λ ok. more a
 
     abbrev At : ℕ → Type 0
-    At free = (at : ℕ) (turned : Bool) (old : List Value) (r : Running Logged) (below : List Item) → StandsAt c at ((keep shape k value rest).code free at) → c.base ≤ free → HasRoom c free (keep shape k value rest) old → outline r.frames ≡ c.counts
-        → Leads c (machine c at below turned (full c old r)) (at + length ((keep shape k value rest).code free at)) free old r.left below left (kept_step r)
+    At free = (at : ℕ) (turned : Bool) (old : List Value) (r : Running Logged) (below : List Item) → StandsAt c at ((keep shape k value rest).code free at) → c.base ≤ free → HasRoom c free (keep shape k value rest) old → outline r.frames ≡ c.counts → I free old
+        → Leads c (machine c at below turned (full c old r)) (at + length ((keep shape k value rest).code free at)) (level free) old r.left below left (kept_step r)
 
     at_temporary : IsTrue (keep shape k value rest).fine → (i : ℕ) → At (c.base + i)
-    at_temporary fine i at turned old r below stands low room same = by (x r) (value_does (both_true c value.fine (rest 0).fine fine).0 (at + 1) (free + 1) turned old r (Spot (temporary i) ∷ below) (stands_first c (at + 1) V _ behind_place) (omega (arith, low)) (omega (arith, room.0, room.1, temps)) same)
+    at_temporary fine i at turned old r below stands low room same known = by (x r) (value_does (both_true c value.fine (rest 0).fine fine).0 (at + 1) (free + 1) turned old r (Spot (temporary i) ∷ below) (stands_first c (at + 1) V _ behind_place) (omega (arith, low)) (omega (arith, room.0, room.1, temps)) same
+        (stable free (free + 1) old old (omega arith) (λ j l. refl) known))
       where
         free : ℕ
         free = c.base + i
@@ -187,6 +203,9 @@ module _ (c : Site) (placed : IsPlaced c) (has : HasTemporaries c) where
         temps : length (value.temporaries ++ (rest 0).temporaries) ≡ length value.temporaries + length (rest 0).temporaries
         temps = length-append value.temporaries _
 
+        under : level free ≤ free
+        under = lower free old known
+
         less : i < c.number
         less = omega (arith, room.0)
 
@@ -203,24 +222,35 @@ module _ (c : Site) (placed : IsPlaced c) (has : HasTemporaries c) where
         begun = subst (λ n. C (Goes start) (Goes (machine c n (Spot (temporary i) ∷ below) turned (full c old r)))) (let e : suc at ≡ at + 1 = omega arith in e) (place_pushed i less at _ below turned (full c old r) stands)
 
         stored : (a : A) (own : List Value) (u : Bool) (q : Running Logged) → C (Goes start) (Goes (machine c S (Datum (v a) ∷ (Spot (temporary i) ∷ below)) u (full c own q))) → outline q.frames ≡ c.counts → q.left ≤ r.left → length own ≡ length old
-            → ((j : ℕ) → c.base + j < free + 1 → slice_get own j ≡ slice_get old j) → (o : Result (Unit {0}) Stop) → Stored i S below u own q (v a) (Goes (machine c S (Datum (v a) ∷ (Spot (temporary i) ∷ below)) u (full c own q))) o
-            → Leads c start end free old r.left below left (and_then (checked_at o q) (λ ok. more a))
-        stored a own u q h same' few long kept (Err e) g = comes_then c.subject c.numbers c.code _ _ _ h g
-        stored a own u q h same' few long kept (Ok done) g =
-            by_way start (machine c (S + 1) below u (full c (slice_set own i (v a)) q)) end free (free + 1 + length value.temporaries) old (slice_set own i (v a)) r.left q.left below left (more a q)
+            → ((j : ℕ) → c.base + j < free + 1 → slice_get own j ≡ slice_get old j) → (o : Result (Unit {0}) Stop) → stopping (assignable shape (v a)) ≡ o → Stored i S below u own q (v a) (Goes (machine c S (Datum (v a) ∷ (Spot (temporary i) ∷ below)) u (full c own q))) o
+            → Leads c start end (level free) old r.left below left (and_then (checked_at o q) (λ ok. more a))
+        stored a own u q h same' few long kept (Err e) f g = comes_then c.subject c.numbers c.code _ _ _ h g
+        stored a own u q h same' few long kept (Ok done) f g =
+            by_way start (machine c (S + 1) below u (full c (slice_set own i (v a)) q)) end (level free) (level free) old (slice_set own i (v a)) r.left q.left below left (more a q)
             (comes_then c.subject c.numbers c.code _ _ _ h (subst (λ n. C (Goes (machine c S (Datum (v a) ∷ (Spot (temporary i) ∷ below)) u (full c own q))) (Goes (machine c n below u (full c (slice_set own i (v a)) q)))) (let e : suc S ≡ S + 1 = omega arith in e) g))
-            (omega arith) few (λ j l. set_below own i j (v a) (omega (arith, l)) ∙ kept j (omega (arith, l))) (set_long own i (v a) ∙ long)
+            (omega arith) few (λ j l. set_below own i j (v a) (omega (arith, l, under)) ∙ kept j (omega (arith, l, under))) (set_long own i (v a) ∙ long)
             (moved c _ (S + 1 + length R) end _ _ _ below left (more a q) whole
-            (rest_does i less a ((uniform free).1 ∙ (both_true c value.fine (rest 0).fine fine).1) (S + 1) (free + 1 + length value.temporaries) u (slice_set own i (v a)) q below
+            (rest_does i less old known a f ((uniform free).1 ∙ (both_true c value.fine (rest 0).fine fine).1) (S + 1) (free + 1 + length value.temporaries) u (slice_set own i (v a)) q below
             (stands_second c S (op.Store k ∷ []) R behind_value) (omega (arith, low))
             (let n : length (rest free).temporaries ≡ length (rest 0).temporaries = ap length (uniform free).0 in let m : length (slice_set own i (v a)) ≡ length own = set_long own i (v a) in omega (arith, room.0, room.1, temps, n, m, long)) same'
-            (omega arith, set_there own i (v a) (omega (arith, less, room.1, long)))))
+            (stable free (free + 1 + length value.temporaries) old (slice_set own i (v a)) (omega arith) (λ j l. set_below own i j (v a) (omega (arith, l)) ∙ kept j (omega (arith, l))) known, (omega arith, set_there own i (v a) (omega (arith, less, room.1, long))))))
 
         by : (o : StepResult Logged A) → Leads c (machine c (at + 1) (Spot (temporary i) ∷ below) turned (full c old r)) S (free + 1) old r.left (Spot (temporary i) ∷ below) (λ a. Datum (v a) ∷ []) o
-            → Leads c start end free old r.left below left (and_then o (λ a. checked (stopping (assignable shape (v a))) >>= λ ok. more a))
+            → Leads c start end (level free) old r.left below left (and_then o (λ a. checked (stopping (assignable shape (v a))) >>= λ ok. more a))
         by (Err e) h = comes_then c.subject c.numbers c.code _ _ _ begun h
-        by (Ok y) h = stored y.0 h.own h.turned y.1 (comes_then c.subject c.numbers c.code _ _ _ begun h.comes) h.same h.fewer h.long h.kept (stopping (assignable shape (v y.0)))
+        by (Ok y) h = stored y.0 h.own h.turned y.1 (comes_then c.subject c.numbers c.code _ _ _ begun h.comes) h.same h.fewer h.long h.kept (stopping (assignable shape (v y.0))) refl
             (value_stored i k shape is (v y.0) (there_is h.own i (omega (arith, less, room.1, h.long))).0 S R below h.turned h.own y.1 h.same (there_is h.own i (omega (arith, less, room.1, h.long))).1 behind_value)
 
-    pub keep_does : Does c (keep shape k value rest) [] kept_step left
-    keep_does fine at free turned old r below stands low room same = subst At (let e : c.base + (free - c.base) ≡ free = omega (arith, low) in e) (at_temporary fine (free - c.base)) at turned old r below stands low room same
+    pub keep_down : DoesDown level I (keep shape k value rest) kept_step left
+    keep_down fine at free turned old r below stands low room same known = subst At (let e : c.base + (free - c.base) ≡ free = omega (arith, low) in e) (at_temporary fine (free - c.base)) at turned old r below stands low room same known
+
+  -- where the rest keeps all temporaries
+  pub keep_does : (shape : Shape) (k : ℕ) (is : shape_numbered c.numbers k ≡ Some shape) (value : Piece) (rest : ℕ → Piece) (uniform : (n : ℕ) → ((rest n).temporaries ≡ (rest 0).temporaries) × ((rest n).fine ≡ (rest 0).fine))
+      (A B : Type 0) (x : Step Logged A) (v : A → Value) (more : A → Step Logged B) (left : B → List Item)
+      → Does c value [] x (λ a. Datum (v a) ∷ []) → ((i : ℕ) → i < c.number → (a : A) → DoesWhere c (Holds i (v a)) (rest (c.base + i)) [] (more a) left)
+      → Does c (keep shape k value rest) [] (x >>= λ a. checked (stopping (assignable shape (v a))) >>= λ ok. more a) left
+  keep_does shape k is value rest uniform A B x v more left value_does rest_does fine at free turned old r below stands low room same =
+      keep_down (λ free. free) (λ free own. Unit {0}) (λ free more old own less kept known. tt) (λ free own known. omega arith) shape k is value rest uniform A B x v more left (anywhere c (λ free own. Unit {0}) value [] x (λ a. Datum (v a) ∷ []) value_does)
+      (λ i less before known a fits fine' at' free' turned' old' r' below' stands' low' room' same' known'. lower c _ (at' + length ((rest (c.base + i)).code free' at')) free' (c.base + i) old' r'.left below' left (more a r') (omega (arith, known'.1.0))
+      (rest_does i less a fine' at' free' turned' old' r' below' stands' low' room' same' known'.1))
+      fine at free turned old r below stands low room same tt

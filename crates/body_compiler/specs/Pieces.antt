@@ -81,3 +81,21 @@ keep shape number value rest = record {
 -- what a temporary holds
 abbrev pub recall : ℕ → Piece
 recall k = record { temporaries = []; code = λ free address. op.Loc k ∷ op.Load ∷ []; fine = true }
+
+-- `for`: where the truth value at first or behind a turn is false, it ends; before each further turn the temporary takes its next value; a unit is taken before each entry
+abbrev pub count_entry : (ℕ → List Instr) → ℕ → ℕ
+count_entry begins address = address + length (begins address) + 2
+
+abbrev pub count_end : (begins turn : ℕ → List Instr) → ℕ → ℕ
+count_end begins turn address = count_entry begins address + length (turn (count_entry begins address)) + 8
+
+abbrev pub count_code : (temporary number : ℕ) → Instr → (begins turn unset : ℕ → List Instr) → ℕ → List Instr
+count_code t number next begins turn unset address = begins address ++ (op.Jfalse (count_end begins turn address) ∷ op.Turn ∷ (turn (count_entry begins address)
+    ++ (op.Jfalse (count_end begins turn address) ∷ op.Loc t ∷ op.Loc t ∷ op.Load ∷ next ∷ op.Store number ∷ op.Turn ∷ op.Jump (count_entry begins address) ∷ unset (count_end begins turn address))))
+
+abbrev pub count : (temporary number : ℕ) → Instr → (begins turn unset : Piece) → Piece
+count t number next begins turn unset = record {
+  temporaries = begins.temporaries ++ (turn.temporaries ++ unset.temporaries);
+  code = λ free address. count_code t number next (begins.code free) (turn.code (free + length begins.temporaries)) (unset.code (free + length begins.temporaries + length turn.temporaries)) address;
+  fine = begins.fine && (turn.fine && unset.fine);
+}

@@ -1,12 +1,15 @@
 -- What statements are compiled to.
-use Rattle.std.specs.Prelude.{ℕ, true, false, List, [], ◌∷◌, length, map, option_map, Option, Some, None, ℤ, Result, Ok, Err}
+use Rattle.std.specs.Prelude.{ℕ, ◌^◌, nat_lt, Bool, true, false, List, [], ◌∷◌, length, map, option_map, Option, Some, None, ℤ, Result, Ok, Err}
 use Rattle.pascal_values.specs.declared.fault.Fault.TheVariants as fault
 use Rattle.pascal_values.specs.declared.value.Value.TheVariants as pascal
+use Rattle.pascal_values.specs.declared.value.Shape.{Shape}
 use Rattle.estelle_tree.specs.declared.tree.name.Name.{Name}
 use Rattle.estelle_tree.specs.declared.tree.type_expr.Const.{Const}
 use Rattle.estelle_tree.specs.declared.tree.expression.Expr.{Expr}
 use Rattle.estelle_tree.specs.declared.tree.expression.Args.{Args}
 use Rattle.estelle_tree.specs.declared.tree.expression.Variable.{Variable}
+use Rattle.estelle_tree.specs.declared.tree.statement.Direction.{Direction}
+use Rattle.estelle_tree.specs.declared.tree.statement.Direction.TheVariants as direction
 use Rattle.estelle_tree.specs.declared.tree.statement.Stmts.{Stmts}
 use Rattle.estelle_tree.specs.declared.tree.statement.Stmt.TheOpen.{Stmt-F, Case-F, Stmts-F}
 use Rattle.estelle_tree.specs.declared.tree.statement.Stmt.TheFolds.{fold-Stmts}
@@ -14,21 +17,23 @@ use Rattle.body_code.specs.declared.instr.Point as point
 use Rattle.body_code.specs.declared.instr.Point.TheVariants.{Own, OfChild}
 use Rattle.body_code.specs.declared.instr.Ends as ends
 use Rattle.body_code.specs.declared.instr.Ends.TheVariants.{Point, Child}
+use Rattle.body_code.specs.declared.instr.Instr.{Instr}
 use Rattle.body_code.specs.declared.instr.Instr.TheVariants as op
 use Rattle.estelle_model.specs.declared.denoter.Denoter.{Denoter}
+use Rattle.estelle_model.specs.declared.denoter.Host.{Host}
 use Rattle.estelle_model.specs.declared.denoter.Host.TheVariants as hosts
 use Rattle.estelle_model.specs.Stops.{Stop}
-use Rattle.estelle_model.specs.Types.{ordinal_of, shape_of, whole}
+use Rattle.estelle_model.specs.Types.{ordinal_of, shape_of, host_of, whole}
 use Rattle.estelle_model.specs.Operators.{◌>>>◌}
 use Rattle.estelle_model.specs.Constants.{constant_of}
 use Rattle.estelle_model.specs.declared.meaning.Routine.{Routine}
 use Rattle.estelle_model.specs.declared.meaning.Meaning.{Meaning}
-use Rattle.estelle_model.specs.declared.meaning.Meaning.TheVariants.{Called, Ip, Module, Body}
+use Rattle.estelle_model.specs.declared.meaning.Meaning.TheVariants.{Called, Ip, Module, Body, Own as OwnVariable, Exported, Local}
 use Rattle.estelle_model.specs.declared.meaning.Passing.TheVariants.{ByValue}
 use Rattle.estelle_model.specs.Definitions.{types_received}
 use Rattle.estelle_model.specs.Statements.{Statement, Init, Release, Connect, Disconnect, Attach, Detach, Output}
 use Rattle.estelle_model.specs.Meant.{Meanings, result_number}
-use Rattle.body_compiler.specs.Pieces.{Piece, none, refused, one, ◌⨾◌, fork, loop, repeat, keep, recall}
+use Rattle.body_compiler.specs.Pieces.{Piece, none, refused, one, ◌⨾◌, fork, loop, repeat, keep, recall, count}
 use Rattle.body_compiler.specs.ExpressionCode.{by_number, Scope, Access, Operand, Selecting, expr, args, variable, accessed, give_all, call}
 
 -- ---- `case`
@@ -56,6 +61,29 @@ is_one_of t (m ∷ (k ∷ ms)) = is_one t m ⨾ fork (one (op.Push (pascal.Bool 
 abbrev pub first_of : ℕ → List (List ℤ × Piece) → Piece
 first_of t [] = one (op.Fail fault.NoCase)
 first_of t (c ∷ cs) = is_one_of t c.0 ⨾ fork c.1 (first_of t cs)
+
+-- ---- `for`
+
+-- a value alone tells which value of the type is the next one
+abbrev pub is_word : Host → Bool
+is_word (hosts.Enumeration last) = nat_lt last (2 ^ 32)
+is_word _ = true
+
+abbrev pub begins_code : Direction → Piece
+begins_code direction.To = one op.Le
+begins_code direction.Downto = one op.Ge
+
+abbrev pub goes_code : Direction → Piece
+goes_code direction.To = one op.Lt
+goes_code direction.Downto = one op.Gt
+
+abbrev pub next_instr : Direction → Instr
+next_instr direction.To = op.Succ
+next_instr direction.Downto = op.Pred
+
+-- with the value of the turn and the last one in temporaries: the limit is tested before the next value is taken
+abbrev pub counting : Direction → (number kind : ℕ) → (place body : Piece) → (turn last : ℕ) → Piece
+counting dir number kind place body t u = count t number (next_instr dir) (recall t ⨾ recall u ⨾ begins_code dir) ((place ⨾ recall t ⨾ one (op.Store kind)) ⨾ body ⨾ recall t ⨾ recall u ⨾ goes_code dir) (place ⨾ one op.Blank)
 
 module _ (scope : Scope) where
   -- stores by the number of the type's shape
@@ -92,6 +120,22 @@ module _ (scope : Scope) where
   -- the ordinal of the selector, which is an integer, is kept
   abbrev pub select : Expr → List (List ℤ × Piece) → Piece
   select e cases = by_number (scope.number (shape_of (whole hosts.Integer))) (λ n. keep (shape_of (whole hosts.Integer)) n (value_of_expr e ⨾ one op.Ord) (λ t. first_of t cases))
+
+  -- a control variable whose place is the same in each turn
+  abbrev pub control : Meaning → Option Access
+  control (OwnVariable k t) = accessed scope (OwnVariable k t) []
+  control (Exported k t) = accessed scope (Exported k t) []
+  control (Local k t) = accessed scope (Local k t) []
+  control _ = None
+
+  abbrev pub count_by : Bool → Shape → Access → (first : Piece) → Direction → (last body : Piece) → Piece
+  count_by false shape a first dir last body = refused
+  count_by true shape a first dir last body = by_number (scope.number shape) (λ k. by_number (scope.number (shape_of a.denoter)) (λ d. keep shape k first (λ t. keep shape k last (λ u. counting dir k d a.place body t u))))
+
+  -- the bounds are kept
+  abbrev pub count_over : Option Access → (first : Piece) → Direction → (last body : Piece) → Piece
+  count_over None first dir last body = refused
+  count_over (Some a) first dir last body = count_by (is_word (host_of a.denoter)) (shape_of (whole (host_of a.denoter))) a first dir last body
 
   -- a procedure alone leaves nothing
   abbrev pub where_no_result : Option Denoter → Piece → Piece
@@ -184,6 +228,7 @@ module _ (scope : Scope) where
   stmt_layer (Stmt-F.If test then_part else_part span) = choose test then_part else_part
   stmt_layer (Stmt-F.While test body span) = loop (value_of_expr test) body
   stmt_layer (Stmt-F.Repeat body test span) = repeat (body ⨾ value_of_expr test)
+  stmt_layer (Stmt-F.Count x first dir last body span) = count_over (control (scope.meant x)) (value_of_expr first) dir (value_of_expr last) body
   stmt_layer (Stmt-F.Case e cases semicolon span) = select e cases
   stmt_layer (Stmt-F.Init x b es span) = act (Init x b) (arguments es)
   stmt_layer (Stmt-F.Release x span) = act (Release x) []
@@ -192,7 +237,6 @@ module _ (scope : Scope) where
   stmt_layer (Stmt-F.Attach p x q span) = act (Attach p x q) []
   stmt_layer (Stmt-F.Detach p span) = act (Detach p) []
   stmt_layer (Stmt-F.Output p m es span) = act (Output p m) (arguments es)
-  stmt_layer _ = refused
 
   abbrev pub case_layer : Case-F Piece (List ℤ × Piece) Piece → List ℤ × Piece
   case_layer c = (ordinals_of scope.meant c.labels, c.body)
