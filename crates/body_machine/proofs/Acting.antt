@@ -5,7 +5,7 @@ use Rattle.body_code.specs.declared.unit.CodeUnit.{CodeUnit}
 use Rattle.estelle_model.specs.Subject.{Subject}
 use Rattle.body_values.specs.declared.stop.Stop.{Stop}
 use Rattle.body_values.specs.declared.stop.Stop.TheVariants as stop
-use Rattle.body_machine.specs.declared.numbers.Numbers.{Numbers}
+use Rattle.body_numbers.specs.declared.numbers.Numbers.{Numbers}
 use Rattle.body_machine.specs.declared.machine.Machine as whole
 use Rattle.body_machine.specs.Machine.{Machine, Next}
 use Rattle.body_machine.specs.Rows.{indexing, row}

@@ -2,7 +2,7 @@
 use Rattle.std.proofs.Common.{◌≡◌, ◌∙◌, refl, sym, ap, ℕ, suc, ◌+◌, ◌<◌, Bool, true, false, cond, List, [], ◌∷◌, ◌++◌, length, take, get_or, arith}
 use Rattle.std.proofs.lemmas.List.{take_more}
 use Rattle.body_code.specs.declared.unit.Local.{Local}
-use Rattle.body_machine.specs.Numbers.{variables_in, references_in}
+use Rattle.body_machine.specs.Slots.{variables_in, references_in}
 
 variables_one : (x : Local) (xs ys : List Local) → variables_in (xs ++ ys) ≡ variables_in xs + variables_in ys → variables_in (x ∷ (xs ++ ys)) ≡ variables_in (x ∷ xs) + variables_in ys
 variables_one x xs ys more = by x.by_ref

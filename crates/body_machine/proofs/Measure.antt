@@ -28,7 +28,7 @@ use Rattle.body_actions.specs.Children as children
 use Rattle.estelle_model.proofs.LoopLaws.{AtMost, NeverRaises}
 use Rattle.estelle_model.proofs.Units.{seq_never, pure_never}
 use Rattle.body_machine.specs.Machine.{Item, Datum, Spot, Return, ToNone, ToCaller, ToParent, Activation, Machine, Next, Goes, Ends, Stops}
-use Rattle.body_machine.specs.declared.numbers.Numbers.{Numbers}
+use Rattle.body_numbers.specs.declared.numbers.Numbers.{Numbers}
 use Rattle.body_machine.specs.Frames.{frame_with, push_frame, pop_frame, deeper_than}
 use Rattle.body_machine.specs.Ends.{makes_child}
 use Rattle.body_machine.specs.Rows.{Row, Nullary, OfValue, OfPlace, OfValues, OfBoth, OfMany, Jumps, JumpsWhere, Turns, Calls, Begins, Returns, row}

@@ -6,7 +6,7 @@ use Rattle.body_code.specs.declared.unit.CodeUnit.{CodeUnit}
 use Rattle.estelle_model.specs.Subject.{Subject}
 use Rattle.body_values.specs.declared.stop.Stop.{Stop}
 use Rattle.body_values.specs.declared.stop.Stop.TheVariants as stop
-use Rattle.body_machine.specs.declared.numbers.Numbers.{Numbers}
+use Rattle.body_numbers.specs.declared.numbers.Numbers.{Numbers}
 use Rattle.body_machine.specs.Machine.{Item, Activation, Machine, Next, Goes, Ends, Stops}
 use Rattle.body_machine.specs.Steps.{next, run, Comes}
 use Rattle.body_machine.specs.Seen.{IsStep}

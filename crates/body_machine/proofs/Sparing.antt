@@ -35,8 +35,9 @@ use Rattle.estelle_model.proofs.Kept.{load_kept, put_kept, blank_kept, child_kep
 use Rattle.body_machine.specs.Machine.{Item, Datum, Spot, Activation}
 use Rattle.estelle_tree.specs.declared.tree.expression.Relation.TheVariants as relation
 use Rattle.pascal_values.specs.declared.value.Value.TheVariants as pascal
-use Rattle.body_machine.specs.Numbers.{shape_numbered, export_numbered, word_of, interaction_of, slot, reference_number}
-use Rattle.body_machine.specs.declared.numbers.Numbers.{Numbers}
+use Rattle.body_numbers.specs.Numbers.{shape_numbered, export_numbered, word_of, interaction_of}
+use Rattle.body_machine.specs.Slots.{slot, reference_number}
+use Rattle.body_numbers.specs.declared.numbers.Numbers.{Numbers}
 use Rattle.body_machine.specs.declared.operators.Unary.{Unary}
 use Rattle.body_machine.specs.declared.operators.Binary.{Binary}
 use Rattle.body_machine.specs.declared.operators.Unary.TheVariants as unary

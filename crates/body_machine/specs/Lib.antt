@@ -1,6 +1,6 @@
 -- ---- the machine, and what its instructions do
 pub mod Machine
-pub mod Numbers
+pub mod Slots
 pub mod Operations
 pub mod Frames
 pub mod Ends

@@ -32,8 +32,9 @@ use Rattle.body_machine.specs.declared.operators.Unary.TheVariants as unary
 use Rattle.body_machine.specs.declared.operators.Binary.TheVariants as binary
 use Rattle.body_machine.specs.Operations.{unary_value, binary_value}
 use Rattle.body_machine.specs.Machine.{Item, Datum, Spot, Activation}
-use Rattle.body_machine.specs.declared.numbers.Numbers.{Numbers}
-use Rattle.body_machine.specs.Numbers.{shape_numbered, export_numbered, word_of, interaction_of, slot, reference_number}
+use Rattle.body_numbers.specs.declared.numbers.Numbers.{Numbers}
+use Rattle.body_numbers.specs.Numbers.{shape_numbered, export_numbered, word_of, interaction_of}
+use Rattle.body_machine.specs.Slots.{slot, reference_number}
 
 -- an instruction by what it takes; what it leaves is the topmost item first
 pub data Row : Type 0 where

@@ -5,7 +5,7 @@ use Rattle.estelle_model.specs.Stops as model
 use Rattle.estelle_model.specs.Subject.{Subject}
 use Rattle.body_values.specs.declared.stop.Stop.{Stop}
 use Rattle.body_values.specs.declared.stop.Stop.TheVariants as stop
-use Rattle.body_machine.specs.declared.numbers.Numbers.{Numbers}
+use Rattle.body_numbers.specs.declared.numbers.Numbers.{Numbers}
 use Rattle.body_machine.specs.Machine.{Machine, Goes, Ends, Stops}
 use Rattle.body_machine.specs.Steps.{Comes}
 

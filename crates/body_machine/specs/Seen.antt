@@ -6,7 +6,7 @@ use Rattle.estelle_model.specs.Subject.{Subject}
 use Rattle.body_values.specs.declared.stop.Stop.{Stop}
 use Rattle.body_values.specs.declared.stop.Stop.TheVariants as stop
 use Rattle.body_state.specs.Progress.{running}
-use Rattle.body_machine.specs.declared.numbers.Numbers.{Numbers}
+use Rattle.body_numbers.specs.declared.numbers.Numbers.{Numbers}
 use Rattle.body_machine.specs.declared.activation.Activation as code
 use Rattle.body_machine.specs.declared.machine.Machine as whole
 use Rattle.body_machine.specs.Machine.{Activation, Machine, Next, Goes, Ends, Stops}

@@ -4,7 +4,7 @@ ghost use Rattle.std.specs.Prelude.{◌≡◌, [], ◌∷◌, List, MatchOption,
 ghost use Rattle.std.specs.Option.{option_copied};
 ghost use Rattle.body_code.specs.declared.unit.CodeUnit as code_units;
 ghost use Rattle.estelle_model.specs.Subject.{Subject};
-ghost use Rattle.body_machine.specs.declared.numbers.Numbers as numbers;
+ghost use Rattle.body_numbers.specs.declared.numbers.Numbers as numbers;
 ghost use Rattle.body_machine.specs.Frames.{pop_frame};
 ghost use Rattle.body_machine.specs.Steps.{behind, begun, call_unit, init_with, values_from, taken_from, return_to};
 ghost use Rattle.body_machine.specs.Seen.{seen, seen_unit, IsNext, IsStep};

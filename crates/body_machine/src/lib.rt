@@ -14,7 +14,6 @@ mod given;
 mod item;
 mod jumps;
 mod machine;
-mod numbers;
 #[tactic(auto, unfolding(estelle_model::specs::Operators::required_value))]
 mod operators;
 mod places;
@@ -24,7 +23,9 @@ mod step;
 mod values;
 
 pub use activation::{Activation, Return};
+pub use given::add_blanks;
 pub use item::Item;
 pub use machine::Machine;
-pub use numbers::{BodyNumbers, IpNumbers, Numbers};
+pub use places::after;
 pub use runs::run;
+pub use stack::Stack;

@@ -6,6 +6,7 @@ ghost use Rattle.body_machine.specs.Seen.{seen};
 
 use crate::activation::Activation;
 use crate::item::Item;
+use crate::stack::Stack;
 use body_state::Walk;
 use std::alloc::AllocError;
 
@@ -47,5 +48,19 @@ impl<'a> Machine<'a> {
     {
         self.active.stack.push(item)?;
         self.advance()
+    }
+
+    /// What stands on the stack of the unit that runs, and the walk.
+    pub fn into_left(self) -> (Stack, Walk<'a>)
+        ensures stack { result.0 ≡ self.entry.active.stack }
+        ensures walk { result.1 ≡ self.entry.walk }
+    {
+        let Machine {
+            walk,
+            active,
+            waiting: _,
+        } = self;
+        let (stack, _) = active.into_left();
+        (stack, walk)
     }
 }

@@ -4,7 +4,7 @@ ghost use Rattle.std.specs.Prelude.{◌≡◌, ◌≤◌, [], ◌∷◌, length,
 ghost use Rattle.std.specs.Option.{option_copied};
 ghost use Rattle.estelle_model.specs.declared.place.Place.TheVariants.{Of, In};
 ghost use Rattle.body_machine.specs.Machine.{Spot};
-ghost use Rattle.body_machine.specs.Numbers.{variables_in, references_in, slot, reference_number};
+ghost use Rattle.body_machine.specs.Slots.{variables_in, references_in, slot, reference_number};
 ghost use Rattle.body_machine.specs.Rows.{pushing, referring, exporting};
 ghost use Rattle.body_machine.specs.Seen.{Did};
 

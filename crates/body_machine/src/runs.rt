@@ -4,9 +4,9 @@ ghost use Rattle.body_machine.specs.Seen.{seen};
 ghost use Rattle.body_machine.specs.Runs.{HasRun};
 
 use crate::machine::Machine;
-use crate::numbers::Numbers;
 use crate::step::step;
 use body_code::Code;
+use body_numbers::Numbers;
 use body_state::ModuleBodies;
 use body_values::Stop;
 use std::alloc::Global;

@@ -10,13 +10,13 @@ use crate::calls::{call, init, ret};
 use crate::estelle::{attach, connect, detach, disconnect, output, release};
 use crate::jumps::{jump, jump_where, turn};
 use crate::machine::Machine;
-use crate::numbers::Numbers;
 use crate::operators::{Binary, Unary};
 use crate::places::{export, local, reference, variable};
 use crate::values::{
     blank, combine, compute, constant, empty, extend, fault, fit, index, load, store, stuck,
 };
 use body_code::{Code, Entry, Instr};
+use body_numbers::Numbers;
 use body_state::ModuleBodies;
 use body_values::Stop;
 use estelle_tree::Relation;

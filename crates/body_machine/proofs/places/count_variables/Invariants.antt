@@ -1,5 +1,5 @@
 use Rattle.std.proofs.Common.{◌≡◌, ◌≤◌, length, take}
-use Rattle.body_machine.specs.Numbers.{variables_in}
+use Rattle.body_machine.specs.Slots.{variables_in}
 use Rattle.body_machine.proofs.places.count_variables.Given as goal
 
 abbrev pub invariant-loop-local : goal.invariant-loop-local

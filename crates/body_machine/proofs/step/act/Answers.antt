@@ -4,7 +4,7 @@ use Rattle.std.specs.Option.{option_copied}
 use Rattle.pascal_values.specs.declared.value.Shape.{Shape}
 use Rattle.body_code.specs.declared.unit.CodeUnit.{CodeUnit}
 use Rattle.estelle_model.specs.declared.meaning.InteractionKind.{InteractionKind}
-use Rattle.body_machine.specs.Numbers.{word_of}
+use Rattle.body_numbers.specs.Numbers.{word_of}
 use Rattle.body_machine.specs.Ends.{output_with}
 use Rattle.body_machine.specs.Rows.{storing, fitting, exporting, sending, row}
 use Rattle.body_machine.specs.Steps.{values_from, taken_from, init_with}

@@ -1,0 +1,4 @@
+pub mod Pieces
+pub mod ExpressionCode
+pub mod StatementCode
+pub mod UnitCode
