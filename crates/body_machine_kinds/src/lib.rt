@@ -1,0 +1,12 @@
+//! Kinds of what instructions take and leave; a code of good kinds is never stuck.
+//!
+//! It stands on `body_machine`. `specs/` has the table of kinds, what a machine has that goes on, and the laws. No code is
+//! checked here.
+#![tactic(auto)]
+
+mod laws;
+
+pub use laws::{
+    kinded_by_units, kinded_codes_are_not_stuck, kinded_codes_go_on, legal_images_may_begin,
+    started_are_not_stuck, units_are_not_stuck,
+};
