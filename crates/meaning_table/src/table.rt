@@ -83,7 +83,8 @@ impl<'a> Table<'a> {
         self.names.get().declaration_of(name)
     }
 
-    fn meaning_at(&self, at: u32) -> &Meaning<'a>
+    /// What is declared where a name begins.
+    pub fn meaning_at(&self, at: u32) -> &Meaning<'a>
         ensures { result.now ≡ spec.at_place self.now.declared at }
     {
         if let Some(meaning) = self.declared.get(at) {
