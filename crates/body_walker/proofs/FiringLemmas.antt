@@ -1,6 +1,6 @@
 -- What firings and the start come to, over the steps that they are made of.
 use Rattle.std.proofs.Common.{◌≡◌, ◌∙◌, ℕ, zero, suc, true, false, cond, List, [], Option, Some, None, Result, Ok, Err, refl, ap, sym, subst}
-use Rattle.std.specs.Prelude.{IfOk, unwrap_or, option_map}
+use Rattle.std.specs.Prelude.{IfOk, option_map}
 use Rattle.std.specs.declared.alloc.AllocError.{AllocError}
 use Rattle.pascal_values.specs.declared.value.Value.{Value}
 use Rattle.estelle_tree.specs.Paths.{Path}
@@ -20,13 +20,11 @@ use Rattle.estelle_model.specs.Actions.{enters_state}
 use Rattle.estelle_model.specs.Acts.{act}
 use Rattle.estelle_model.specs.Transitions.{Choice, Transition}
 use Rattle.estelle_model.specs.Subject as model
-use Rattle.estelle_model.specs.Subject.{Subject, meant, meant_with, of_block, begins, nothing_to_do, transition}
+use Rattle.estelle_model.specs.Subject.{Subject, meant, meant_with, of_block, begins, transition}
 use Rattle.estelle_model.specs.Firing.{bare, transition_at}
 use Rattle.estelle_model.specs.Computed.{core_of, log_from, values_of, start_run, IsMadeBy, IsOfTransition, IsComputedOf}
 use Rattle.meaning_table.specs.Known.{Known, meanings_of}
-use Rattle.body_state.specs.declared.bodies.Initialization.{Initialization}
 use Rattle.body_values.specs.declared.stop.Stop.{Stop}
-use Rattle.body_state.specs.Bodies.{initialization_of}
 use Rattle.body_state.specs.Follows.{Leads, carried}
 use Rattle.body_state.specs.InOrder.{InOrder, instance_in}
 use Rattle.body_state.proofs.OrderLemmas.{holds_of}
@@ -34,7 +32,8 @@ use Rattle.body_state.proofs.PartLemmas.{shown}
 use Rattle.body_state.proofs.FollowLemmas.{follows_as, follows_next, follows_stops_next}
 use Rattle.body_program.specs.Chosen.{chosen_over}
 use Rattle.body_program.specs.Programs.{known_of, block_in}
-use Rattle.body_walker.specs.Runs.{block_and_state, job_of}
+use Rattle.body_jobs.specs.Jobs.{job_of}
+use Rattle.body_walker.specs.Runs.{block_and_state}
 
 -- ---- a block, and then the state
 
@@ -125,19 +124,5 @@ module _ (s : Subject) (p : Path) (n : ℕ) (image : Image) (head : Option Inter
 -- ---- the start
 
 module _ (s : Subject) where
-  pub begun_some : (i : Initialization) → Some i ≡ option_map initialization_of (model.initialization s 0) → begins s 0 ≡ record { to = i.to; block = i.block }
-  begun_some i e = by (model.initialization s 0) e
-    where
-      by : (o : Option model.Initialization) → Some i ≡ option_map initialization_of o → unwrap_or o nothing_to_do ≡ record { to = i.to; block = i.block }
-      by None e = absurd (cc)
-      by (Some j) e = let same : i ≡ initialization_of j = cc in (λ k. record { to = (sym same k).to; block = (sym same k).block })
-
-  pub begun_none : None ≡ option_map initialization_of (model.initialization s 0) → begins s 0 ≡ nothing_to_do
-  begun_none e = by (model.initialization s 0) e
-    where
-      by : (o : Option model.Initialization) → None ≡ option_map initialization_of o → unwrap_or o nothing_to_do ≡ nothing_to_do
-      by None e = refl
-      by (Some j) e = absurd (cc)
-
   pub started : (first : model.Initialization) (budget : ℕ) (x : Result (Outcome × ℕ) AllocError) → begins s 0 ≡ first → MadeOn s (meant s) [] [] first.block [] first.to (bare s).core budget x → IfOk x (λ made. IsMadeBy s (start_run s budget) made.0 made.1)
   started first budget x e h = subst (λ (b : model.Initialization). MadeOn s (meant s) [] [] b.block [] b.to (bare s).core budget x) (sym e) h

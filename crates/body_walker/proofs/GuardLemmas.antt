@@ -1,5 +1,5 @@
 -- The steps of a guard, one after another.
-use Rattle.std.proofs.Common.{◌≡◌, Bool, true, false, List, [], Option, Some, None, ℤ, Result, Ok, Err, refl, sym, ap, subst, cond, ◌∙◌}
+use Rattle.std.proofs.Common.{◌≡◌, Bool, true, false, List, [], Option, Some, None, Result, Ok, Err, refl, sym, ap, subst, cond, ◌∙◌}
 use Rattle.pascal_values.specs.declared.value.Value.{Value}
 use Rattle.estelle_tree.specs.declared.tree.expression.Expr.{Expr}
 use Rattle.estelle_tree.specs.declared.tree.clause.DelayHigh.{DelayHigh}
@@ -11,14 +11,14 @@ use Rattle.estelle_model.specs.States.{Logged, on_log}
 use Rattle.estelle_model.specs.Belonging.{are_values_of}
 use Rattle.estelle_model.specs.Stops.{Broken}
 use Rattle.estelle_model.specs.Steps.{Running, Step, and_then, ◌>>=◌, ◌>>◌, pure, breaks, checked}
-use Rattle.estelle_model.specs.Operators.{◌>>>◌, bool_of, int_of}
+use Rattle.estelle_model.specs.Operators.{bool_of}
 use Rattle.estelle_model.specs.Meant.{Meanings}
 use Rattle.estelle_model.specs.Expressions.{bool_step}
 use Rattle.estelle_model.specs.Blocks.{enter_values, leave_values, with_values, clause_value}
 use Rattle.estelle_model.specs.Transitions.{Transition, Delay}
 use Rattle.estelle_model.specs.Subject.{Subject, meant_with}
 use Rattle.estelle_model.specs.Acts.{act}
-use Rattle.estelle_model.specs.Clauses.{in_clause, value_of_expr, provided_step, between, from_on, from_one, from_both, high_step, at_once, delay_step, guard_step}
+use Rattle.estelle_model.specs.Clauses.{in_clause, value_of_expr, provided_step, from_one, from_both, high_step, at_once, delay_step, guard_step}
 use Rattle.body_values.specs.declared.stop.Stop.{Stop}
 use Rattle.body_values.specs.Gives.{Gives}
 use Rattle.body_state.specs.Follows.{Leads}
@@ -65,16 +65,6 @@ module _ (s : Subject) (t : Transition) (p : Path) where
 
   pub high_some : (low : Value) (o : Option DelayHigh) (later : DelayHigh) (r : Result Guard Stop) (old new : Running Logged) → o ≡ Some later → Leads (high_step Logged on_log s p t low (Some later)) old r new → Leads (high_step Logged on_log s p t low o) old r new
   high_some low o later r old new is h = subst (λ o. Leads (high_step Logged on_log s p t low o) old r new) (sym is) h
-
--- ---- numbers as moments
-
-module _ (s : Subject) (low : Value) (n k : ℤ) (r : Result Guard Stop) (same : k ≡ n) where
-  pub one_ok : int_of low ≡ Ok n → Gives (from_on Logged on_log s k) r → Gives (from_one Logged on_log s low) r
-  one_ok is g = subst (λ x. Gives (x >>> λ n. from_on Logged on_log s n) r) (sym is) (subst (λ n. Gives (from_on Logged on_log s n) r) same g)
-
-  pub both_ok : (high : Value) (m l : ℤ) → l ≡ m → int_of low ≡ Ok n → int_of high ≡ Ok m → Gives (between Logged on_log s k l) r → Gives (from_both Logged on_log s low high) r
-  both_ok high m l alike first second g = subst (λ x. Gives (x >>> λ n. int_of high >>> λ m. between Logged on_log s n m) r) (sym first)
-      (subst (λ x. Gives (x >>> λ m. between Logged on_log s n m) r) (sym second) (subst (λ n. Gives (between Logged on_log s n m) r) same (subst (λ m. Gives (between Logged on_log s k m) r) alike g)))
 
 -- ---- how a clause begins
 

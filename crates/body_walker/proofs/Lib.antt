@@ -1,7 +1,3 @@
-pub mod JobLemmas
 pub mod GuardLemmas
-pub mod RootLemmas
 pub mod FiringLemmas
-pub mod AskedGuards
-pub mod GuardAnswers
-pub mod SettledGuards
+pub mod ChosenGuards

@@ -1,11 +1,9 @@
--- A block with the state after it, as firings and the start have it; jobs whose ticket does not matter; and guards by what an image shows.
+-- A block with the state after it, as firings and the start have it, and guards by what an image shows.
 use Rattle.std.specs.Prelude.{ℕ, Bool, if◌then◌else◌, List, Option}
 use Rattle.pascal_values.specs.declared.value.Value.{Value}
 use Rattle.estelle_tree.specs.Paths.{Path}
 use Rattle.estelle_model.specs.declared.image.Image.{Image}
-use Rattle.estelle_model.specs.declared.image.Interaction.{Interaction}
 use Rattle.estelle_model.specs.declared.job.Guard.{Guard}
-use Rattle.estelle_model.specs.declared.job.Job.{Job}
 use Rattle.estelle_model.specs.declared.meaning.Routine.{Routine}
 use Rattle.estelle_model.specs.States.{Logged, on_log}
 use Rattle.estelle_model.specs.declared.denoter.Denoter.{Denoter}
@@ -36,9 +34,6 @@ clause_begins t values = tested t.received values >> enter_values values
 -- the values of a delay, one after the other
 abbrev pub bounds_step : Subject → Path → Transition → Delay → Step Logged Guard
 bounds_step s path t d = value_of_expr Logged on_log s path t d.low >>= λ v. high_step Logged on_log s path t v d.high
-
-abbrev pub job_of : Path → ℕ → Image → Option Interaction → ℕ → Job
-job_of path trans image head budget = record { ticket = 0; path = path; trans = trans; image = image; head = head; budget = budget }
 
 -- `provided` and the delay on a log, with the values of the interaction
 abbrev pub logged_guard : Subject → Path → Image → List Value → Bool → ℕ → Transition → Guard

@@ -1,29 +1,25 @@
 //! Firings and the start.
 
-ghost use Rattle.std.specs.Prelude.{◌≡◌, [], ◌<◌, option_map, IfOk};
-ghost use Rattle.std.specs.Option.{option_copied};
-ghost use Rattle.estelle_model.specs.States.{Logged};
-ghost use Rattle.estelle_model.specs.Steps.{Do};
+ghost use Rattle.std.specs.Prelude.{◌≡◌, [], ◌<◌, IfOk};
 ghost use Rattle.estelle_model.specs.Blocks.{fresh};
-ghost use Rattle.estelle_model.specs.Subject.{meant, no_statements, initialization, transition};
+ghost use Rattle.estelle_model.specs.Subject.{meant, no_statements, transition};
 ghost use Rattle.estelle_model.specs.Firing.{bare};
-ghost use Rattle.estelle_model.specs.Computed.{core_of, log_from, values_of, start_run, IsMadeBy, IsOfTransition, IsComputedOf};
+ghost use Rattle.estelle_model.specs.Computed.{core_of, log_from, start_run, IsMadeBy, IsOfTransition, IsComputedOf};
 ghost use Rattle.meaning_table.specs.Known.{meanings_of};
-ghost use Rattle.body_state.specs.Bodies.{initialization_of};
-ghost use Rattle.body_state.specs.Progress.{Progress, running};
 ghost use Rattle.body_state.specs.Follows.{Follows};
-ghost use Rattle.body_state.specs.InOrder.{InOrder, instance_in};
-ghost use Rattle.body_walker.specs.Runs.{block_and_state, job_of};
+ghost use Rattle.body_state.specs.InOrder.{InOrder};
+ghost use Rattle.body_jobs.specs.Jobs.{job_of};
+ghost use Rattle.body_walker.specs.Runs.{block_and_state};
 
-use crate::root::root_image;
+use body_jobs::{body_at, finish, initialization, nothing, received_values, root_image};
 use body_program::{Program, with_choices};
-use body_state::{Initialization, ModuleBodies, Walk, part_at};
+use body_state::{ModuleBodies, Walk};
 use body_values::{Stop, are_values_of};
 use body_walker_blocks::block;
-use estelle_model::{Image, Interaction, Outcome, Part, Routine, Statements, Type};
+use estelle_model::{Image, Interaction, Outcome, Routine, Statements, Type};
 use estelle_tree::{Items, Path, Sequence, SequenceMut, Span, Stmts};
 use meaning_table::Table;
-use pascal_values::{Fault, Values};
+use pascal_values::Values;
 use std::alloc::{AllocError, Global};
 
 /// Runs a block of an instance, which then enters a state, if one is said. What it received must be of these types.
@@ -49,27 +45,6 @@ fn run(
     }
 }
 
-/// What a run came to, and the units left.
-fn finish(
-    bodies: &ModuleBodies,
-    alloc: Global,
-    walk: Walk,
-    ran: Result<(), Stop>,
-) -> Result<(Outcome, u32), AllocError>
-    ensures { (step : Do Logged) (old : Progress) → Follows step old ran walk.entry → IfOk result (λ made. IsMadeBy bodies.now (step (running old)) made.0 made.1) }
-{
-    let left = walk.left();
-    match ran {
-        Ok(()) => {
-            let (image, effects) = walk.into_made(alloc, bodies)?;
-            Ok((Outcome::Ran { image, effects }, left))
-        }
-        Err(Stop::Fault(fault)) => Ok((Outcome::Faulted(fault), left)),
-        Err(Stop::Broken) => Ok((Outcome::Faulted(Fault::Unset), left)),
-        Err(Stop::Memory) => Err(AllocError),
-    }
-}
-
 /// Runs a block from an image on.
 fn run_on(
     table: &Table,
@@ -91,23 +66,6 @@ fn run_on(
         table, bodies, alloc, &mut walk, path, types, routine, values, to,
     );
     finish(bodies, alloc, walk, ran)
-}
-
-/// The values of the interaction that is received, if one is.
-fn received_values(alloc: Global, head: Option<Interaction>) -> Values
-    ensures { result ≡ values_of head }
-{
-    match head {
-        None => Values::none(alloc),
-        Some(interaction) => {
-            let Interaction {
-                number: _,
-                name: _,
-                values,
-            } = interaction;
-            values
-        }
-    }
 }
 
 /// No statements.
@@ -148,16 +106,6 @@ fn begin(
     )
 }
 
-/// The initialization of the specification, if one is written.
-fn initialization<'b, 't>(bodies: &'b ModuleBodies<'t>) -> Option<&'b Initialization<'t>>
-    ensures { option_copied result ≡ option_map initialization_of (initialization bodies.now 0) }
-{
-    match bodies.get(0) {
-        None => None,
-        Some(body) => body.initialization.as_ref(),
-    }
-}
-
 /// The initialization of the specification, which does nothing where none is written.
 fn start(alloc: Global, program: &Program, budget: u32) -> Result<(Outcome, u32), AllocError>
     ensures { IfOk result (λ made. IsMadeBy program.now (start_run program.now budget) made.0 made.1) }
@@ -175,11 +123,6 @@ fn start(alloc: Global, program: &Program, budget: u32) -> Result<(Outcome, u32)
             begin(program, alloc, &routine, None, budget)
         }
     }
-}
-
-/// Where there is no such transition, nothing is asked.
-fn nothing(budget: u32) -> (Outcome, u32) {
-    (Outcome::Faulted(Fault::NoModule), budget)
 }
 
 /// The transition of a body, both by their numbers, for an instance of it.
@@ -216,17 +159,6 @@ fn fire(
                 )
             }
         },
-    }
-}
-
-/// The body of the instance with a path, if it is there.
-fn body_at(parts: &[Part], path: &Path) -> Option<u32>
-    requires { InOrder parts.now }
-    ensures { result ≡ option_map (λ i. i.body) (instance_in parts.now path.now) }
-{
-    match part_at(parts, path) {
-        Some(part) => Some(part.body),
-        None => None,
     }
 }
 

@@ -1,26 +1,24 @@
 //! Guards: `provided` and the delay (ISO/IEC 9074).
 
-ghost use Rattle.std.specs.Prelude.{◌≡◌, ◌-◌, ◌^◌, ◌&&◌, true, false, nat_abs, pos, Some};
-ghost use Rattle.std.specs.Int.RustNames.{int_le};
-ghost use Rattle.pascal_values.specs.Integers.{is_between};
+ghost use Rattle.std.specs.Prelude.{◌≡◌, false, Some};
 ghost use Rattle.estelle_model.specs.States.{Logged, on_log};
 ghost use Rattle.estelle_model.specs.Transitions.{Transition};
-ghost use Rattle.estelle_model.specs.Subject.{Subject, meant_with};
+ghost use Rattle.estelle_model.specs.Subject.{meant_with};
 ghost use Rattle.estelle_model.specs.Clauses as clauses;
 ghost use Rattle.estelle_model.specs.Expressions.{bool_step};
 ghost use Rattle.meaning_table.specs.Known.{meanings_of};
-ghost use Rattle.body_values.specs.Gives.{Gives};
 ghost use Rattle.body_state.specs.Follows.{Follows};
 ghost use Rattle.body_walker.specs.Runs.{clause_begins, bounds_step};
 
+use body_jobs::{at_once, from_both, from_one};
 use body_state::{ModuleBodies, Walk};
-use body_values::{Stop, are_values_of, bool_of, copy_values, int_of};
+use body_values::{Stop, are_values_of, bool_of, copy_values};
 use body_walker_blocks::clause;
 use estelle_model::Guard;
 use estelle_tree::{DelayHigh, Expr, Path, Sequence};
 use flat_transitions::{Delay, Transition};
 use meaning_table::Table;
-use pascal_values::{Fault, Value, Values};
+use pascal_values::{Value, Values};
 use std::alloc::Global;
 
 /// Begins a clause in a frame with what was received, which must be values of the transition's interaction.
@@ -94,72 +92,6 @@ fn provided(
     match transition.provided() {
         None => Ok(true),
         Some(node) => holds(table, bodies, alloc, walk, path, transition, values, node),
-    }
-}
-
-/// Whether a number is a moment of a delay.
-fn is_moment(n: i64) -> bool
-    ensures { result ≡ is_between (pos 0) (pos (2 ^ 31 - 1)) n }
-{
-    0 <= n && n <= 0x7fff_ffff
-}
-
-fn moment(n: i64) -> u32
-    requires { is_between (pos 0) (pos (2 ^ 31 - 1)) n ≡ true }
-    ensures { result ≡ nat_abs n }
-{
-    n.unsigned_abs() as u32
-}
-
-/// Whether two numbers are moments of a delay, the first no later than the second.
-fn are_moments(low: i64, high: i64) -> bool
-    ensures { result ≡ (is_between (pos 0) (pos (2 ^ 31 - 1)) low && (is_between (pos 0) (pos (2 ^ 31 - 1)) high && int_le low high)) }
-{
-    is_moment(low) && is_moment(high) && low <= high
-}
-
-fn between(low: i64, high: i64) -> Result<Guard, Stop>
-    ensures { (s : Subject) → Gives (clauses.between Logged on_log s low high) result }
-{
-    if !are_moments(low, high) {
-        return Err(Stop::Fault(Fault::DelayRange));
-    }
-    Ok(Guard::On {
-        low: moment(low),
-        high: Some(moment(high)),
-    })
-}
-
-fn from_on(low: i64) -> Result<Guard, Stop>
-    ensures { (s : Subject) → Gives (clauses.from_on Logged on_log s low) result }
-{
-    if !is_moment(low) {
-        return Err(Stop::Fault(Fault::DelayRange));
-    }
-    Ok(Guard::On {
-        low: moment(low),
-        high: None,
-    })
-}
-
-fn from_one(low: &Value) -> Result<Guard, Stop>
-    ensures { (s : Subject) → Gives (clauses.from_one Logged on_log s low.now) result }
-{
-    match int_of(low) {
-        Ok(low) => from_on(low),
-        Err(stop) => Err(stop),
-    }
-}
-
-fn from_both(low: &Value, high: &Value) -> Result<Guard, Stop>
-    ensures { (s : Subject) → Gives (clauses.from_both Logged on_log s low.now high.now) result }
-{
-    match int_of(low) {
-        Ok(low) => match int_of(high) {
-            Ok(high) => between(low, high),
-            Err(stop) => Err(stop),
-        },
-        Err(stop) => Err(stop),
     }
 }
 
@@ -263,16 +195,6 @@ fn delay(
             }
             waits(table, bodies, alloc, walk, path, transition, values, delay)
         }
-    }
-}
-
-/// The guard of a transition that may fire at once.
-pub(crate) fn at_once() -> Guard
-    ensures { (s : Subject) → result ≡ clauses.at_once Logged on_log s }
-{
-    Guard::On {
-        low: 0,
-        high: Some(0),
     }
 }
 

@@ -1,35 +1,29 @@
 //! Jobs and guards.
 
-ghost use Rattle.std.specs.Prelude.{◌≡◌, [], ◌&&◌, if◌then◌else◌, Some, IfOk};
+ghost use Rattle.std.specs.Prelude.{◌≡◌, ◌&&◌, if◌then◌else◌, Some, IfOk};
 ghost use Rattle.std.specs.Option.{option_copied};
 ghost use Rattle.estelle_model.specs.declared.job.Guard.TheVariants.{Off};
-ghost use Rattle.estelle_model.specs.States.{Logged};
-ghost use Rattle.estelle_model.specs.Steps.{Step};
-ghost use Rattle.estelle_model.specs.Clauses as clauses;
 ghost use Rattle.estelle_model.specs.Firing as firing;
 ghost use Rattle.estelle_model.specs.Jobs.{instance_of, Answers};
-ghost use Rattle.estelle_model.specs.Computed.{values_of, IsComputedOf};
+ghost use Rattle.estelle_model.specs.Computed.{IsComputedOf};
 ghost use Rattle.estelle_model.specs.Asked as asked;
 ghost use Rattle.estelle_model.specs.Subject.{meant_with};
 ghost use Rattle.meaning_table.specs.Known.{meanings_of};
-ghost use Rattle.body_state.specs.Progress.{Progress, running};
-ghost use Rattle.body_state.specs.Follows.{Follows};
 ghost use Rattle.body_state.specs.InOrder.{InOrder};
-ghost use Rattle.body_walker.specs.Jobs.{MayBeFired};
+ghost use Rattle.body_jobs.specs.Jobs.{MayBeFired};
 ghost use Rattle.body_walker.specs.Runs.{logged_guard};
 
 use crate::firing::compute;
 use crate::guards::guard;
-use crate::settling::{is_in_state, is_received};
+use body_jobs::{answered, is_in_state, is_received, lent_values};
 use body_program::{Program, with_choices};
 use body_state::{ModuleBodies, View, Walk};
-use body_values::Stop;
 use estelle_model::{Done, Guard, Interaction, Job, Part};
 use estelle_model_answers::{guards_are_answered, jobs_are_answered};
 use estelle_tree::{Path, SequenceMut};
 use flat_transitions::Transition;
 use meaning_table::Table;
-use pascal_values::{Fault, Values};
+use pascal_values::Values;
 use std::alloc::{AllocError, Global};
 
 /// Computes a job, in place of its image: each that meets the condition of a job (`IsJob`), and besides each whose parts stand in
@@ -59,29 +53,6 @@ pub fn fire_plain(alloc: Global, program: &Program, job: Job) -> Result<Done, Al
         outcome,
         left,
     })
-}
-
-/// The values of the interaction that is received, if one is.
-fn received_values<'i>(head: Option<&'i Interaction>, none: &'i Values) -> &'i Values
-    requires { none.now ≡ [] }
-    ensures { result.now ≡ values_of (option_copied head.entry) }
-{
-    match head {
-        None => none,
-        Some(interaction) => &interaction.values,
-    }
-}
-
-/// A guard as it is answered: a fault is an answer too, as which a broken rule is told.
-fn answered(guard: Result<Guard, Stop>) -> Result<Guard, AllocError>
-    ensures { (step : Step Logged Guard) (old new : Progress) → Follows step old guard new → IfOk result (λ answer. answer ≡ clauses.answered (step (running old))) }
-{
-    match guard {
-        Ok(guard) => Ok(guard),
-        Err(Stop::Fault(fault)) => Ok(Guard::Faulted(fault)),
-        Err(Stop::Broken) => Ok(Guard::Faulted(Fault::Unset)),
-        Err(Stop::Memory) => Err(AllocError),
-    }
 }
 
 /// `provided` and the delay on what a view shows. The table tells what names mean where those of `any` have values.
@@ -148,7 +119,7 @@ fn evaluated(
     ensures { IfOk result (λ answer. answer ≡ asked.guard_run program.now path.now view.now (option_copied head.entry) timed budget transition.now) }
 {
     let none = Values::none(alloc);
-    let values = received_values(head, &none);
+    let values = lent_values(head, &none);
     guard_of_choices(
         alloc, program, path, view, transition, values, timed, budget,
     )

@@ -14,7 +14,7 @@ use crate::limits::{Limits, Stepped};
 use crate::pending;
 use crate::putting::put_firing;
 use crate::systems::{first_due, note_in_all, wake_all};
-use body_walker::{Program, fire_plain};
+use body_walker::{ByTrees, Program, fire_plain};
 use delay_timers::Timers;
 use effect_log::{Notes, Shared, reserve_for};
 use estelle_model::{Done, End, Event, Out, Outcome, Pair};
@@ -261,13 +261,23 @@ impl<H: Chooser + Drop> Course<'_, H> {
         ensures refused { OnErr result (IsUnchanged self.old self.new) }
         ensures unclocked { IfOk result (λ done. done ≢ did.Ended ByClock) }
     {
+        let guards = ByTrees::of(&*self.program);
         let view = View {
             program: &*self.program,
+            guards: &guards,
             shared: &self.shared,
             timers: &self.timers,
             budget: self.limits.budget,
         };
-        match select(alloc, &view, &self.systems[at].path, now, &mut self.chooser) {
+        let chosen = select(alloc, &view, &self.systems[at].path, now, &mut self.chooser);
+        let View {
+            program: _,
+            guards: _,
+            shared: _,
+            timers: _,
+            budget: _,
+        } = view;
+        match chosen {
             Ok(Chosen { takes, wanted }) => self.put_selected(alloc, at, now, takes, &wanted),
             Err(SelectFault::Guard { path, trans, fault }) => {
                 Ok(self.fault(at, path, trans, fault))

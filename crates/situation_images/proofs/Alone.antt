@@ -29,8 +29,8 @@ use Rattle.estelle_model.proofs.PrivateParts.{same_path, body_of}
 use Rattle.body_state.specs.declared.bodies.ModuleBody.{ModuleBody}
 use Rattle.body_state.specs.Bodies.{module_body}
 use Rattle.body_state.proofs.StoreLemmas.{points_more}
-use Rattle.body_walker.specs.Roots.{root_part}
-use Rattle.body_walker.proofs.RootLemmas.{part_is}
+use Rattle.body_jobs.specs.Roots.{root_part}
+use Rattle.body_jobs.proofs.RootLemmas.{part_is}
 use Rattle.effect_log.specs.declared.shared.Shared.{Shared}
 use Rattle.effect_log.specs.Standing.{Stands, kept_of}
 use Rattle.effect_log.specs.Underway.{is_common_in, declared_all}

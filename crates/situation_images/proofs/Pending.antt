@@ -16,7 +16,7 @@ use Rattle.estelle_model.specs.Asked.{head_of}
 use Rattle.estelle_model_legality.specs.Situations.{IsLegal}
 use Rattle.estelle_model_legality.specs.Jobs.{item_of}
 use Rattle.body_state.specs.InOrder.{InOrder}
-use Rattle.body_walker.proofs.JobLemmas.{shown_in_order}
+use Rattle.body_jobs.proofs.JobLemmas.{shown_in_order}
 use Rattle.effect_log.specs.Standing.{kept_of}
 use Rattle.situation_images.specs.Instances.{IsTreeOf, IsOfBody, parts_of}
 use Rattle.situation_images.proofs.Found.{item_found}

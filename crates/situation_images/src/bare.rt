@@ -6,12 +6,12 @@ ghost use Rattle.estelle_model.specs.Firing.{bare};
 ghost use Rattle.module_tree.specs.Trees.{lone};
 ghost use Rattle.effect_log.specs.Standing.{Stands};
 ghost use Rattle.effect_log.specs.Underway.{declared_all};
-ghost use Rattle.body_walker.specs.Roots.{root_part};
+ghost use Rattle.body_jobs.specs.Roots.{root_part};
 ghost use Rattle.situation_images.specs.Instances.{IsTreeOf};
 ghost use Rattle.situation_images.specs.Starts.{root_points};
 
+use body_jobs::root_part;
 use body_program::Program;
-use body_walker::root_part;
 use effect_log::Shared;
 use estelle_model::{Interaction, Part};
 use estelle_tree::{IpAddr, Path};

@@ -9,8 +9,8 @@ ghost use Rattle.effect_log.specs.Standing.{Stands};
 
 use crate::heads::copied_head;
 use crate::images::image_of;
+use body_jobs::root_image;
 use body_program::Program;
-use body_walker::root_image;
 use effect_log::Shared;
 use estelle_model::{Interaction, Job, Pair};
 use estelle_tree::Path;

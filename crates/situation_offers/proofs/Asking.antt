@@ -17,7 +17,7 @@ use Rattle.estelle_model.proofs.PrivateParts.{inside_self, get_inside, core_priv
 use Rattle.estelle_model_legality.specs.Situations.{IsLegal}
 use Rattle.estelle_model_legality.specs.Jobs.{image_of}
 use Rattle.estelle_model_legality.proofs.Taken.{may_act}
-use Rattle.body_walker.specs.Settled.{HasPart}
+use Rattle.body_jobs.specs.Settled.{HasPart}
 use Rattle.situation_images.specs.Instances.{IsOfBody, IsPartOf}
 use Rattle.situation_offers.specs.Asked.{IsAnswer}
 

@@ -18,7 +18,7 @@ use Rattle.situation_offers.specs.declared.selection.SelectFault.TheVariants as 
 use Rattle.situation_offers.specs.Asked.{IsShown}
 
 -- the view is of this legal situation
-abbrev pub IsViewOf : Situation → View → Type 0
+abbrev pub IsViewOf : {G : Type 0} → Situation → View G → Type 0
 IsViewOf g view = IsShown view.program.now view.shared.now view.timers.now g
 
 -- ---- what is selected

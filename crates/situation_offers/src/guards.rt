@@ -19,8 +19,8 @@ ghost use Rattle.transition_select.specs.Countings.{AreCountablesOf};
 ghost use Rattle.situation_offers.specs.Guards as spec;
 ghost use Rattle.situation_offers.specs.Asked.{IsShown, MayBeAsked, IsAt, IsImageOf, IsAnswer, AreAll, IsCount, IsCountingOf, IsOffering};
 
+use body_jobs::{Guards, settled};
 use body_program::Program;
-use body_walker::{guard_plain, settled};
 use delay_timers::Timers;
 use effect_log::Shared;
 use estelle_model::{Attribute, Guard, Interaction, Part};
@@ -72,9 +72,10 @@ fn private_of<'s>(
 }
 
 /// The guard of a transition of an instance, by its private part, which is then held.
-fn evaluated<'s>(
+fn evaluated<'s, G: Guards>(
     alloc: Global,
     program: &Program,
+    guards: &G,
     shared: &'s Shared,
     path: &Path,
     trans: u32,
@@ -83,27 +84,20 @@ fn evaluated<'s>(
     budget: u32,
     held: &mut Option<Private<'s>>,
 ) -> Result<Guard, AllocError>
+    requires guards { G.subject guards.now ≡ program.now }
     ensures { (g : Situation) → Stands program.now shared.now g → IsLegal program.now g → IfSome held.old (IsImageOf program.now g path.now) → IfOk result (λ answer. IsAnswer program.now budget g path.now trans (option_copied head.entry) timed answer × IfSome held.new (IsImageOf program.now g path.now)) }
 {
     let private = private_of(alloc, program, shared, path, held.take())?;
-    let answer = guard_plain(
-        alloc,
-        program,
-        path,
-        &private.view(),
-        trans,
-        head,
-        timed,
-        budget,
-    )?;
+    let answer = guards.guard(alloc, path, &private.view(), trans, head, timed, budget)?;
     *held = Some(private);
     Ok(answer)
 }
 
 /// The guard of a transition of an instance. Its private part is read where something has to be evaluated, once for all transitions.
-pub(crate) fn guard_of<'s>(
+pub(crate) fn guard_of<'s, G: Guards>(
     alloc: Global,
     program: &Program,
+    guards: &G,
     shared: &'s Shared,
     timers: &Timers,
     part: &Part,
@@ -111,6 +105,7 @@ pub(crate) fn guard_of<'s>(
     budget: u32,
     held: &mut Option<Private<'s>>,
 ) -> Result<Guard, AllocError>
+    requires guards { G.subject guards.now ≡ program.now }
     ensures { (g : Situation) → IsShown program.now shared.now timers.now g → IsPartOf g part.now → IfSome held.old (IsImageOf program.now g part.now.path) → IfOk result (λ answer. (answer ≡ guard program.now budget g part.now.path trans) × IfSome held.new (IsImageOf program.now g part.now.path)) }
 {
     let head = found_head(alloc, program, shared, &part.path, part.body, trans)?;
@@ -118,7 +113,7 @@ pub(crate) fn guard_of<'s>(
     match settled(program, part, trans, head, timed) {
         Some(answer) => Ok(answer),
         None => evaluated(
-            alloc, program, shared, &part.path, trans, head, timed, budget, held,
+            alloc, program, guards, shared, &part.path, trans, head, timed, budget, held,
         ),
     }
 }
@@ -266,9 +261,10 @@ fn want_if(
 }
 
 /// Asks each guard of an instance, in the order of its transitions.
-fn count_all(
+fn count_all<G: Guards>(
     alloc: Global,
     program: &Program,
+    guards: &G,
     shared: &Shared,
     timers: &Timers,
     part: &Part,
@@ -276,6 +272,7 @@ fn count_all(
     budget: u32,
     wanted: &mut Vec<Wanted>,
 ) -> Result<Count, AllocError>
+    requires guards { G.subject guards.now ≡ program.now }
     ensures { (g : Situation) (system : Seen) → MayBeAsked program.now shared.now timers.now g system → IsAt g system part.now → IfOk result (IsCount program.now budget g system now part.now.path wanted.old.items wanted.new.items) }
 {
     let path = &part.path;
@@ -285,7 +282,7 @@ fn count_all(
     for index in 0..program.transitions(body) {
         let trans = index + 1;
         let answer = guard_of(
-            alloc, program, shared, timers, part, trans, budget, &mut held,
+            alloc, program, guards, shared, timers, part, trans, budget, &mut held,
         )?;
         if let Guard::Faulted(kind) = answer {
             return Ok(Count::Faults { trans, kind });
@@ -338,15 +335,17 @@ fn faulted(alloc: Global, path: &Path, trans: u32, kind: Fault) -> Result<Offeri
 }
 
 /// Asks the guards of instances, one after another.
-fn ask_each(
+fn ask_each<G: Guards>(
     alloc: Global,
     program: &Program,
+    guards: &G,
     shared: &Shared,
     timers: &Timers,
     parts: &[&Part],
     now: u64,
     budget: u32,
 ) -> Result<Offering, AllocError>
+    requires guards { G.subject guards.now ≡ program.now }
     ensures { (g : Situation) (system : Seen) → MayBeAsked program.now shared.now timers.now g system → AreAll g system (each (λ r. r.now) parts.now) → IfOk result (IsOffering program.now budget g system now) }
 {
     let mut counts = Vec::new(alloc);
@@ -355,6 +354,7 @@ fn ask_each(
         let count = count_all(
             alloc,
             program,
+            guards,
             shared,
             timers,
             part,
@@ -376,19 +376,21 @@ fn ask_each(
 /// once its timers are renewed at the moment `now`. The timers stay as they are. Where no guard of an instance has to be evaluated, only its
 /// own record and the heads of its queues are read; else it takes the time of the instances at and below it and of all links, and the
 /// memory of a reference to each of those instances and of the links that they made, once for all its guards.
-pub fn ask(
+pub fn ask<G: Guards>(
     alloc: Global,
     program: &Program,
+    guards: &G,
     shared: &Shared,
     timers: &Timers,
     system: &Path,
     now: u64,
     budget: u32,
 ) -> Result<Offering, AllocError>
+    requires guards { G.subject guards.now ≡ program.now }
     ensures { (g : Situation) → Stands program.now shared.now g → IsLegal program.now g → timers.now ≡ g.timers → IsSystem program.now g system.now → IfOk result (IsOffering program.now budget g system.now now) }
 {
     match shared.tree.below(alloc, system) {
-        Ok(parts) => ask_each(alloc, program, shared, timers, &parts, now, budget),
+        Ok(parts) => ask_each(alloc, program, guards, shared, timers, &parts, now, budget),
         // The system is there.
         Err(_) => Err(AllocError),
     }

@@ -14,6 +14,7 @@ ghost use Rattle.situation_offers.specs.declared.selection.SelectFault.TheVarian
 ghost use Rattle.situation_offers.specs.Selections.{IsViewOf, IsSelection, IsRefusal, LeavesChooser, EnablesSome, SomeIsEnabled};
 
 use crate::guards::{Offering, ask, guard_of};
+use body_jobs::Guards;
 use body_program::Program;
 use delay_timers::Timers;
 use effect_log::Shared;
@@ -24,10 +25,12 @@ use pascal_values::Fault;
 use std::alloc::{AllocError, Global};
 use transition_select::{Counting, choose, offers_of};
 
-/// A situation as guards are asked in it: the specification, the stores and the timers, and the units that each guard has.
-#[derive(Clone, Copy)]
-pub struct View<'a> {
+/// A situation as guards are asked in it: the specification, who evaluates its guards, the stores and the timers, and the units
+/// that each guard has.
+#[derive(Drop)]
+pub struct View<'a, G> {
     pub program: &'a Program<'a>,
+    pub guards: &'a G,
     pub shared: &'a Shared,
     pub timers: &'a Timers,
     pub budget: u32,
@@ -79,13 +82,14 @@ fn takes_of<H: Chooser>(
 /// parent priority, `delay` clauses). The timers stay as they are. Each guard at and below the system is asked once, up to the
 /// first that faults, and then nobody asks the chooser. Where memory runs out behind the guards, the chooser may have been
 /// asked. It takes the time of `ask` and of `choose`.
-pub fn select<H: Chooser>(
+pub fn select<G: Guards, H: Chooser>(
     alloc: Global,
-    view: &View,
+    view: &View<G>,
     system: &Path,
     now: u64,
     chooser: &mut H,
 ) -> Result<Chosen, SelectFault>
+    requires guards { G.subject view.now.guards.now ≡ view.now.program.now }
     ensures selected { (g : Situation) → IsViewOf g view.now → IsSystem view.now.program.now g system.now → IfOk result (λ chosen. IsSelection H.draw view.now.program.now view.now.budget g system.now now chooser.old chooser.new chosen.takes.items chosen.wanted.items) }
     ensures refused { (g : Situation) → IsViewOf g view.now → IsSystem view.now.program.now g system.now → IfErr result (IsRefusal view.now.program.now view.now.budget g system.now) }
     ensures unasked { IfErr result (LeavesChooser chooser.old chooser.new) }
@@ -93,6 +97,7 @@ pub fn select<H: Chooser>(
     let offering = ask(
         alloc,
         view.program,
+        view.guards,
         view.shared,
         view.timers,
         system,
@@ -122,7 +127,8 @@ fn is_on(answer: Guard) -> bool
 }
 
 /// Whether some transition of an instance is enabled.
-fn enables_some(alloc: Global, view: &View, part: &Part) -> Result<bool, AllocError>
+fn enables_some<G: Guards>(alloc: Global, view: &View<G>, part: &Part) -> Result<bool, AllocError>
+    requires guards { G.subject view.now.guards.now ≡ view.now.program.now }
     ensures { (g : Situation) → IsViewOf g view.now → IsPartOf g part.now → IfOk result (λ some. IsTrue some ↔ EnablesSome view.now.program.now view.now.budget g part.now.path) }
 {
     let program = view.program;
@@ -131,6 +137,7 @@ fn enables_some(alloc: Global, view: &View, part: &Part) -> Result<bool, AllocEr
         let answer = guard_of(
             alloc,
             program,
+            view.guards,
             view.shared,
             view.timers,
             part,
@@ -149,7 +156,8 @@ fn enables_some(alloc: Global, view: &View, part: &Part) -> Result<bool, AllocEr
 /// Whether some transition of some instance is enabled, with or without a delay (ISO/IEC 9074: enabled transitions). A guard that
 /// faults enables nothing. Guards are asked in path order and in the order of transitions, up to the first that is enabled. An
 /// error is want of memory.
-pub fn any_enabled(alloc: Global, view: &View) -> Result<bool, AllocError>
+pub fn any_enabled<G: Guards>(alloc: Global, view: &View<G>) -> Result<bool, AllocError>
+    requires guards { G.subject view.now.guards.now ≡ view.now.program.now }
     ensures { (g : Situation) → IsViewOf g view.now → IfOk result (λ any. IsTrue any ↔ SomeIsEnabled view.now.program.now view.now.budget g) }
 {
     let root = Path::root(alloc);

@@ -4,7 +4,7 @@ ghost use Rattle.std.specs.Prelude.{◌≡◌, ◌+◌, ◌∷◌, [], ℕ, ◌-
 ghost use Rattle.module_tree.specs.Trees.{births_at};
 
 use crate::firings::LastChooser;
-use body_walker::Program;
+use body_walker::{ByTrees, Program};
 use delay_timers::Timers;
 use effect_log::Shared;
 use estelle_model::Part;
@@ -267,7 +267,14 @@ fn write_refusal(out: &mut String, refusal: &SelectFault) -> Result<(), AllocErr
 }
 
 /// Whether this is what the system selects at the moment 10.
-fn selects<H: Chooser + Drop>(alloc: Global, view: &View, mut chooser: H, wanted: &str) -> bool {
+fn selects<H: Chooser + Drop>(
+    alloc: Global,
+    view: &View<ByTrees>,
+    mut chooser: H,
+    wanted: &str,
+) -> bool
+    requires { view.now.guards.now ≡ view.now.program.now }
+{
     let mut out = String::new(alloc);
     let written = match select(alloc, view, &Path::root(alloc), 10, &mut chooser) {
         Ok(chosen) => write_chosen(&mut out, &chosen),
@@ -276,7 +283,9 @@ fn selects<H: Chooser + Drop>(alloc: Global, view: &View, mut chooser: H, wanted
     written.is_ok() && out.as_str() == wanted
 }
 
-fn enables(alloc: Global, view: &View, wanted: Option<bool>) -> bool {
+fn enables(alloc: Global, view: &View<ByTrees>, wanted: Option<bool>) -> bool
+    requires { view.now.guards.now ≡ view.now.program.now }
+{
     match wanted {
         None => true,
         Some(any) => any_enabled(alloc, view) == Ok(any),
@@ -287,8 +296,10 @@ fn is_so(alloc: Global, program: &Program, timers: &Timers, row: &Row) -> bool {
     let (first, second, by_first, by_last, enabled) = row;
     match shared(alloc, *first, *second) {
         Ok(shared) => {
+            let guards = ByTrees::of(program);
             let view = View {
                 program: &*program,
+                guards: &guards,
                 shared: &shared,
                 timers: &*timers,
                 budget: 5,

@@ -10,7 +10,8 @@ ghost use Rattle.situation_images.specs.Putting.{MayBePut, IsPutIn};
 ghost use Rattle.trace_check.specs.Replays.{IsFresh, IsOf, HasBegun};
 
 use crate::replay::{Replay, fault_in};
-use body_walker::{Program, fire_plain};
+use body_program::Program;
+use body_walker::fire_plain;
 use delay_timers::Timers;
 use effect_log::Notes;
 use estelle_model::{Done, Event, Out};

@@ -8,6 +8,7 @@ ghost use Rattle.transition_select.specs.declared.countings.Counting.{Counting a
 use crate::equality::same_kind;
 use crate::replay::Replay;
 use crate::systems::is_system;
+use body_walker::ByTrees;
 use estelle_model::End;
 use estelle_tree::Path;
 use selection_check::Counting;
@@ -39,6 +40,7 @@ impl Replay<'_> {
         let offering = ask(
             alloc,
             self.program,
+            &ByTrees::of(self.program),
             &self.shared,
             &self.timers,
             system,

@@ -15,7 +15,8 @@ use crate::equality::{same_drops, same_fault, same_kind, same_outs};
 use crate::pending;
 use crate::putting::put_event;
 use crate::systems::is_system;
-use body_walker::{Program, fire_plain};
+use body_program::Program;
+use body_walker::{ByTrees, fire_plain};
 use delay_timers::Timers;
 use effect_log::{Notes, Shared, reserve_for};
 use estelle_model::{Done, Event, Out, Outcome, Pair};
@@ -96,6 +97,7 @@ impl Replay<'_> {
         let offering = ask(
             alloc,
             self.program,
+            &ByTrees::of(self.program),
             &self.shared,
             &self.timers,
             system,
@@ -311,6 +313,7 @@ impl Replay<'_> {
         let offering = ask(
             alloc,
             self.program,
+            &ByTrees::of(self.program),
             &self.shared,
             &self.timers,
             system,

@@ -3,7 +3,7 @@ use Rattle.estelle_model.specs.Subject.{Subject, meant}
 use Rattle.estelle_model.specs.Firing.{bare}
 use Rattle.estelle_model.specs.Computed.{core_of}
 use Rattle.meaning_table.specs.Known.{meanings_of}
-use Rattle.body_walker.proofs.RootLemmas.{root_core, root_in_order}
+use Rattle.body_jobs.proofs.RootLemmas.{root_core, root_in_order}
 use Rattle.body_walker.proofs.FiringLemmas.{made_as}
 use Rattle.body_walker.proofs.firing.begin.Goals as goal
 

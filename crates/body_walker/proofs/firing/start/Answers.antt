@@ -2,7 +2,8 @@ use Rattle.std.proofs.Common.{◌∙◌, ap}
 use Rattle.std.specs.Prelude.{option_map}
 use Rattle.estelle_model.specs.Subject.{Subject, initialization}
 use Rattle.body_state.specs.Bodies.{initialization_of}
-use Rattle.body_walker.proofs.FiringLemmas.{begun_some, started}
+use Rattle.body_jobs.proofs.StartLemmas.{begun_some}
+use Rattle.body_walker.proofs.FiringLemmas.{started}
 use Rattle.body_walker.proofs.firing.start.Goals as goal
 
 pub returns-in-Some : goal.returns-in-Some

@@ -1,4 +1,4 @@
-use Rattle.body_walker.proofs.GuardAnswers.{chosen_guard}
+use Rattle.body_walker.proofs.ChosenGuards.{chosen_guard}
 use Rattle.body_walker.proofs.plain.guard_of_choices.Goals as goal
 
 pub returns : goal.returns

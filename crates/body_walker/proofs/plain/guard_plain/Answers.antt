@@ -2,7 +2,7 @@ use Rattle.std.proofs.Common.{None}
 use Rattle.std.specs.Option.{option_copied}
 use Rattle.estelle_model.specs.declared.job.Guard.TheVariants.{Off}
 use Rattle.estelle_model.specs.Jobs.{instance_of}
-use Rattle.body_walker.proofs.GuardAnswers.{of_image, answers_of, computed_result, answers_result}
+use Rattle.body_jobs.proofs.GuardAnswers.{of_image, answers_of, computed_result, answers_result}
 use Rattle.body_walker.proofs.plain.guard_plain.Goals as goal
 
 pub returns-in-None-clause-computed : goal.returns-in-None-clause-computed

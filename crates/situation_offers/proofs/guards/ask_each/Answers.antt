@@ -12,10 +12,10 @@ use Rattle.situation_offers.proofs.Walking.{mapped_at, one_more, first_fault, al
 use Rattle.situation_offers.proofs.guards.ask_each.Goals as goal
 
 pub loop-part-init : goal.loop-part-init
-loop-part-init c = λ g system of all. record { paths = ap (each (λ (d : Counting). d.path)) c.new-counts.ensures.items; countings = subst (AllByRecursion (IsCounting c.args.program.now c.args.budget (renew c.args.program.now c.args.budget g system c.args.now))) (sym c.new-counts.ensures.items) tt; wanted = c.new-wanted.ensures.items; sound = tt }
+loop-part-init t c = λ g system of all. record { paths = ap (each (λ (d : Counting). d.path)) c.new-counts.ensures.items; countings = subst (AllByRecursion (IsCounting c.args.program.now c.args.budget (renew c.args.program.now c.args.budget g system c.args.now))) (sym c.new-counts.ensures.items) tt; wanted = c.new-wanted.ensures.items; sound = tt }
 
 pub returns-in-Faults : goal.returns-in-Faults
-returns-in-Faults c = λ g system of all.
+returns-in-Faults t c = λ g system of all.
     let s = c.args.program.now in
     let xs = c.args.parts.now in
     let k = c.loop-part.part-index in
@@ -27,7 +27,7 @@ returns-in-Faults c = λ g system of all.
     (sym (map-map (λ (p : Part). p.path) (λ (r : Bor Part). r.now) xs) ∙ all.paths) c.part-item.result c.loop-part-test.true c.part-item.is at.inside c.in-Faults.trans c.in-Faults.kind first)
 
 pub loop-part-preserved : goal.loop-part-preserved
-loop-part-preserved c = λ g system of all.
+loop-part-preserved t c = λ g system of all.
     let s = c.args.program.now in
     let xs = c.args.parts.now in
     let k = c.loop-part.part-index in
@@ -39,6 +39,6 @@ loop-part-preserved c = λ g system of all.
     c.part-item.result c.loop-part-test.true c.part-item.is c.in_ok-counting-in-Counts.field-0 its.path its.counting count.1 _ count.2 c.push.new.self.items c.in_ok-push-in-Counts.ensures.items
 
 pub returns : goal.returns
-returns c = λ g system of all.
+returns t c = λ g system of all.
     all_asked (λ (r : Bor Part). r.now.path) c.args.program.now c.args.budget g system c.args.now c.args.parts.now c.loop-part.part-index c.loop-part.counts.items _ (c.loop-part.invariant g system of all)
     (sym (map-map (λ (p : Part). p.path) (λ (r : Bor Part). r.now) c.args.parts.now) ∙ all.paths) (system_there c.args.program.now g system of.is_system) c.loop-part-test.false

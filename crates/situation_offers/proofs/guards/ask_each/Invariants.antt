@@ -6,5 +6,5 @@ use Rattle.situation_offers.specs.Asked.{MayBeAsked, AreAll}
 use Rattle.situation_offers.proofs.guards.ask_each.Given as goal
 
 abbrev pub invariant-loop-part : goal.invariant-loop-part
-invariant-loop-part l = (g : Situation) (system : Path) → MayBeAsked l.program l.shared l.timers g system → AreAll g system (each (λ r. r.now) l.parts)
+invariant-loop-part t l = (g : Situation) (system : Path) → MayBeAsked l.program l.shared l.timers g system → AreAll g system (each (λ r. r.now) l.parts)
     → HaveCounted l.program l.budget g system l.now (each (λ r. r.now.path) (take l.part-index l.parts)) l.counts.items l.wanted.items

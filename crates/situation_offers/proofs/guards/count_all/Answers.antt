@@ -9,19 +9,19 @@ use Rattle.situation_offers.proofs.Counting.{none_counted, counted_more, first_h
 use Rattle.situation_offers.proofs.guards.count_all.Goals as goal
 
 pub loop-index-init : goal.loop-index-init
-loop-index-init c = λ g system of at. (
+loop-index-init t c = λ g system of at. (
   subst (λ cs. AreCountedTo c.args.program.now c.args.budget g system c.args.now c.args.part.now.path 0 cs c.args.wanted.now.items c.args.wanted.now.items) (sym c.new-counted.ensures.items)
       (none_counted c.args.program.now c.args.budget g system c.args.now c.args.part.now.path c.args.wanted.now.items),
   tt,
 )
 
 pub returns-in-Faulted : goal.returns-in-Faulted
-returns-in-Faulted c = λ g system of at.
+returns-in-Faulted t c = λ g system of at.
     first_here c.args.program.now c.args.budget g system c.args.now c.args.part.now.path c.loop-index.index c.loop-index.counted.items _ _ c.in-Faulted.kind
     (c.loop-index.invariant g system of at).0 (sym (c.in_ok-answer.ensures g of.shown at.of_instance (c.loop-index.invariant g system of at).1).0 ∙ c.in-Faulted.is)
 
 pub loop-index-preserved : goal.loop-index-preserved
-loop-index-preserved c = λ g system of at.
+loop-index-preserved t c = λ g system of at.
     let s = c.args.program.now in
     let m = c.args.part.now.path in
     let n = c.loop-index.index + 1 in
@@ -38,7 +38,7 @@ loop-index-preserved c = λ g system of at.
     )
 
 pub returns : goal.returns
-returns c = λ g system of at.
+returns t c = λ g system of at.
     let s = c.args.program.now in
     let is = body_of g c.args.part.now at.of_instance in
     let end : c.loop-index.index ≡ c.transitions-index-end.result = omega (arith, c.loop-index.auto.index-end, c.loop-index-test.false) in

@@ -9,7 +9,7 @@ use Rattle.situation_offers.proofs.Asking.{guard_is, part_shown, body_of}
 use Rattle.situation_offers.proofs.guards.guard_of.Goals as goal
 
 pub returns-in-Some : goal.returns-in-Some
-returns-in-Some c = λ g of is shown.
+returns-in-Some t c = λ g of is shown.
     let s = c.args.program.now in
     let part = c.args.part.now in (
       guard_is s c.args.budget g part.path c.args.trans (option_copied c.in_ok-head.head) c.has-timed.result c.in-Some.answer of.legal (c.in_ok-head.ensures g of.stands of.legal (body_of g part is))
@@ -19,7 +19,7 @@ returns-in-Some c = λ g of is shown.
     )
 
 pub returns-in-None : goal.returns-in-None
-returns-in-None c = λ g of is shown.
+returns-in-None t c = λ g of is shown.
     let part = c.args.part.now in
     IfOk-weaker c.evaluated.result _ _
     (λ answer its. (

@@ -12,7 +12,7 @@ use Rattle.situation_offers.proofs.Enabled.{NoneOf, one_of_all, none_here_of, no
 use Rattle.situation_offers.proofs.selection.any_enabled.Goals as goal
 
 pub returns-then-some : goal.returns-then-some
-returns-then-some c = λ g of.
+returns-then-some t c = λ g of.
     let s = c.args.view.now.program.now in
     let xs = c.deref-part-items.result.now in
     let part = c.part-item.result.now in
@@ -22,7 +22,7 @@ returns-then-some c = λ g of.
     one_of_all s c.args.view.now.budget g part.path c.in_ok-some.some (c.in_ok-some.ensures g of at.of_instance) c.if-some.true
 
 pub loop-part-preserved : goal.loop-part-preserved
-loop-part-preserved c = λ g of.
+loop-part-preserved t c = λ g of.
     let s = c.args.view.now.program.now in
     let b = c.args.view.now.budget in
     let xs = c.deref-part-items.result.now in
@@ -35,7 +35,7 @@ loop-part-preserved c = λ g of.
     (none_here_of s b g part.path c.in_ok-some.some (c.in_ok-some.ensures g of at.of_instance) c.if-some.false))
 
 pub returns : goal.returns
-returns c = λ g of.
+returns t c = λ g of.
     let s = c.args.view.now.program.now in
     let b = c.args.view.now.budget in
     let xs = c.deref-part-items.result.now in

@@ -7,4 +7,4 @@ use Rattle.situation_offers.proofs.selection.any_enabled.Given as goal
 
 -- no transition of the instances so far is enabled
 abbrev pub invariant-loop-part : goal.invariant-loop-part
-invariant-loop-part l = (g : Situation) → IsViewOf g l.view → AllByRecursion (NoneOf l.view.program.now l.view.budget g) (each (λ r. r.now.path) (take l.part-index l.part-items))
+invariant-loop-part t l = (g : Situation) → IsViewOf g l.view → AllByRecursion (NoneOf l.view.program.now l.view.budget g) (each (λ r. r.now.path) (take l.part-index l.part-items))

@@ -6,21 +6,21 @@ use Rattle.situation_offers.proofs.Enabled.{NoneTo, none_first, none_more, one_h
 use Rattle.situation_offers.proofs.selection.enables_some.Goals as goal
 
 pub loop-index-init : goal.loop-index-init
-loop-index-init c = λ g of is. (none_first c.args.view.now.program.now c.args.view.now.budget g c.args.part.now.path, tt)
+loop-index-init t c = λ g of is. (none_first c.args.view.now.program.now c.args.view.now.budget g c.args.part.now.path, tt)
 
 pub returns-then-enabled : goal.returns-then-enabled
-returns-then-enabled c = λ g of is.
+returns-then-enabled t c = λ g of is.
     let its = c.in_ok-answer.ensures g of is (c.loop-index.invariant g of is).1 in
     one_here c.args.view.now.program.now c.args.view.now.budget g c.args.part.now.path (c.loop-index.index + 1) c.in_ok-answer.answer its.0 (sym c.is_on-enabled.ensures ∙ c.if-enabled.true)
 
 pub loop-index-preserved : goal.loop-index-preserved
-loop-index-preserved c = λ g of is.
+loop-index-preserved t c = λ g of is.
     let its = c.in_ok-answer.ensures g of is (c.loop-index.invariant g of is).1 in
     let off : is_on c.in_ok-answer.answer ≡ false = sym c.is_on-enabled.ensures ∙ c.if-enabled.false in
     (none_more c.args.view.now.program.now c.args.view.now.budget g c.args.part.now.path c.loop-index.index c.in_ok-answer.answer (c.loop-index.invariant g of is).0 its.0 off, its.1)
 
 pub returns : goal.returns
-returns c = λ g of is.
+returns t c = λ g of is.
     let s = c.args.view.now.program.now in
     let b = c.args.view.now.budget in
     let m = c.args.part.now.path in

@@ -8,4 +8,4 @@ use Rattle.situation_offers.proofs.selection.enables_some.Given as goal
 
 -- none of the transitions so far is enabled, and what is held of the private part is that of the instance
 abbrev pub invariant-loop-index : goal.invariant-loop-index
-invariant-loop-index l = (g : Situation) → IsViewOf g l.view → IsPartOf g l.part → NoneTo l.view.program.now l.view.budget g l.part.path l.index × IfSome l.held (IsImageOf l.view.program.now g l.part.path)
+invariant-loop-index t l = (g : Situation) → IsViewOf g l.view → IsPartOf g l.part → NoneTo l.view.program.now l.view.budget g l.part.path l.index × IfSome l.held (IsImageOf l.view.program.now g l.part.path)
