@@ -1,0 +1,4 @@
+pub mod Growth
+pub mod Parts
+pub mod Counts
+pub mod Whole

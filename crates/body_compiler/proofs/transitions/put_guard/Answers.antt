@@ -1,0 +1,14 @@
+use Rattle.std.proofs.Common.{◌*◌, ◌+◌}
+use Rattle.std.proofs.Common.{refl, ap, inr, arith}
+use Rattle.body_code.specs.declared.unit.Entry.TheVariants as entry
+use Rattle.body_code.specs.Units.{entry_of}
+use Rattle.body_compiler.proofs.Growth.{comes, has_clause}
+use Rattle.body_compiler.proofs.transitions.put_guard.Goals as goal
+
+pub returns : goal.returns
+returns c =
+    let t = c.args.trans in
+    record {
+      comes = comes c.args.units.now c.push.new.self c.in_ok-unit.unit c.args.body 2 (3 * t) c.requires c.in_ok-push.ensures (entry.Guard t) (ap entry_of c.in_ok-unit.ensures.heading) (inr (refl, omega arith)) 2 (3 * t + 1) (inr (refl, omega arith));
+      has = has_clause c.args.units.now c.push.new.self c.in_ok-unit.unit c.args.body 2 (3 * t) c.requires c.in_ok-push.ensures (entry.Guard t) (ap entry_of c.in_ok-unit.ensures.heading) (inr (refl, omega arith)) _ _ c.in_ok-unit.ensures.unit;
+    }
