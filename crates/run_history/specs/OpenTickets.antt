@@ -1,11 +1,14 @@
 -- Open tickets as a list: what workers took and have not settled yet, in the order in which they took it.
-use Rattle.std.specs.Prelude.{◌≡◌, ◌≢◌, ◌↔◌, ℕ, ◌+◌, ◌<◌, true, not, List, [], ◌∷◌, ◌++◌, length, fold, filter, All, AllPairs, Contains}
-use Rattle.std.specs.List.{list_any}
+use Rattle.std.specs.Prelude.{◌≡◌, ◌≢◌, ◌↔◌, ℕ, ◌+◌, ◌<◌, true, false, not, List, [], ◌∷◌, ◌++◌, length, fold, filter, All, AllPairs, Contains}
+use Rattle.std.specs.List.{list_any, AllByRecursion}
+use Rattle.estelle_tree.specs.Paths.{Path}
 use Rattle.estelle_tree.specs.Timers.{pair}
 use Rattle.estelle_tree.specs.declared.transition.Pair.{Pair}
 use Rattle.estelle_model.specs.declared.job.Job.{Job}
 use Rattle.estelle_model.specs.Subject.{Subject}
-use Rattle.estelle_model.specs.Runs.{same_pair, situation}
+use Rattle.estelle_model.specs.declared.effect.Out.{Out}
+use Rattle.estelle_model.specs.declared.event.Event.TheVariants as event
+use Rattle.estelle_model.specs.Runs.{same_pair, without, situation}
 use Rattle.run_history.specs.declared.entry.Entry.{Entry}
 use Rattle.run_history.specs.declared.entry.Taken.{Taken}
 use Rattle.run_history.specs.declared.entry.What.{What}
@@ -26,6 +29,11 @@ open_in es = fold (λ os e. after_what e.by e.what os) [] es
 -- of what is pending, what nobody has taken
 abbrev pub untaken : List Taken → List Pair → List Pair
 untaken os ps = filter (λ p. not (list_any (λ o. same_pair (pair o.path o.trans) p) os)) ps
+
+-- no firing stands twice in the list
+abbrev pub AreOnce : List Pair → Type 0
+AreOnce [] = Unit {0}
+AreOnce (p ∷ ps) = AllByRecursion (λ q. same_pair p q ≡ false) ps × AreOnce ps
 
 -- ---- laws
 
@@ -53,3 +61,19 @@ TicketsStayOpen = (s : Subject) (budget : ℕ) (es more : List Entry) (o : Taken
 -- the job of a ticket stays the same, whatever is noted later
 abbrev pub JobsStay : Type 0
 JobsStay = (s : Subject) (budget : ℕ) (es more : List Entry) (job : Job) → IsJobOf s budget es job → IsJobOf s budget (es ++ more) job
+
+-- ---- what nobody has taken
+
+-- a take takes its firing out of it
+abbrev pub TakesLeave : Type 0
+TakesLeave = (os : List Taken) (o : Taken) (ps : List Pair) → AreOnce ps → untaken (after_what o.by (what.Take o.ticket o.path o.trans) os) ps ≡ without (pair o.path o.trans) (untaken os ps)
+
+-- a firing that was taken leaves it as it is
+abbrev pub FiringsLeave : Type 0
+FiringsLeave = (os : List Taken) (p : Pair) (outs : List Out) (drops : List ℕ) (by : ℕ) (ps : List Pair) → list_any (λ o. same_pair (pair o.path o.trans) p) os ≡ true → AreOnce ps
+    → untaken (after_what by (what.Event (event.Fire p.path p.trans outs drops)) os) (without p ps) ≡ untaken os ps
+
+-- what a system selects, of which nothing was taken, comes behind it
+abbrev pub SelectionsLeave : Type 0
+SelectionsLeave = (os : List Taken) (by : ℕ) (system : Path) (now : ℕ) (ps takes : List Pair) → AllByRecursion (λ p. list_any (λ o. same_pair (pair o.path o.trans) p) os ≡ false) takes
+    → untaken (after_what by (what.Event (event.Select system now takes)) os) (ps ++ takes) ≡ untaken os ps ++ takes

@@ -1,6 +1,6 @@
 //! Laws on tickets: their contracts are the laws, and they do nothing.
 
-ghost use Rattle.run_history.specs.OpenTickets.{OpenTicketsAreListed, OpenTicketsRise, TicketsGoOn, TicketsStayOpen, JobsStay};
+ghost use Rattle.run_history.specs.OpenTickets.{OpenTicketsAreListed, OpenTicketsRise, TicketsGoOn, TicketsStayOpen, JobsStay, TakesLeave, FiringsLeave, SelectionsLeave};
 
 /// The open tickets of any entries are those of the list `open_in`, in order.
 pub fn open_tickets_are_listed()
@@ -17,4 +17,12 @@ pub fn tickets_go_on()
 pub fn still_open()
     ensures open { TicketsStayOpen }
     ensures job_carries { JobsStay }
+{}
+
+/// What is pending and was not taken: a take takes its firing out of it, a firing that was taken leaves it as it is, and what a
+/// system selects comes behind it.
+pub fn untaken_go_on()
+    ensures takes { TakesLeave }
+    ensures firings { FiringsLeave }
+    ensures selections { SelectionsLeave }
 {}
