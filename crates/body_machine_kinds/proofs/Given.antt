@@ -23,8 +23,8 @@ use Rattle.body_machine.specs.declared.item.Item.{Item}
 use Rattle.body_machine.specs.declared.item.Item.TheVariants.{Datum, Spot}
 use Rattle.body_machine.specs.Frames.{blanks_of, frame_with, push_frame, pop_frame, deeper_than}
 use Rattle.body_machine.specs.Steps.{given_one, given_to}
-use Rattle.body_machine_kinds.specs.Kinds.{Kind, PlaceOf, is_of_values, kind_of}
-use Rattle.body_machine_kinds.specs.Kinded.{local_kind, has_references}
+use Rattle.body_kinds.specs.Kinds.{Kind, PlaceOf, is_of_values, kind_of}
+use Rattle.body_kinds.specs.Kinded.{local_kind, has_references}
 use Rattle.body_machine_kinds.specs.Typed.{Bodies, Grows, Frames, value_shapes, reference_shapes, is_held, IsFrame, AreFrames, IsPlaceOf, IsSpotOf, HasKind, HaveKinds, ArePlaces, IsRunning}
 use Rattle.body_machine_kinds.specs.Laws.{AreLeft}
 use Rattle.body_machine_kinds.proofs.Parts.{belongs_held, kind_held}

@@ -32,8 +32,8 @@ use Rattle.body_machine.specs.Ends.{makes_child}
 use Rattle.body_machine.specs.Frames.{frame_with, push_frame, pop_frame, deeper_than}
 use Rattle.body_machine.specs.Rows.{Row, Nullary, OfValue, OfPlace, OfValues, OfBoth, OfMany, Jumps, JumpsWhere, Turns, Calls, Begins, Returns, row}
 use Rattle.body_machine.specs.Steps.{behind, goes_on, taken_from, values_from, with_values, jump_back, jump, decide, turn, nothing_given, begun, enter, call_given, call_with, call_unit, initialize, init_with, resume, held, return_to, by_row, act, next}
-use Rattle.body_machine_kinds.specs.Kinds.{Kind, Boolean, PlaceOf, is_of_values, kind_of}
-use Rattle.body_machine_kinds.specs.Kinded.{Table, Tables, local_kind, given_kinds, goes_back, Stands, Enters, Leads, straight, jump as jumps, jfalse, jtrue, turn as turns, ret, fail, IsKindedUnit, IsKinded}
+use Rattle.body_kinds.specs.Kinds.{Kind, Boolean, PlaceOf, is_of_values, kind_of}
+use Rattle.body_kinds.specs.Kinded.{Table, Tables, local_kind, given_kinds, goes_back, Stands, Enters, Leads, straight, jump as jumps, jfalse, jtrue, turn as turns, ret, fail, IsKindedUnit, IsKinded}
 use Rattle.body_machine_kinds.specs.Typed.{Bodies, Grows, Frames, value_shapes, reference_shapes, MayBeHeld, IsSound, HasKind, HaveKinds, ArePlaces, IsRunning, with_own, IsUnit, IsActive, Fits, AreWaiting, IsTyped}
 use Rattle.body_machine_kinds.specs.Laws.{asks_more, AreLeft, RefusedBy, IsRefused, IsFate}
 use Rattle.body_machine_kinds.proofs.Values.{bool_operand}

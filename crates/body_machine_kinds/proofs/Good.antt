@@ -46,8 +46,8 @@ use Rattle.body_machine.specs.Machine.{Activation}
 use Rattle.body_machine.specs.Ends.{output_with}
 use Rattle.body_machine.specs.Slots.{reference_number}
 use Rattle.body_machine.specs.Rows.{Row, Nullary, OfValue, OfPlace, OfValues, OfBoth, OfMany, Calls, Begins, leaves, gives, nothing, by_export, store_as, computing, combining, storing, fitting, referring, exporting, acting, sending, row}
-use Rattle.body_machine_kinds.specs.Kinds.{Kind, Integer, Boolean, Character, Enumerated, Members, PlaceOf, is_of_at, is_of, is_of_values, simple_kind_at, simple_kind, kind_of, part_in, StoresInto}
-use Rattle.body_machine_kinds.specs.Kinded.{Table, Tables, variable_shape, HasHeader, given_kinds, value_kinds, TakesArguments, MayCall, Leaves, push, var, loc, ref, exp, field, index, load as loading, store, fit, blank, neg, abs, sqr, odd, chr, ord, successor, predecessor, negated, add, sub, mul, div, mod_, eq, ne, lt, le, gt, ge, empty, one, span, unite, meet, minus, has, call, init, release, connect, disconnect, attach, detach, output}
+use Rattle.body_kinds.specs.Kinds.{Kind, Integer, Boolean, Character, Enumerated, Members, PlaceOf, is_of_at, is_of, is_of_values, simple_kind_at, simple_kind, kind_of, part_in, StoresInto}
+use Rattle.body_kinds.specs.Kinded.{Table, Tables, variable_shape, HasHeader, given_kinds, value_kinds, TakesArguments, MayCall, Leaves, push, var, loc, ref, exp, field, index, load as loading, store, fit, blank, neg, abs, sqr, odd, chr, ord, successor, predecessor, negated, add, sub, mul, div, mod_, eq, ne, lt, le, gt, ge, empty, one, span, unite, meet, minus, has, call, init, release, connect, disconnect, attach, detach, output}
 use Rattle.body_machine_kinds.specs.Typed.{Bodies, Frames, value_shapes, MayBeHeld, IsPlaceOf, HaveKinds, IsRunning, with_own, IsUnit}
 use Rattle.body_machine_kinds.specs.Laws.{asks_more}
 use Rattle.body_machine_kinds.proofs.Values.{Gives, int_operand, neg_gives, abs_gives, sqr_gives, odd_gives, chr_gives, not_gives, ord_gives, succ_gives, pred_gives, one_gives, add_gives, sub_gives, mul_gives, div_gives, mod_gives, unite_gives, minus_gives, meet_gives, span_gives, has_gives, compare_gives, is_membership}

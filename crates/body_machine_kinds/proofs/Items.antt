@@ -18,7 +18,7 @@ use Rattle.body_machine.specs.declared.item.Item.{Item}
 use Rattle.body_machine.specs.declared.item.Item.TheVariants.{Datum, Spot}
 use Rattle.body_machine.specs.Slots.{slot, reference_number, variables_in, references_in}
 use Rattle.body_machine.specs.Steps.{taken_from, values_with, values_from}
-use Rattle.body_machine_kinds.specs.Kinds.{Kind, PlaceOf, is_of, is_ordinal, is_compared, is_of_values, kind_at, kind_of, part_in}
+use Rattle.body_kinds.specs.Kinds.{Kind, PlaceOf, is_of, is_ordinal, is_compared, is_of_values, kind_at, kind_of, part_in}
 use Rattle.body_machine_kinds.specs.Typed.{Bodies, Frames, value_shapes, reference_shapes, IsPlaceOf, IsSpotOf, HasKind, HaveKinds, ArePlaces}
 use Rattle.body_machine_kinds.proofs.Parts.{way_more}
 

@@ -14,8 +14,8 @@ use Rattle.estelle_model.specs.Steps.{Running}
 use Rattle.estelle_model.specs.Subject.{Subject}
 use Rattle.body_numbers.specs.declared.numbers.Numbers.{Numbers}
 use Rattle.body_machine_meaning.specs.Executed.{started}
-use Rattle.body_machine_kinds.specs.Kinds.{Kind}
-use Rattle.body_machine_kinds.specs.Kinded.{Tables, IsGiven, IsKinded}
+use Rattle.body_kinds.specs.Kinds.{Kind}
+use Rattle.body_kinds.specs.Kinded.{Tables, IsGiven, IsKinded}
 use Rattle.body_machine_kinds.specs.Laws.{MayBegin, RunsWell, BlocksAreNotStuck, GuardsAreNotStuck, DelaysAreNotStuck, InitializationsAreNotStuck}
 use Rattle.body_machine_kinds.proofs.Runs.{comes_well, result_well}
 use Rattle.body_machine_kinds.proofs.Starting.{started_typed}

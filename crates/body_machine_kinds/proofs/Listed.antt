@@ -11,8 +11,8 @@ use Rattle.body_code.specs.Units.{Place, placed, same_entry, same_place, is_at, 
 use Rattle.estelle_model.specs.Subject.{Subject}
 use Rattle.estelle_model_legality.proofs.Lists.{and_both, same_number}
 use Rattle.body_numbers.specs.declared.numbers.Numbers.{Numbers}
-use Rattle.body_machine_kinds.specs.Kinded.{Table, Tables, IsKindedUnit, IsFor}
-use Rattle.body_machine_kinds.specs.Listed.{no_table, AreKinded, KindedByUnits}
+use Rattle.body_kinds.specs.Kinded.{Table, Tables, IsKindedUnit, IsFor}
+use Rattle.body_kinds.specs.Listed.{no_table, AreKinded, KindedByUnits}
 
 entry_is : (a b : Entry) → same_entry a b ≡ true → a ≡ b
 entry_is (entry.Routine k) (entry.Routine n) h = ap (λ (x : ℕ). entry.Routine x) (same_number k n h)

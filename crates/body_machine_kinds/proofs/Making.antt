@@ -28,7 +28,7 @@ use Rattle.estelle_model_legality.proofs.Lookups.{same, same_is, same_itself, ge
 use Rattle.body_actions.specs.Children.{begins_child}
 use Rattle.body_machine.specs.Ends.{makes_child}
 use Rattle.body_machine.specs.Frames.{deeper_than}
-use Rattle.body_machine_kinds.specs.Kinded.{HasHeader}
+use Rattle.body_kinds.specs.Kinded.{HasHeader}
 use Rattle.body_machine_kinds.specs.Typed.{Bodies, Grows, Frames, MayBeHeld, IsSound, IsState, IsRunning, AreFrames}
 use Rattle.body_machine_kinds.proofs.Places.{Safely, safely_then}
 

@@ -20,7 +20,7 @@ use Rattle.estelle_model.proofs.Fitting.{belongs_out}
 use Rattle.estelle_model_legality.proofs.Lists.{and_both, both_and, or_right}
 use Rattle.estelle_model_legality.proofs.Belonging.{belongs_stored}
 use Rattle.body_values.proofs.TypeLemmas.{blanked_out}
-use Rattle.body_machine_kinds.specs.Kinds.{Kind, Whole, is_of_at, is_of, kind_at, kind_of, part_in, shape_in, StoresInto, itself, inside}
+use Rattle.body_kinds.specs.Kinds.{Kind, Whole, is_of_at, is_of, kind_at, kind_of, part_in, shape_in, StoresInto, itself, inside}
 use Rattle.body_machine_kinds.specs.Typed.{is_held_at, is_held}
 
 -- ---- ways

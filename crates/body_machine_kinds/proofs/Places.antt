@@ -27,8 +27,8 @@ use Rattle.estelle_model_legality.proofs.Lists.{and_both, both_and, some_is}
 use Rattle.estelle_model_legality.proofs.Belonging.{values_stored}
 use Rattle.estelle_model_legality.proofs.Lookups.{get_changed, changed_was}
 use Rattle.body_machine.specs.Rows.{store_as}
-use Rattle.body_machine_kinds.specs.Kinds.{is_of, kind_of, shape_in, StoresInto}
-use Rattle.body_machine_kinds.specs.Kinded.{variable_shape}
+use Rattle.body_kinds.specs.Kinds.{is_of, kind_of, shape_in, StoresInto}
+use Rattle.body_kinds.specs.Kinded.{variable_shape}
 use Rattle.body_machine_kinds.specs.Typed.{Bodies, Frames, is_held, IsFrame, AreFrames, MayBeHeld, IsSound, IsState, IsPlaceOf, IsRunning}
 use Rattle.body_machine_kinds.proofs.Parts.{way_is, passes_at, tested_at, part_belongs, belongs_held, held_is, part_held, put_held, stores_belongs, blanked_belongs}
 

@@ -10,8 +10,8 @@ use Rattle.estelle_model.specs.Subject.{Subject}
 use Rattle.body_numbers.specs.declared.numbers.Numbers.{Numbers}
 use Rattle.body_machine.specs.Machine.{Machine, Next, Goes, Ends, Stops}
 use Rattle.body_machine.specs.Steps.{next, run, Comes}
-use Rattle.body_machine_kinds.specs.Kinds.{Kind}
-use Rattle.body_machine_kinds.specs.Kinded.{Tables, IsKinded}
+use Rattle.body_kinds.specs.Kinds.{Kind}
+use Rattle.body_kinds.specs.Kinded.{Tables, IsKinded}
 use Rattle.body_machine_kinds.specs.Typed.{Bodies, IsTyped}
 use Rattle.body_machine_kinds.specs.Laws.{IsResult, IsFate, IsEnd}
 use Rattle.body_machine_kinds.proofs.Going.{goes_on_well}

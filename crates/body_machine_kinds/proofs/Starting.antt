@@ -35,7 +35,7 @@ use Rattle.estelle_model_legality.proofs.Lookups.{same, same_is, same_itself}
 use Rattle.estelle_model_legality.proofs.Started.{only_there, only_was, root_was}
 use Rattle.body_numbers.specs.declared.numbers.Numbers.{Numbers}
 use Rattle.body_machine_meaning.specs.Executed.{started}
-use Rattle.body_machine_kinds.specs.Kinded.{Tables, has_references, IsGiven, goes_back, IsKinded}
+use Rattle.body_kinds.specs.Kinded.{Tables, has_references, IsGiven, goes_back, IsKinded}
 use Rattle.body_machine_kinds.specs.Typed.{Bodies, value_shapes, is_held, MayBeHeld, IsSound, IsTyped}
 use Rattle.body_machine_kinds.specs.Laws.{MayBegin}
 use Rattle.body_machine_kinds.proofs.Parts.{belongs_held}

@@ -23,7 +23,7 @@ use Rattle.estelle_model.proofs.Fitting.{is_rises}
 use Rattle.body_machine.specs.declared.operators.Unary.TheVariants as unary
 use Rattle.body_machine.specs.declared.operators.Binary.TheVariants as binary
 use Rattle.body_machine.specs.Operations.{a_set, unary_value, binary_value}
-use Rattle.body_machine_kinds.specs.Kinds.{Kind, Integer, Boolean, Character, Enumerated, Members, is_of_at, is_of, is_ordinal}
+use Rattle.body_kinds.specs.Kinds.{Kind, Integer, Boolean, Character, Enumerated, Members, is_of_at, is_of, is_ordinal}
 
 -- ---- operands
 

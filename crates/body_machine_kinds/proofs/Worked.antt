@@ -17,8 +17,8 @@ use Rattle.estelle_model.proofs.Fitting.{shape_ordinal, belongs_int}
 use Rattle.estelle_model.specs.Subject.{Subject}
 use Rattle.body_numbers.specs.declared.numbers.Numbers.{Numbers}
 use Rattle.body_numbers.specs.Numbers.{shape_numbered, word_of, interaction_of}
-use Rattle.body_machine_kinds.specs.Kinds.{Kind, Integer, Boolean, PlaceOf, simple_kind_at, kind_at, kind_of, itself}
-use Rattle.body_machine_kinds.specs.Kinded.{Table, Tables, variable_shape, value_kinds, Leaves, output, push, var, load, store, add, lt, Stands, straight, jump, jfalse, turn, ret, fail, IsFine, IsKindedUnit}
+use Rattle.body_kinds.specs.Kinds.{Kind, Integer, Boolean, PlaceOf, simple_kind_at, kind_at, kind_of, itself}
+use Rattle.body_kinds.specs.Kinded.{Table, Tables, variable_shape, value_kinds, Leaves, output, push, var, load, store, add, lt, Stands, straight, jump, jfalse, turn, ret, fail, IsFine, IsKindedUnit}
 
 -- the unit of an initialization with these instructions
 abbrev unit_with : List Instr → CodeUnit

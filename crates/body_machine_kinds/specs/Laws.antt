@@ -28,10 +28,10 @@ use Rattle.body_machine.specs.Machine.{Machine, Next, Goes, Ends, Stops}
 use Rattle.body_machine.specs.Ends.{makes_child}
 use Rattle.body_machine.specs.Rows.{Row, Nullary, OfMany, Begins, row}
 use Rattle.body_machine.specs.Steps.{taken_from, values_from, next, Comes}
-use Rattle.body_machine_kinds.specs.Kinds.{Kind, Boolean, is_of}
+use Rattle.body_kinds.specs.Kinds.{Kind, Boolean, is_of}
 use Rattle.estelle_model_legality.specs.Jobs.{IsLegalImage}
 use Rattle.body_machine_meaning.specs.Executed.{started, RunsTo}
-use Rattle.body_machine_kinds.specs.Kinded.{Tables, IsGiven, delay_kinds, IsKinded}
+use Rattle.body_kinds.specs.Kinded.{Tables, IsGiven, delay_kinds, IsKinded}
 use Rattle.body_machine_kinds.specs.Typed.{Bodies, Grows, IsState, IsTyped}
 
 -- an instruction that asks for channels, roles, headers and bounds, which kinds do not tell

@@ -21,8 +21,8 @@ use Rattle.body_machine.specs.declared.item.Item.TheVariants.{Datum, Spot}
 use Rattle.body_machine.specs.declared.activation.Return.{Return}
 use Rattle.body_machine.specs.declared.activation.Return.TheVariants.{ToParent}
 use Rattle.body_machine.specs.Machine.{Activation, Machine}
-use Rattle.body_machine_kinds.specs.Kinds.{Kind, Whole, PlaceOf, is_of_at, is_of, kind_of, shape_in}
-use Rattle.body_machine_kinds.specs.Kinded.{Table, Tables, variable_shape, HasHeader, goes_back, Stands, Enters, IsKindedUnit}
+use Rattle.body_kinds.specs.Kinds.{Kind, Whole, PlaceOf, is_of_at, is_of, kind_of, shape_in}
+use Rattle.body_kinds.specs.Kinded.{Table, Tables, variable_shape, HasHeader, goes_back, Stands, Enters, IsKindedUnit}
 
 -- The body of each instance that there has been, since places name those that are gone.
 abbrev pub Bodies : Type 0

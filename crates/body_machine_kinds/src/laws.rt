@@ -1,7 +1,7 @@
 //! The laws: the contract of each is the law, and none does anything.
 
 ghost use Rattle.body_machine_kinds.specs.Laws.{KindedCodesGoOn, KindedCodesAreNotStuck, StartedAreNotStuck, LegalImagesMayBegin, TheStartMayBegin, BlocksAreNotStuck, GuardsAreNotStuck, DelaysAreNotStuck, InitializationsAreNotStuck};
-ghost use Rattle.body_machine_kinds.specs.Listed.{KindedByUnits};
+ghost use Rattle.body_kinds.specs.Listed.{KindedByUnits};
 
 /// An instruction of a code of good kinds finds its operands. What stops it is a fault, or a rule of a statement of Estelle
 /// that its own step tests.

@@ -1,7 +1,7 @@
 //! Kinds of what instructions take and leave; a code of good kinds is never stuck.
 //!
-//! It stands on `body_machine`. `specs/` has the table of kinds, what a machine has that goes on, and the laws. No code is
-//! checked here.
+//! It stands on `body_kinds`, which has the table of kinds, and on `body_machine`. `specs/` has what a machine has that goes on, and
+//! the laws. No code is checked here.
 #![tactic(auto)]
 
 mod laws;

@@ -24,7 +24,7 @@ use Rattle.estelle_model.specs.Subject as subject
 use Rattle.estelle_model.specs.Subject.{Subject, child_of, headers_of, types_of_variables, transition}
 use Rattle.body_numbers.specs.declared.numbers.Numbers.{Numbers}
 use Rattle.body_numbers.specs.Numbers.{shape_numbered, export_numbered, word_of, interaction_of}
-use Rattle.body_machine_kinds.specs.Kinds.{Kind, Integer, Boolean, Character, Members, PlaceOf, is_ordinal, is_compared, is_of_values, simple_kind, kind_of, StoresInto}
+use Rattle.body_kinds.specs.Kinds.{Kind, Integer, Boolean, Character, Members, PlaceOf, is_ordinal, is_compared, is_of_values, simple_kind, kind_of, StoresInto}
 
 -- what is known of a unit
 pub record Table : Type 0 where

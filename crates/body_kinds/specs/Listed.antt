@@ -7,7 +7,7 @@ use Rattle.body_code.specs.declared.unit.CodeUnit.{CodeUnit}
 use Rattle.body_code.specs.Units.{Place, placed, is_at}
 use Rattle.estelle_model.specs.Subject.{Subject}
 use Rattle.body_numbers.specs.declared.numbers.Numbers.{Numbers}
-use Rattle.body_machine_kinds.specs.Kinded.{Table, Tables, IsKindedUnit, IsFor, IsKinded}
+use Rattle.body_kinds.specs.Kinded.{Table, Tables, IsKindedUnit, IsFor, IsKinded}
 
 -- of a place where no unit stands
 abbrev pub no_table : Table

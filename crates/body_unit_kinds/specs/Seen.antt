@@ -1,0 +1,41 @@
+-- Kinds in code, and what is claimed of units, as what is meant.
+use Rattle.std.specs.Prelude.{ℕ, Bool, true, false, List, [], ◌∷◌, map as each, option_map, Option, Some, None}
+use Rattle.std.specs.Map.{lookup}
+use Rattle.body_code.specs.Units.{same_place}
+use Rattle.body_code.specs.declared.unit.Entry.{Entry}
+use Rattle.body_kinds.specs.Kinds.{Kind, Integer, Boolean, Character, Enumerated, Members, Whole, PlaceOf}
+use Rattle.body_kinds.specs.Kinded.{Table, Tables}
+use Rattle.body_kinds.specs.Listed.{no_table}
+use Rattle.body_unit_kinds.specs.declared.kind.Kind as code
+use Rattle.body_unit_kinds.specs.declared.kind.Kind.TheVariants as variant
+use Rattle.body_unit_kinds.specs.declared.claims.Claim.{Claim}
+use Rattle.body_unit_kinds.specs.declared.claims.Claims.{Claims}
+
+abbrev pub meant : code.Kind → Kind
+meant variant.Integer = Integer
+meant variant.Boolean = Boolean
+meant variant.Character = Character
+meant variant.Enumerated = Enumerated
+meant variant.Members = Members
+meant (variant.Whole shape) = Whole shape.now
+meant (variant.PlaceOf shape) = PlaceOf shape.now
+
+abbrev pub stack_of : List code.Kind → List Kind
+stack_of = each meant
+
+-- the kind that is left, if any
+abbrev pub left_of : Option code.Kind → List Kind
+left_of None = []
+left_of (Some k) = meant k ∷ []
+
+-- the stack at each address that is come to
+abbrev pub stacks_of : List (Option (List code.Kind)) → List (Option (List Kind))
+stacks_of = each (option_map stack_of)
+
+-- a unit of which this is claimed, before its stacks are found
+abbrev pub claimed_by : Option Claim → Table
+claimed_by None = no_table
+claimed_by (Some c) = record { closed = c.closed; stacks = []; result = stack_of c.result }
+
+abbrev pub claimed : Claims → Tables
+claimed cs body e = claimed_by (lookup (same_place (body, e)) cs.units.entries)

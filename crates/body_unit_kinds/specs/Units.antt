@@ -1,0 +1,77 @@
+-- Units whose stacks are found one address after another.
+use Rattle.std.specs.Prelude.{◌≡◌, ◌≤◌, ◌<◌, ℕ, suc, Bool, true, false, List, [], ◌∷◌, ◌++◌, length, slice_get, Option, Some, None}
+use Rattle.body_code.specs.declared.instr.Instr.{Instr}
+use Rattle.body_code.specs.declared.unit.Entry.{Entry}
+use Rattle.body_code.specs.declared.unit.CodeUnit.{CodeUnit}
+use Rattle.body_code.specs.Units.{Place}
+use Rattle.estelle_model.specs.Subject.{Subject}
+use Rattle.body_numbers.specs.declared.numbers.Numbers.{Numbers}
+use Rattle.body_kinds.specs.Kinds.{Kind, Boolean}
+use Rattle.body_kinds.specs.Kinded.{Table, Tables, goes_back, Leads, IsFine, IsKindedUnit, IsFor}
+use Rattle.body_unit_kinds.specs.declared.here.Here.{Here}
+use Rattle.body_unit_kinds.specs.Seen.{stack_of, claimed}
+use Rattle.body_unit_kinds.specs.Effects.{HasEffect}
+
+-- the stacks of a unit, as far as they are known
+abbrev pub Stacks : Type 0
+Stacks = List (Option (List Kind))
+
+abbrev pub table_with : Here → Stacks → Table
+table_with h stacks = record { closed = h.claim.now.closed; stacks = stacks; result = stack_of h.claim.now.result }
+
+-- more is known, and nothing more before an address
+pub record Grows (address : ℕ) (old new : Stacks) : Type 0 where
+  pub more : (k : ℕ) (ks : List Kind) → slice_get old k ≡ Some (Some ks) → slice_get new k ≡ Some (Some ks)
+  pub kept : (k : ℕ) → k < address → slice_get new k ≡ slice_get old k
+  pub same : length new ≡ length old
+
+-- these kinds stand at an address that is no jump back
+pub record Enters (h : Here) (stacks : Stacks) (to : ℕ) (ks : List Kind) : Type 0 where
+  pub stands : slice_get stacks to ≡ Some (Some ks)
+  pub no_back : goes_back h.bodies.now h.numbers.now h.code.now (claimed h.claims.now) to (slice_get h.unit.now.instrs to) ≡ false
+
+-- a truth value on top decides between two addresses, with what stands below it
+pub record Decides (h : Here) (next to : ℕ) (ks : List Kind) (stacks : Stacks) : Type 0 where
+  pub below : List Kind
+  pub are : ks ≡ Boolean ∷ below
+  pub over : next ≤ to
+  pub jumps : Enters h stacks to below
+  pub falls : Enters h stacks next below
+
+-- what an instruction leaves stands behind it
+pub record GoesOn (h : Here) (next : ℕ) (i : Instr) (ks : List Kind) (stacks : Stacks) : Type 0 where
+  pub left : List Kind
+  pub rest : List Kind
+  pub effect : HasEffect h i ks left rest
+  pub enters : Enters h stacks next (left ++ rest)
+
+-- where an instruction leads before an address
+abbrev pub LeadsTo : Here → ℕ → Instr → List Kind → Stacks → Type 0
+LeadsTo h next i ks stacks = (address : ℕ) → next ≡ suc address → Leads h.bodies.now h.numbers.now h.code.now (claimed h.claims.now) h.body h.unit.now (table_with h stacks) address i ks
+
+abbrev pub IsFineIn : Here → Stacks → ℕ → List Kind → Type 0
+IsFineIn h stacks address ks = IsFine h.bodies.now h.numbers.now h.code.now (claimed h.claims.now) h.body h.unit.now (table_with h stacks) address ks
+
+-- whatever stands at the address
+abbrev pub IsVisited : Here → Stacks → ℕ → Type 0
+IsVisited h stacks address = (ks : List Kind) → slice_get stacks address ≡ Some (Some ks) → IsFineIn h stacks address ks
+
+-- all before an address is fine
+pub record IsFound (h : Here) (stacks : Stacks) (address : ℕ) : Type 0 where
+  pub all : length stacks ≡ length h.unit.now.instrs
+  pub begins : Enters h stacks 0 []
+  pub fine : (k : ℕ) → k < address → IsVisited h stacks k
+
+-- some stacks make the unit of good kinds
+abbrev pub HasStacks : Subject → Numbers → List CodeUnit → Tables → ℕ → CodeUnit → Table → Type 0
+HasStacks s n code tables body unit t = (stacks : Stacks) × IsKindedUnit s n code tables body unit (record t { stacks = stacks })
+
+-- of each unit at a place
+module _ (s : Subject) (n : Numbers) (code : List CodeUnit) (tables : Tables) where
+  abbrev pub IsGood : Place → CodeUnit → Type 0
+  IsGood p u = HasStacks s n code tables p.0 u (tables p.0 p.1) × IsFor s p.0 p.1 u (tables p.0 p.1).result
+
+  abbrev pub AreGood : List (Option Place × CodeUnit) → Type 0
+  AreGood [] = Unit {0}
+  AreGood ((None, u) ∷ us) = AreGood us
+  AreGood ((Some p, u) ∷ us) = IsGood p u × AreGood us
