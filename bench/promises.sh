@@ -32,7 +32,9 @@ body_program any
 estelle_cli run
 estelle_cli check
 estelle_cli show
+estelle_cli code
 estelle_cli replay
+estelle_tool replay
 estelle_cli make
 estelle_cli trial
 estelle_cli accepted

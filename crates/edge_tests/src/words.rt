@@ -15,10 +15,11 @@ type Row = (
     u32,
 );
 
-const MEANT: [Row; 17] = [
+const MEANT: [Row; 18] = [
     (&["run"], Command::Run, 10_000, None, 0, 1_000_000, 2),
     (&["check"], Command::Check, 10_000, None, 0, 1_000_000, 2),
     (&["show"], Command::Show, 10_000, None, 0, 1_000_000, 2),
+    (&["code"], Command::Code, 10_000, None, 0, 1_000_000, 2),
     (&["replay"], Command::Replay, 10_000, None, 0, 1_000_000, 2),
     // Both shapes, in any order, at the ends of the ranges.
     (
@@ -173,7 +174,7 @@ const MEANINGLESS: [&[&str]; 67] = [
     &["run "],
     &["ru"],
     &["runs"],
-    &["code"],
+    &["cod"],
     &["--run"],
     // Help words.
     &["help"],

@@ -25,7 +25,7 @@ use Rattle.estelle_cli.specs.declared.outcome.Refusal.TheVariants.{TooLong, Byte
 use Rattle.estelle_cli.specs.Input.{input_limit, subject, behind_line, IsEnded, IsOther, HasTokens, IsTextOf, Reads, HasTrace, Tells, Replays, IsInput, HasNoTokens, HasTextAfterEnd, HasNoTree, BreaksRule, IsNoTrace, IsNoRun, HasBadLine, HasWrongEntry, Refuses, Same, place_of}
 use Rattle.estelle_cli.specs.declared.outcome.Close.{Close}
 use Rattle.estelle_cli.specs.declared.task.Task.{Task}
-use Rattle.estelle_cli.specs.declared.task.Task.TheVariants.{Run, Check, Show, Replay, Make, Trial}
+use Rattle.estelle_cli.specs.declared.task.Task.TheVariants.{Run, Check, Show, Code, Replay, Make, Trial}
 use Rattle.estelle_cli.specs.Tasks.{ReadsInput, contents_of}
 use Rattle.estelle_cli.specs.Answers.{IsOutput}
 use Rattle.estelle_cli.proofs.Entries.{run_or_wrong, one_wrong}
@@ -299,6 +299,7 @@ module _ (one : OneTree) where
   output_refused (Run limits seed) clock left c text h r input is refuses = alone_refused left h.2.specification h.2.input r input is refuses.1
   output_refused Check clock left c text h r input is refuses = alone_refused left h.1.specification h.1.input r input is refuses.1
   output_refused Show clock left c text h r input is refuses = alone_refused left h.1.specification h.1.input r input is refuses.1
+  output_refused Code clock left c text h r input is refuses = alone_refused left h.1.specification h.1.input r input is refuses.1
   output_refused (Replay budget) clock left c text h r input is refuses =
       input_or_refused (Traced budget) r input (h.1.count, at_some (λ i. Replays budget i h.1.count) left input is h.1.input) refuses.1
   output_refused (Make n) clock left c text h r input is refuses = absurd refuses.0

@@ -80,6 +80,7 @@ task_ranged : (c : Command) (set : Settings) → HasRange set → IsInRange (tas
 task_ranged command.Run set h = (h.turns, h.budget)
 task_ranged command.Check set h = tt
 task_ranged command.Show set h = tt
+task_ranged command.Code set h = tt
 task_ranged command.Replay set h = h.budget
 task_ranged command.Make set h = h.stations
 task_ranged command.Trial set h = (h.stations, (h.turns, h.budget))

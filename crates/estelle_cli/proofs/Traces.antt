@@ -14,7 +14,7 @@ use Rattle.estelle_cli.specs.declared.contents.Contents.TheVariants.{Alone}
 use Rattle.estelle_cli.specs.Input.{subject, Reads}
 use Rattle.spec_maker.specs.Ring.{IsRing}
 use Rattle.run_counts.specs.Counts.{counts_line}
-use Rattle.estelle_cli.specs.Answers.{chooser_by, IsTrace, IsTried}
+use Rattle.estelle_cli.specs.Answers.{chooser_by, IsTrace, IsTried, IsListing, IsListed}
 
 -- an accepted specification's run is that of the specification
 of_it : (limits : Limits) (seed clock : Option ℕ) (checked : Checked) (events : List Event) (e : End)
@@ -47,3 +47,9 @@ stopped_tried n limits seed checked events e written ring stopped line = record 
   stopped = of_it limits seed (Some 0) checked events e stopped;
   line = line;
 }
+
+-- an accepted specification's listing is that of the specification
+pub listing_shown : (left : Option (List ℕ)) (checked : Checked) (written : List ℕ) → IfSome left (λ bytes. Reads Alone bytes checked.spec) → IsListing (with_names checked.spec checked.names) written → IsListed left written
+listing_shown left checked written reads is =
+    let same : with_names checked.spec checked.names ≡ subject checked.spec = ap (λ us. record { specification = checked.spec; names = us }) checked.named in
+    record { specification = checked.spec; input = reads; listing = subst (λ (s : Subject). IsListing s written) same is }

@@ -18,6 +18,11 @@ use Rattle.estelle_model.specs.Runs.{IsRun}
 use Rattle.estelle_model.specs.Ends.{Stops}
 use Rattle.estelle_model.specs.Schedule.{IsScheduled}
 use Rattle.estelle_model.specs.Trace.{text, kind_text, line_end}
+use Rattle.estelle_model.specs.Subject.{Subject}
+use Rattle.body_code.specs.declared.unit.CodeUnit.{CodeUnit}
+use Rattle.body_code.specs.Listing.{listing}
+use Rattle.body_machine_meaning.specs.Faithful.{IsFaithful}
+use Rattle.body_program_numbers.specs.Numbering.{numbers_of}
 use Rattle.situation.specs.declared.limits.Limits.{Limits}
 use Rattle.situation.specs.Runs.{IsStopped}
 use Rattle.run_counts.specs.Counts.{counts_line}
@@ -25,7 +30,7 @@ use Rattle.estelle_cli.specs.declared.outcome.Place.{Place}
 use Rattle.estelle_cli.specs.declared.outcome.Refusal.{Refusal}
 use Rattle.estelle_cli.specs.declared.outcome.Refusal.TheVariants.{TooLong, Bytes, TextAfterEnd, Syntax, Rule, BadTraceLine, NotARun}
 use Rattle.estelle_cli.specs.declared.task.Task.{Task}
-use Rattle.estelle_cli.specs.declared.task.Task.TheVariants.{Run, Check, Show, Replay, Make, Trial}
+use Rattle.estelle_cli.specs.declared.task.Task.TheVariants.{Run, Check, Show, Code, Replay, Make, Trial}
 use Rattle.estelle_cli.specs.declared.outcome.Outcome.{Outcome}
 use Rattle.estelle_cli.specs.declared.outcome.Outcome.TheVariants as outcome
 use Rattle.estelle_cli.specs.declared.outcome.Status.{Status}
@@ -89,6 +94,16 @@ pub record IsShown (left : Option (List ℕ)) (written : List ℕ) : Type 0 wher
   pub input : IfSome left (λ bytes. Reads Alone bytes specification)
   pub canonical : IsCanonicalText specification written
 
+-- the text is the listing of a code with which the machine does what the bodies mean
+abbrev pub IsListing : Subject → List ℕ → Type 0
+IsListing s written = (code : List CodeUnit) × IsFaithful s (numbers_of s) code × (written ≡ listing code)
+
+-- the text is that of a code of such a specification
+pub record IsListed (left : Option (List ℕ)) (written : List ℕ) : Type 0 where
+  pub specification : Spec
+  pub input : IfSome left (λ bytes. Reads Alone bytes specification)
+  pub listing : IsListing (subject specification) written
+
 -- the input is a specification that keeps all rules, with the trace of a run of it, and the line tells how many events that has
 pub record IsReplayed (budget : ℕ) (left : Option (List ℕ)) (written : List ℕ) : Type 0 where
   pub count : ℕ
@@ -116,6 +131,7 @@ abbrev pub IsOutput : Task → Option ℕ → Option (List ℕ) → Close → Li
 IsOutput (Run limits seed) clock left c written = (e : End) × EndsWith c e × IsTrace limits seed clock left e written
 IsOutput Check clock left c written = (c ≡ close.Well) × IsAccepted left × (written ≡ accepted_line)
 IsOutput Show clock left c written = (c ≡ close.Well) × IsShown left written
+IsOutput Code clock left c written = (c ≡ close.Well) × IsListed left written
 IsOutput (Replay budget) clock left c written = (c ≡ close.Well) × IsReplayed budget left written
 IsOutput (Make n) clock left c written = (c ≡ close.Well) × IsMade n written
 IsOutput (Trial n limits seed) clock left c written = (c ≡ close.Well) × IsTried n limits seed written

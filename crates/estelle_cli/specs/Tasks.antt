@@ -8,7 +8,7 @@ use Rattle.situation.specs.declared.limits.Limits.{Limits}
 use Rattle.estelle_cli.specs.declared.contents.Contents.{Contents}
 use Rattle.estelle_cli.specs.declared.contents.Contents.TheVariants.{Alone, Traced}
 use Rattle.estelle_cli.specs.declared.task.Task.{Task}
-use Rattle.estelle_cli.specs.declared.task.Task.TheVariants.{Run, Check, Show, Replay, Make, Trial}
+use Rattle.estelle_cli.specs.declared.task.Task.TheVariants.{Run, Check, Show, Code, Replay, Make, Trial}
 
 abbrev pub limits_of : Settings → Limits
 limits_of set = record { turns = set.turns; budget = set.budget }
@@ -18,6 +18,7 @@ abbrev pub task_by : Command → Settings → Task
 task_by command.Run set = Run (limits_of set) set.seed
 task_by command.Check set = Check
 task_by command.Show set = Show
+task_by command.Code set = Code
 task_by command.Replay set = Replay set.budget
 task_by command.Make set = Make set.stations
 task_by command.Trial set = Trial set.stations (limits_of set) set.seed
@@ -35,6 +36,7 @@ abbrev pub ReadsInput : Task → Type 0
 ReadsInput (Run limits seed) = ⊤
 ReadsInput Check = ⊤
 ReadsInput Show = ⊤
+ReadsInput Code = ⊤
 ReadsInput (Replay budget) = ⊤
 ReadsInput (Make n) = ⊥
 ReadsInput (Trial n limits seed) = ⊥
@@ -44,6 +46,7 @@ abbrev pub contents_of : Task → Contents
 contents_of (Run limits seed) = Alone
 contents_of Check = Alone
 contents_of Show = Alone
+contents_of Code = Alone
 contents_of (Replay budget) = Traced budget
 contents_of (Make n) = Alone
 contents_of (Trial n limits seed) = Alone
@@ -53,6 +56,7 @@ abbrev pub AsksClock : Task → Type 0
 AsksClock (Run limits seed) = ⊤
 AsksClock Check = ⊥
 AsksClock Show = ⊥
+AsksClock Code = ⊥
 AsksClock (Replay budget) = ⊥
 AsksClock (Make n) = ⊥
 AsksClock (Trial n limits seed) = ⊥
@@ -73,6 +77,7 @@ abbrev pub IsInRange : Task → Type 0
 IsInRange (Run limits seed) = AreLimits limits
 IsInRange Check = ⊤
 IsInRange Show = ⊤
+IsInRange Code = ⊤
 IsInRange (Replay budget) = IsBudget budget
 IsInRange (Make n) = AreStations n
 IsInRange (Trial n limits seed) = AreStations n × AreLimits limits

@@ -1,7 +1,8 @@
 //! The program: it reads a specification, and runs it and writes the trace of its run, or says whether it is accepted, or
-//! writes its canonical text, or says whether a trace behind it is that of a run. Or it makes a ring, and writes its text, or runs it and writes the counts of its run.
+//! writes its canonical text or the listing of its code, or says whether a trace behind it is that of a run. Or it makes a ring, and writes its text, or runs it and writes the counts of its run.
 #![tactic(auto)]
 
+mod coding;
 mod contents;
 mod input;
 mod laws;

@@ -13,8 +13,9 @@ ghost use Rattle.estelle_cli.specs.declared.task.Task.TheVariants as task;
 ghost use Rattle.estelle_cli.specs.declared.outcome.Stop.TheVariants as stop;
 ghost use Rattle.estelle_cli.specs.Tasks.{asked, ReadsInput, contents_of, AsksClock, AreLimits, AreStations, IsInRange};
 ghost use Rattle.estelle_cli.specs.Input.{IsInput, Refuses, TakesAtMost, HasStopped, input_limit};
-ghost use Rattle.estelle_cli.specs.Answers.{accepted_line, IsTrace, EndsWith, IsAccepted, IsShown, IsReplayed, IsMade, IsOutput, Writes, WritesPrefix, IsQuiet, Reports, usage_line, refusal_line, read_fault_line, write_fault_line, clock_fault_line, memory_line, fault_line, IsFinished, HasNoOutput, MayRefuse, MayFinish, MayBeUsage, NeedsInput, HasFailed, Emits, IsRefusedOr, Explains};
+ghost use Rattle.estelle_cli.specs.Answers.{accepted_line, IsTrace, EndsWith, IsAccepted, IsShown, IsListed, IsReplayed, IsMade, IsOutput, Writes, WritesPrefix, IsQuiet, Reports, usage_line, refusal_line, read_fault_line, write_fault_line, clock_fault_line, memory_line, fault_line, IsFinished, HasNoOutput, MayRefuse, MayFinish, MayBeUsage, NeedsInput, HasFailed, Emits, IsRefusedOr, Explains};
 
+use crate::coding::listed;
 use crate::input::load;
 use crate::lines::{fault_line, refusal_line, replayed_line};
 use crate::outcome::{Close, Outcome, Refusal, Status, Stop};
@@ -119,6 +120,19 @@ fn shown<S: Source>(alloc: Global, source: &mut S) -> Result<(Text, Close), Stop
     Ok((text, Close::Well))
 }
 
+/// Reads the input, and gives the listing of its code.
+fn coded<S: Source>(alloc: Global, source: &mut S) -> Result<(Text, Close), Stop>
+    ensures close { IfOk result (λ x. x.1 ≡ close.Well) }
+    ensures text { IfOk result (λ x. IsListed (S.left source.old) x.0) }
+    ensures end { OnOk result (IsAtEnd (S.left source.new)) }
+    ensures stops { TakesAtMost (input_limit Alone + 1) (S.left source.old) (S.left source.new) }
+    ensures cause { IfErr result (HasStopped Alone (S.left source.old) (S.faults source.old) (S.faults source.new)) }
+{
+    let checked = load(alloc, source)?;
+    let text = listed(alloc, &checked)?;
+    Ok((text, Close::Well))
+}
+
 /// Reads the input as a specification with a trace, and tells how many events that has.
 fn replayed<S: Source>(alloc: Global, budget: u32, source: &mut S) -> Result<(Text, Close), Stop>
     ensures close { IfOk result (λ x. x.1 ≡ close.Well) }
@@ -165,6 +179,7 @@ fn output<S: Source, C: Clock>(
         Task::Run { limits, seed } => ran(alloc, limits, seed, source, clock),
         Task::Check => accepted(alloc, source),
         Task::Show => shown(alloc, source),
+        Task::Code => coded(alloc, source),
         Task::Replay { budget } => replayed(alloc, budget, source),
         Task::Make(n) => made(alloc, n),
         Task::Trial {
@@ -224,7 +239,7 @@ fn perform<S: Source, K: Sink, C: Clock>(
 }
 
 /// The program on one thread. It does what the words ask for with the specification that the source has left: it runs it and
-/// writes the trace of its run to out, or judges its rules and writes `accepted` or its canonical text, or judges the trace that
+/// writes the trace of its run to out, or judges its rules and writes `accepted`, its canonical text or the listing of its code, or judges the trace that
 /// stands behind it and writes how many events it has. Or it makes a ring, reads nothing, and writes the ring's canonical text, or
 /// runs it and writes the counts and the end of its run. It writes at most one line to err. It returns on every input.
 pub fn estelle_plain<S: Source, K: Sink, E: Sink, C: Clock>(
@@ -237,8 +252,8 @@ pub fn estelle_plain<S: Source, K: Sink, E: Sink, C: Clock>(
 ) -> (Status, C)
     // Status 0: what was written is what the words ask for. For `run` that is the trace of a run of the specification that the
     // source had left, from its initial situation on, which ended deadlocked or at the limit of firings, and which is scheduled by
-    // the seed of the words and by what the clock told; for `check` it is the line `accepted`, and for `show` the canonical text,
-    // of a specification that keeps all rules; for `replay` it is the line `accepted N`, of such a specification with the trace of
+    // the seed of the words and by what the clock told; for `check` it is the line `accepted`, for `show` the canonical text, and
+    // for `code` the listing of a code with which the machine does what the bodies mean, of a specification that keeps all rules; for `replay` it is the line `accepted N`, of such a specification with the trace of
     // a run of it that has N events and may end so; for `make` it is the canonical text of the ring; and for `trial` it is the line
     // of the counts and the end of the run of the ring that is scheduled by the seed of the words.
     ensures done { result.0 ≡ Status.Done → IfSome (asked (texts words.now))

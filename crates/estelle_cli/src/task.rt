@@ -20,6 +20,8 @@ pub enum Task {
     Check,
     /// The rules of the input are judged, and its canonical text is written.
     Show,
+    /// The bodies of the input are compiled, and the listing of their code is written.
+    Code,
     /// The trace behind the specification is judged, and it is written how many events it has. Each firing has so many units.
     Replay {
         budget: u32,
@@ -55,6 +57,7 @@ fn task_of(settings: Settings) -> Task
         },
         Command::Check => Task::Check,
         Command::Show => Task::Show,
+        Command::Code => Task::Code,
         Command::Replay => Task::Replay {
             budget: settings.budget,
         },

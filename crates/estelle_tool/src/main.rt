@@ -1,5 +1,5 @@
 //! The program `estelle`: the words behind its name, the standard streams, and the status with which
-//! the process ends. It runs in a thread of its own, with room for the deepest calls of a text.
+//! the process ends. `replay` runs in a thread of its own, with room for the deepest calls of a text.
 #![tactic(auto)]
 
 use estelle_cli::{Status, estelle_plain};
@@ -10,7 +10,7 @@ use std::process::ExitCode;
 use std::thread::Builder;
 use std::{env, io};
 
-/// Bytes of stack. 200 calls, each behind 200 levels of a text, were seen to take 80 MB of it.
+/// Bytes of stack. 200 calls, each behind 200 levels of a text, were seen to take 80 MB of it on trees.
 const STACK: usize = 256 << 20;
 
 /// The words behind the program's name. Where one is no UTF-8 text there are none, which has no
@@ -49,22 +49,36 @@ fn no_memory(rt: &HostRuntime) -> Status {
     Status::Memory
 }
 
-fn answer(rt: &HostRuntime) -> Status {
-    match words(rt) {
-        Ok(words) => match run(rt, &words) {
-            Ok(status) => status,
-            Err(_) => no_memory(rt),
-        },
+/// Whether the words are those of `replay`, which evaluates bodies on their trees.
+fn are_of_replay(words: &[String]) -> bool {
+    match words.first() {
+        Some(word) => word.as_str() == "replay",
+        None => false,
+    }
+}
+
+fn answer(rt: &HostRuntime, words: &[String]) -> Status {
+    match run(rt, words) {
+        Ok(status) => status,
         Err(_) => no_memory(rt),
     }
 }
 
 fn main(rt: HostRuntime) -> ExitCode {
-    let status = match Builder::new()
-        .stack_size(STACK)
-        .spawn(&rt, move || answer(&rt))
-    {
-        Ok(thread) => thread.join(&rt),
+    let status = match words(&rt) {
+        Ok(words) => {
+            if are_of_replay(&words) {
+                match Builder::new()
+                    .stack_size(STACK)
+                    .spawn(&rt, move || answer(&rt, &words))
+                {
+                    Ok(thread) => thread.join(&rt),
+                    Err(_) => no_memory(&rt),
+                }
+            } else {
+                answer(&rt, &words)
+            }
+        }
         Err(_) => no_memory(&rt),
     };
     ExitCode::from(status.code())

@@ -8,7 +8,7 @@ use Rattle.std.specs.Char.{is_ascii_digit}
 use Rattle.std.specs.Str.Parse.{digits_value}
 use denote.Ref.{Bor}
 use Rattle.estelle_words.specs.declared.command.Command.{Command}
-use Rattle.estelle_words.specs.declared.command.Command.TheVariants.{Run, Check, Show, Replay, Make, Trial}
+use Rattle.estelle_words.specs.declared.command.Command.TheVariants.{Run, Check, Show, Code, Replay, Make, Trial}
 use Rattle.estelle_words.specs.declared.command.Settings.{Settings}
 
 -- a word, name or value, as its bytes
@@ -88,16 +88,18 @@ command_of word =
     if bytes_eq word (codes "run") then Some Run
     else (if bytes_eq word (codes "check") then Some Check
     else (if bytes_eq word (codes "show") then Some Show
+    else (if bytes_eq word (codes "code") then Some Code
     else (if bytes_eq word (codes "replay") then Some Replay
     else (if bytes_eq word (codes "make") then Some Make
     else (if bytes_eq word (codes "trial") then Some Trial
-    else None)))))
+    else None))))))
 
 -- the names of the options that a command takes
 abbrev pub options_of : Command → List Text
 options_of Run = codes "turns" ∷ codes "seed" ∷ codes "workers" ∷ codes "budget" ∷ []
 options_of Check = []
 options_of Show = []
+options_of Code = []
 options_of Replay = codes "budget" ∷ []
 options_of Make = codes "stations" ∷ []
 options_of Trial = codes "stations" ∷ codes "turns" ∷ codes "seed" ∷ codes "budget" ∷ []

@@ -8,6 +8,7 @@ pub enum Command {
     Run,
     Check,
     Show,
+    Code,
     Replay,
     Make,
     Trial,
@@ -48,6 +49,8 @@ impl Command {
             Some(Command::Check)
         } else if word == "show" {
             Some(Command::Show)
+        } else if word == "code" {
+            Some(Command::Code)
         } else if word == "replay" {
             Some(Command::Replay)
         } else if word == "make" {
@@ -68,7 +71,7 @@ impl Command {
             Command::Replay => REPLAY_OPTIONS.as_slice(),
             Command::Make => MAKE_OPTIONS.as_slice(),
             Command::Trial => TRIAL_OPTIONS.as_slice(),
-            Command::Check | Command::Show => &[],
+            Command::Check | Command::Show | Command::Code => &[],
         }
     }
 }

@@ -87,7 +87,7 @@ type Row = (
     Status,
 );
 
-const ROWS: [Row; 13] = [
+const ROWS: [Row; 14] = [
     (
         "counter",
         &["run"],
@@ -163,6 +163,7 @@ const ROWS: [Row; 13] = [
         "",
         Status::Done,
     ),
+    ("listed", &["code"], COUNTER, COUNTER_CODE, "", Status::Done),
     (
         "empty, shown",
         &["show"],
@@ -193,7 +194,7 @@ const MEANINGLESS: [&[&str]; 14] = [
 ];
 
 /// Words that ask for something, and what.
-const ASKING: [(&[&str], Task); 10] = [
+const ASKING: [(&[&str], Task); 11] = [
     (
         &["run"],
         Task::Run {
@@ -237,6 +238,7 @@ const ASKING: [(&[&str], Task); 10] = [
     ),
     (&["check"], Task::Check),
     (&["show"], Task::Show),
+    (&["code"], Task::Code),
     (&["replay", "--budget=9"], Task::Replay { budget: 9 }),
     (
         &["trial", "--stations=3", "--turns=5", "--seed=1"],
@@ -260,6 +262,29 @@ state go ;
 initialize to go begin n := 0 end ;
 trans from go to go provided n < 3 name tick : begin n := n + 1 end ;
 end .
+";
+
+/// The listing of its code.
+const COUNTER_CODE: &str = "body 0 count
+initialize 0
+0 var 0
+1 push 0
+2 store 0
+3 ret
+guard 1
+0 var 0
+1 load
+2 push 3
+3 lt
+4 ret
+block 1
+0 var 0
+1 var 0
+2 load
+3 push 1
+4 add
+5 store 0
+6 ret
 ";
 
 const NO_TURN: &str = "estelle trace 1
@@ -397,7 +422,7 @@ const SPOILED_MORE: [(&str, &str, &str, &str); 3] = [
 ];
 
 /// The commands that read a specification.
-const READING: [[&str; 1]; 3] = [["run"], ["check"], ["show"]];
+const READING: [[&str; 1]; 4] = [["run"], ["check"], ["show"], ["code"]];
 
 /// Whether a counter that is spoiled is refused by these words with its reason.
 fn is_refused(alloc: Global, words: &[&str], row: &(&str, &str, &str)) -> Result<bool, AllocError> {

@@ -10,7 +10,8 @@ use crate::course::{Course, event, fault_in};
 use crate::delays::has_delays;
 use crate::limits::Limits;
 use crate::systems::all_systems;
-use body_walker::{Program, fire_plain};
+use body_program::Program;
+use compiled_program::CompiledProgram;
 use delay_timers::Timers;
 use effect_log::Notes;
 use estelle_model::{Done, Event};
@@ -107,16 +108,18 @@ fn fresh<'a, H: Chooser + Drop>(
 pub(crate) fn begin<'a, H: Chooser + Drop>(
     alloc: Global,
     program: &'a Program<'a>,
+    code: &CompiledProgram,
     limits: Limits,
     chooser: H,
 ) -> Result<Course<'a, H>, AllocError>
+    requires code { code.now ≡ program.now }
     requires leads { LeadsToStates program.now }
     requires room { limits.budget * (limits.turns + 1) < 2 ^ 63 }
     ensures { IfOk result (IsBegun H.draw program.now limits chooser) }
 {
     let mut course = fresh(alloc, program, limits, chooser)?;
     let job = start_job(alloc, program, limits.budget)?;
-    let done = fire_plain(alloc, program, job)?;
+    let done = code.fire(alloc, job)?;
     course.history.reserve(2)?;
     course.reserve(alloc, &done)?;
     course.start(alloc, done);

@@ -14,7 +14,8 @@ use crate::limits::{Limits, Stepped};
 use crate::pending;
 use crate::putting::put_firing;
 use crate::systems::{first_due, note_in_all, wake_all};
-use body_walker::{ByTrees, Program, fire_plain};
+use body_program::Program;
+use compiled_program::CompiledProgram;
 use delay_timers::Timers;
 use effect_log::{Notes, Shared, reserve_for};
 use estelle_model::{Done, End, Event, Out, Outcome, Pair};
@@ -254,30 +255,28 @@ impl<H: Chooser + Drop> Course<'_, H> {
     }
 
     /// A system that is due selects at this moment, where no guard of it faults.
-    fn select_at(&mut self, alloc: Global, at: usize, now: u64) -> Result<Stepped, AllocError>
+    fn select_at(
+        &mut self,
+        alloc: Global,
+        code: &CompiledProgram,
+        at: usize,
+        now: u64,
+    ) -> Result<Stepped, AllocError>
+        requires code { code.now ≡ self.old.program.now }
         requires open { GoesOn 2 self.old }
         requires due { IsDueAt at self.old }
         ensures stepped { IfOk result (λ done. (moment : Option ℕ) → MayBeNow moment now self.old → HasStepped H.draw moment moment self.old self.new done) }
         ensures refused { OnErr result (IsUnchanged self.old self.new) }
         ensures unclocked { IfOk result (λ done. done ≢ did.Ended ByClock) }
     {
-        let guards = ByTrees::of(&*self.program);
         let view = View {
             program: &*self.program,
-            guards: &guards,
+            guards: code,
             shared: &self.shared,
             timers: &self.timers,
             budget: self.limits.budget,
         };
-        let chosen = select(alloc, &view, &self.systems[at].path, now, &mut self.chooser);
-        let View {
-            program: _,
-            guards: _,
-            shared: _,
-            timers: _,
-            budget: _,
-        } = view;
-        match chosen {
+        match select(alloc, &view, &self.systems[at].path, now, &mut self.chooser) {
             Ok(Chosen { takes, wanted }) => self.put_selected(alloc, at, now, takes, &wanted),
             Err(SelectFault::Guard { path, trans, fault }) => {
                 Ok(self.fault(at, path, trans, fault))
@@ -306,9 +305,11 @@ impl<H: Chooser + Drop> Course<'_, H> {
     fn select<C: Clock>(
         &mut self,
         alloc: Global,
+        code: &CompiledProgram,
         clock: &mut C,
         at: usize,
     ) -> Result<Stepped, AllocError>
+        requires code { code.now ≡ self.old.program.now }
         requires open { GoesOn 2 self.old }
         requires due { IsDueAt at self.old }
         ensures stepped { IfOk result (HasStepped H.draw (C.moment clock.old) (C.moment clock.new) self.old self.new) }
@@ -319,13 +320,19 @@ impl<H: Chooser + Drop> Course<'_, H> {
         ensures unasked { self.old.delays ≡ false → clock.new ≡ clock.old }
     {
         match self.moment(clock) {
-            Ok(now) => self.select_at(alloc, at, now),
+            Ok(now) => self.select_at(alloc, code, at, now),
             Err(_) => Ok(self.ended(End::Clock)),
         }
     }
 
     /// Computes a pending firing, and makes the room for it.
-    fn compute(&mut self, alloc: Global, at: usize) -> Result<Done, AllocError>
+    fn compute(
+        &mut self,
+        alloc: Global,
+        code: &CompiledProgram,
+        at: usize,
+    ) -> Result<Done, AllocError>
+        requires code { code.now ≡ self.old.program.now }
         requires open { GoesOn 3 self.old }
         requires below { fires self.old.history.entries < self.old.limits.turns }
         requires there { at < length self.old.pending.items }
@@ -341,7 +348,7 @@ impl<H: Chooser + Drop> Course<'_, H> {
             self.tickets,
             self.limits.budget,
         )?;
-        let done = fire_plain(alloc, self.program, job)?;
+        let done = code.fire(alloc, job)?;
         self.reserve(alloc, &done)?;
         Ok(done)
     }
@@ -396,7 +403,8 @@ impl<H: Chooser + Drop> Course<'_, H> {
     }
 
     /// One pending firing, which the chooser picks, is taken, computed and put.
-    fn fire(&mut self, alloc: Global) -> Result<Stepped, AllocError>
+    fn fire(&mut self, alloc: Global, code: &CompiledProgram) -> Result<Stepped, AllocError>
+        requires code { code.now ≡ self.old.program.now }
         requires open { GoesOn 3 self.old }
         requires ready { IsReady self.old }
         ensures stepped { IfOk result (λ done. (moment : Option ℕ) → HasStepped H.draw moment moment self.old self.new done) }
@@ -405,7 +413,7 @@ impl<H: Chooser + Drop> Course<'_, H> {
     {
         let at = pick(&mut self.chooser, self.pending.len());
         let path = self.pending[at].path.copy(alloc)?;
-        let done = self.compute(alloc, at)?;
+        let done = self.compute(alloc, code, at)?;
         Ok(self.commit(alloc, path, done))
     }
 
@@ -476,7 +484,13 @@ impl<H: Chooser + Drop> Course<'_, H> {
     }
 
     /// One step of a run that goes on, below the limit of firings.
-    fn go_on<C: Clock>(&mut self, alloc: Global, clock: &mut C) -> Result<Stepped, AllocError>
+    fn go_on<C: Clock>(
+        &mut self,
+        alloc: Global,
+        code: &CompiledProgram,
+        clock: &mut C,
+    ) -> Result<Stepped, AllocError>
+        requires code { code.now ≡ self.old.program.now }
         requires open { GoesOn 3 self.old }
         requires below { fires self.old.history.entries < self.old.limits.turns }
         ensures stepped { IfOk result (HasStepped H.draw (C.moment clock.old) (C.moment clock.new) self.old self.new) }
@@ -487,10 +501,10 @@ impl<H: Chooser + Drop> Course<'_, H> {
         ensures unasked { self.old.delays ≡ false → clock.new ≡ clock.old }
     {
         if let Some(at) = first_due(&self.systems) {
-            return self.select(alloc, clock, at);
+            return self.select(alloc, code, clock, at);
         }
         if !self.pending.is_empty() {
-            return self.fire(alloc);
+            return self.fire(alloc, code);
         }
         Ok(self.wait_or_end(clock))
     }
@@ -499,9 +513,11 @@ impl<H: Chooser + Drop> Course<'_, H> {
     pub(crate) fn step<C: Clock>(
         &mut self,
         alloc: Global,
+        code: &CompiledProgram,
         clock: &mut C,
     ) -> Result<Stepped, AllocError>
-        requires { IsCourse self.old }
+        requires code { code.now ≡ self.old.program.now }
+        requires keeps { IsCourse self.old }
         ensures stepped { IfOk result (HasStepped H.draw (C.moment clock.old) (C.moment clock.new) self.old self.new) }
         ensures refused { OnErr result (IsUnchanged self.old self.new) }
         ensures told { OnErr result (C.moment clock.new ≡ C.moment clock.old) }
@@ -516,6 +532,6 @@ impl<H: Chooser + Drop> Course<'_, H> {
         if self.tickets == u64::from(self.limits.turns) {
             return Ok(self.ended(End::Turns));
         }
-        self.go_on(alloc, clock)
+        self.go_on(alloc, code, clock)
     }
 }

@@ -11,6 +11,7 @@ use crate::begin::begin;
 use crate::course::Course;
 use crate::limits::{Limits, Stepped};
 use accepted_program::AcceptedProgram;
+use compiled_program::CompiledProgram;
 use estelle_model::{End, Run};
 use outside::{Chooser, Clock};
 use run_history::into_run;
@@ -35,10 +36,10 @@ impl<H: Chooser + Drop> Course<'_, H> {
     }
 }
 
-/// Runs the program of an accepted specification to its end.
+/// Runs a compiled program to its end.
 fn run<C: Clock, H: Chooser + Drop>(
     alloc: Global,
-    program: &AcceptedProgram,
+    program: &CompiledProgram,
     limits: Limits,
     clock: &mut C,
     chooser: H,
@@ -49,9 +50,9 @@ fn run<C: Clock, H: Chooser + Drop>(
     ensures later { C.faults clock.old ≤ C.faults clock.new }
     ensures unasked { has_delays program.now ≡ false → clock.new ≡ clock.old }
 {
-    let mut course = begin(alloc, program.program(), limits, chooser)?;
+    let mut course = begin(alloc, program.program(), program, limits, chooser)?;
     loop {
-        if let Stepped::Ended(_) = course.step(alloc, clock)? {
+        if let Stepped::Ended(_) = course.step(alloc, program, clock)? {
             return course.told(alloc);
         }
     }
@@ -73,5 +74,6 @@ pub fn execute<C: Clock, H: Chooser + Drop>(
     ensures unasked { has_delays (subject checked.now.spec checked.now.names) ≡ false → clock.new ≡ clock.old }
 {
     let program = AcceptedProgram::new(alloc, checked)?;
-    run(alloc, &program, limits, clock, chooser)
+    let compiled = CompiledProgram::new(alloc, checked, &program)?;
+    run(alloc, &compiled, limits, clock, chooser)
 }

@@ -10,7 +10,7 @@ ghost use Rattle.run_history.specs.Histories.{project};
 use crate::begin;
 use crate::course::Course;
 use crate::limits::{Limits, Stepped};
-use accepted_program::AcceptedProgram;
+use compiled_program::CompiledProgram;
 use estelle_model::End;
 use estelle_model_fates::{first_in_is_first_out, outputs_have_one_fate};
 use outside::{Chooser, Clock};
@@ -21,11 +21,13 @@ use std::marker::Model;
 /// A run of a specification with its chooser and its clock.
 #[derive(Drop)]
 pub struct World<'a, C, H> {
+    program: &'a CompiledProgram<'a>,
     course: Course<'a, H>,
     clock: C,
 }
 
 impl<'a, C, H> Model for World<'a, C, H> {
+    ghost use Rattle.std.specs.Prelude.{◌≡◌};
     ghost use Rattle.std.specs.Coded.{codes};
     ghost use Rattle.pascal_values.specs.contracts.value.Value as of_values;
     ghost use Rattle.estelle_tree.specs.contracts.tree.specification.Spec as of_specs;
@@ -39,7 +41,7 @@ impl<'a, C, H> Model for World<'a, C, H> {
 
     ghost view = { λ w. record { subject = w.course.program.now; limits = w.course.limits; history = w.course.history; end = w.course.end; time = w.course.time; systems = w.course.systems.items; chooser = w.course.chooser; clock = w.clock } };
 
-    ghost invariant = { λ w. IsCourse w.course };
+    ghost invariant = { λ w. IsCourse w.course × (w.program.now ≡ w.course.program.now) };
 }
 
 impl<'a, C: Clock + Drop, H: Chooser + Drop> World<'a, C, H> {
@@ -49,7 +51,7 @@ impl<'a, C: Clock + Drop, H: Chooser + Drop> World<'a, C, H> {
     /// Runs the start. The refusal is want of memory.
     pub fn begin(
         alloc: Global,
-        program: &'a AcceptedProgram<'a>,
+        program: &'a CompiledProgram<'a>,
         limits: Limits,
         clock: C,
         chooser: H,
@@ -62,8 +64,12 @@ impl<'a, C: Clock + Drop, H: Chooser + Drop> World<'a, C, H> {
         ensures unasked { IfOk result (λ world. world.clock ≡ clock) }
         ensures clock { IfErr result (λ refused. refused ≡ clock) }
     {
-        match begin::begin(alloc, program.program(), limits, chooser) {
-            Ok(course) => Ok(World { course, clock }),
+        match begin::begin(alloc, program.program(), program, limits, chooser) {
+            Ok(course) => Ok(World {
+                program,
+                course,
+                clock,
+            }),
             Err(_) => Err(clock),
         }
     }
@@ -79,7 +85,7 @@ impl<'a, C: Clock + Drop, H: Chooser + Drop> World<'a, C, H> {
         ensures cause { IfOk result (IsCause self.old.end (C.faults self.old.clock) (C.faults self.new.clock)) }
         ensures unasked { has_delays self.old.subject ≡ false → self.new.clock ≡ self.old.clock }
     {
-        self.course.step(alloc, &mut self.clock)
+        self.course.step(alloc, self.program, &mut self.clock)
     }
 
     /// The end, once there is one.
@@ -102,7 +108,11 @@ impl<'a, C: Clock + Drop, H: Chooser + Drop> World<'a, C, H> {
     {
         outputs_have_one_fate();
         first_in_is_first_out();
-        let World { course, clock } = self;
+        let World {
+            program: _,
+            course,
+            clock,
+        } = self;
         let Course { history, end, .. } = course;
         match end {
             Some(end) => (history, end, clock),
@@ -114,7 +124,11 @@ impl<'a, C: Clock + Drop, H: Chooser + Drop> World<'a, C, H> {
     pub fn give_up(self) -> C
         ensures { result ≡ self.entry.clock }
     {
-        let World { course: _, clock } = self;
+        let World {
+            program: _,
+            course: _,
+            clock,
+        } = self;
         clock
     }
 }

@@ -2,6 +2,7 @@
 
 use crate::firings::is_trace;
 use accepted_program::AcceptedProgram;
+use compiled_program::CompiledProgram;
 use estelle_model::End;
 use outside::{FirstChooser, VirtualClock};
 use run_history::{History, count_fires, project};
@@ -52,7 +53,7 @@ const ROWS: [Row; 3] = [
 
 fn begun<'a>(
     alloc: Global,
-    program: &'a AcceptedProgram<'a>,
+    program: &'a CompiledProgram<'a>,
     turns: u32,
 ) -> Option<World<'a, VirtualClock, FirstChooser>> {
     let limits = Limits { turns, budget: 100 };
@@ -107,7 +108,7 @@ fn is_finished(
     clock == CLOCK && count_fires(&history) == fires && is_told(alloc, &history, end, trace)
 }
 
-fn is_run(alloc: Global, program: &AcceptedProgram, row: &Row) -> bool {
+fn is_run(alloc: Global, program: &CompiledProgram, row: &Row) -> bool {
     let (turns, steps, fires, trace) = row;
     match begun(alloc, program, *turns) {
         Some(mut world) => {
@@ -119,7 +120,7 @@ fn is_run(alloc: Global, program: &AcceptedProgram, row: &Row) -> bool {
     }
 }
 
-fn is_given_up(alloc: Global, program: &AcceptedProgram) -> bool {
+fn is_given_up(alloc: Global, program: &CompiledProgram) -> bool {
     match begun(alloc, program, 10_000) {
         Some(mut world) => {
             goes(alloc, &mut world, &[Stepped::Selected]) && world.give_up() == CLOCK
@@ -128,7 +129,7 @@ fn is_given_up(alloc: Global, program: &AcceptedProgram) -> bool {
     }
 }
 
-fn all_run(rt: &impl Abort, alloc: Global, program: &AcceptedProgram) {
+fn all_run(rt: &impl Abort, alloc: Global, program: &CompiledProgram) {
     for row in &ROWS {
         assert!(rt; is_run(alloc, program, row), "{} turns", row.0);
     }
@@ -137,7 +138,8 @@ fn all_run(rt: &impl Abort, alloc: Global, program: &AcceptedProgram) {
 
 fn all_run_by(rt: &impl Abort, alloc: Global, checked: &Checked) -> Result<(), AllocError> {
     let program = AcceptedProgram::new(alloc, checked)?;
-    all_run(rt, alloc, &program);
+    let compiled = CompiledProgram::new(alloc, checked, &program)?;
+    all_run(rt, alloc, &compiled);
     Ok(())
 }
 

@@ -1,6 +1,8 @@
 use Rattle.std.proofs.Common.{◌≡◌, Some, sym, subst, refl, length}
 use Rattle.std.proofs.lemmas.Option.{slice_get_read}
 use Rattle.std.specs.Prelude.{slice_get}
+use Rattle.estelle_model.specs.Jobs.{Answers}
+use Rattle.estelle_model.specs.Subject.{Subject}
 use Rattle.situation.specs.declared.course.Course.{Course}
 use Rattle.situation.specs.Worlds.{now}
 use Rattle.situation.specs.Steps.{GoesOn, IsComputedAt}
@@ -16,7 +18,7 @@ returns-clause-computed g c =
     let there = contained old.pending.items c.args.at p c.requires.there c.index.ensures in
     let job_is = c.in_ok-job.ensures.job (now old) o.holds.stands o.going.under_way.legal (pending_now old 3 c.requires.open p there) in
     subst (λ x. IsComputedAt c.args.at x c.in_ok-done.done) (sym c.reserve.ensures.rest)
-    (computed_so old 3 c.requires.open c.requires.below c.args.at p is there c.in_ok-job.job job_is c.in_ok-done.done c.in_ok-done.ensures.answers c.reserve.new.self.shared c.reserve.new.self.notes c.in_ok-reserve.ensures.room)
+    (computed_so old 3 c.requires.open c.requires.below c.args.at p is there c.in_ok-job.job job_is c.in_ok-done.done (subst (λ (s : Subject). Answers s c.in_ok-job.job c.in_ok-done.done) c.requires.code c.in_ok-done.ensures) c.reserve.new.self.shared c.reserve.new.self.notes c.in_ok-reserve.ensures.room)
 
 pub returns-clause-open : goal.returns-clause-open
 returns-clause-open g c =

@@ -34,7 +34,7 @@ returns-in-Ok-clause-stepped g c =
     let s = old.program.now in
     let b = old.limits.budget in
     let draw = g.H.Chooser.draw in
-    let after = c.select-chosen.new.chooser in
+    let after = c.select.new.chooser in
     IfOk-weaker c.put_selected.result _ _
     (λ done h moment may. h old.chooser moment (record { no_earlier = may.no_earlier; last = may.last; undelayed = may.undelayed; told = may.told })
     (λ x there.
@@ -47,7 +47,7 @@ returns-in-Ok-clause-stepped g c =
 
 pub returns-in-Ok-clause-refused : goal.returns-in-Ok-clause-refused
 returns-in-Ok-clause-refused g c =
-    on_err_weaker c.put_selected.result (unchanged_before c.args.self.now c.select-chosen.new.chooser c.put_selected.new.self) c.put_selected.ensures.refused
+    on_err_weaker c.put_selected.result (unchanged_before c.args.self.now c.select.new.chooser c.put_selected.new.self) c.put_selected.ensures.refused
 
 pub fault-requires-clause-first : goal.fault-requires-clause-first
 fault-requires-clause-first g c x there =
@@ -64,7 +64,7 @@ fault-requires-clause-first g c x there =
 pub returns-in-Err-Guard-clause-stepped : goal.returns-in-Err-Guard-clause-stepped
 returns-in-Err-Guard-clause-stepped g c moment may =
     let old = c.args.self.now in
-    let same = subst (λ (e : SelectFault). LeavesChooser old.chooser c.select-chosen.new.chooser e) c.in-Err-Guard.field-0-is c.in-Err-Guard.ensures.unasked in
+    let same = subst (λ (e : SelectFault). LeavesChooser old.chooser c.select.new.chooser e) c.in-Err-Guard.field-0-is c.in-Err-Guard.ensures.unasked in
     subst (λ h. HasStepped g.H.Chooser.draw moment moment (record old { chooser = h }) c.fault.new.self c.fault.result) same (c.fault.ensures.stepped moment)
 
 pub returns-in-Err-Guard-clause-unclocked : goal.returns-in-Err-Guard-clause-unclocked
@@ -75,4 +75,4 @@ returns-in-Err-Guard-clause-unclocked g c is =
 pub returns-in-Err-Memory-clause-refused : goal.returns-in-Err-Memory-clause-refused
 returns-in-Err-Memory-clause-refused g c =
     let old = c.args.self.now in
-    unchanged old (record old { chooser = c.select-chosen.new.chooser }) 2 c.requires.open refl refl
+    unchanged old (record old { chooser = c.select.new.chooser }) 2 c.requires.open refl refl

@@ -15,7 +15,7 @@ returns-then-self-from-clause-stepped g c =
     let m = g.C.Clock.moment c.args.clock.now in
     let none : old.end ≡ None = search (rules, tests) in
     let room : 3 ≤ h.spare = search (rules, tests) in
-    let opened = goes_on_so old h 3 c.reserve.ensures.kept room none c.requires in
+    let opened = goes_on_so old h 3 c.reserve.ensures.kept room none c.requires.keeps in
     let fired = opened.is_open.fired in
     let full : fires h.entries ≡ old.limits.turns = search (rules, tests) in
     stepped_so g.H.Chooser.draw m m old c.ended.new.self h c.ended.result c.reserve.ensures.kept
