@@ -1,0 +1,2 @@
+" Made by bench/editors.sh.
+autocmd BufRead,BufNewFile *.est setfiletype estelle
