@@ -5,9 +5,9 @@
 # usage: bench/commands.sh [PROGRAM]
 #
 # PROGRAM is what `rt run` builds in crates/estelle_tool. A session is a fenced block whose first line begins with `$ `: each such
-# line is a command, which is run by sh at a place like the top of a clone, and behind it stands what it writes, to standard
-# output and then to standard error. A line `...` is any lines, or none. A command that no `$ echo $?` follows ends with status 0.
-# The sessions of one document are run in order in one folder, so that a later one finds what an earlier one wrote.
+# line is a command, which is run by sh at a place like the top of a clone, with its examples and tools. Behind it stands what it
+# writes, to standard output and then to standard error. A line `...` is any lines, or none. A command that no `$ echo $?` follows
+# ends with status 0. The sessions of one document are run in order in one folder, so that a later one finds what an earlier one wrote.
 set -u
 top=$(cd "$(dirname "$0")/.." && pwd)
 program=${1:-$top/crates/estelle_tool/out/estelle_tool}
@@ -25,7 +25,7 @@ for document in README.md docs/MANUAL.md examples/README.md; do
     room=$folder/$tried.room
     clone=$folder/$tried.clone
     mkdir "$room" "$clone"
-    cp -R "$top/examples" "$clone/examples"
+    cp -R "$top/examples" "$top/tools" "$clone"
     ln -s "$program" "$clone/estelle"
 
     # Of each command a part of the script, what it is to write (NUMBER.wanted), and where it stands, the status that is wanted and
