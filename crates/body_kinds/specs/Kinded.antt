@@ -1,8 +1,9 @@
 -- Codes of good kinds: all ways to an address agree on what stands on the stack.
-use Rattle.std.specs.Prelude.{◌≡◌, ◌≤◌, ◌<◌, ◌⊎◌, ℕ, suc, nat_le, Bool, true, false, if◌then◌else◌, IsTrue, List, [], ◌∷◌, ◌++◌, length, take, drop, reverse, map as each, slice_get, is_some, Option, Some, ℤ}
+use Rattle.std.specs.Prelude.{◌≡◌, ◌≤◌, ◌<◌, ◌⊎◌, ℕ, suc, nat_le, Bool, true, false, if◌then◌else◌, IsTrue, List, [], ◌∷◌, ◌++◌, length, take, drop, reverse, map as each, slice_get, is_some, Option, Some, None, ℤ}
 use Rattle.std.specs.List.{list_any, list_all}
 use Rattle.pascal_values.specs.declared.fault.Fault.{Fault}
 use Rattle.pascal_values.specs.declared.value.Value.{Value}
+use Rattle.pascal_values.specs.declared.value.Value.TheVariants as pascal
 use Rattle.pascal_values.specs.declared.value.Shape.{Shape, out-Shape}
 use Rattle.pascal_values.specs.declared.value.Shape.TheOpen.{Shape-F}
 use Rattle.body_code.specs.declared.instr.Point as point
@@ -26,18 +27,29 @@ use Rattle.body_numbers.specs.declared.numbers.Numbers.{Numbers}
 use Rattle.body_numbers.specs.Numbers.{shape_numbered, export_numbered, word_of, interaction_of}
 use Rattle.body_kinds.specs.Kinds.{Kind, Integer, Boolean, Character, Members, PlaceOf, is_ordinal, is_compared, is_of_values, simple_kind, kind_of, StoresInto}
 
--- what is known of a unit
-pub record Table : Type 0 where
+-- what is claimed of a unit
+pub record Claim : Type 0 where
   -- it and all that it calls need no instance of its body
   pub closed : Bool
-  -- the stack at each address that is come to, the topmost first
-  pub stacks : List (Option (List Kind))
-  -- what it leaves
+  -- what it leaves, the topmost first
   pub result : List Kind
 
 -- of each unit, by its body and its entry
-abbrev pub Tables : Type 0
-Tables = ℕ → Entry → Table
+abbrev pub Claims : Type 0
+Claims = ℕ → Entry → Claim
+
+-- the stack at each address that is come to, the topmost first
+abbrev pub Stacks : Type 0
+Stacks = List (Option (List Kind))
+
+-- what is known of a unit
+pub record Table : Type 0 where
+  pub closed : Bool
+  pub stacks : Stacks
+  pub result : List Kind
+
+abbrev pub with_stacks : Claim → Stacks → Table
+with_stacks c stacks = record { closed = c.closed; stacks = stacks; result = c.result }
 
 -- ---- what numbers and places are of
 
@@ -87,18 +99,22 @@ abbrev pub delay_kinds : Option DelayHigh → List Kind
 delay_kinds (Some (high.Expr e)) = Integer ∷ Integer ∷ []
 delay_kinds _ = Integer ∷ []
 
--- guards, delays and blocks begin with what is received, and leave what is asked
+-- it leaves true, whatever it is given
+abbrev pub SaysTrue : CodeUnit → Type 0
+SaysTrue unit = unit.instrs ≡ op.Push (pascal.Bool true) ∷ op.Ret ∷ []
+
+-- guards, delays and blocks begin with what is received, and leave what is asked; without `provided` a guard is true
 abbrev pub IsFor : Subject → ℕ → Entry → CodeUnit → List Kind → Type 0
 IsFor s body (entry.Routine k) unit result = Unit {0}
 IsFor s body entry.Initialize unit result = IsGiven [] unit × (result ≡ [])
-IsFor s body (entry.Guard k) unit result = (t : Transition) → transition s body k ≡ Some t → IsGiven t.received unit × (result ≡ Boolean ∷ [])
+IsFor s body (entry.Guard k) unit result = (t : Transition) → transition s body k ≡ Some t → IsGiven t.received unit × (result ≡ Boolean ∷ []) × (t.provided ≡ None → SaysTrue unit)
 IsFor s body (entry.Delay k) unit result = (t : Transition) (d : Delay) → transition s body k ≡ Some t → t.delay ≡ Some d → IsGiven t.received unit × (result ≡ delay_kinds d.high)
 IsFor s body (entry.Block k) unit result = (t : Transition) → transition s body k ≡ Some t → IsGiven t.received unit × (result ≡ [])
 
-module _ (s : Subject) (n : Numbers) (code : List CodeUnit) (tables : Tables) where
+module _ (s : Subject) (n : Numbers) (code : List CodeUnit) (claims : Claims) where
   -- all may call a closed routine; another one those of its body that are not closed
   abbrev pub MayCall : (body : ℕ) (closed : Bool) → (of_body routine : ℕ) → Type 0
-  MayCall body closed of_body routine = ((tables of_body (entry.Routine routine)).closed ≡ true) ⊎ ((closed ≡ false) × (of_body ≡ body))
+  MayCall body closed of_body routine = ((claims of_body (entry.Routine routine)).closed ≡ true) ⊎ ((closed ≡ false) × (of_body ≡ body))
 
   -- in a unit of a body with these locals
   module _ (body : ℕ) (closed : Bool) (locals : List Local) where
@@ -144,7 +160,7 @@ module _ (s : Subject) (n : Numbers) (code : List CodeUnit) (tables : Tables) wh
       has : (k : Kind) → IsTrue (is_ordinal k) → Leaves op.Has (Members ∷ k ∷ []) (Boolean ∷ [])
       -- with what the unit that is called leaves
       call : (of_body routine count : ℕ) (unit : CodeUnit) → unit_of code of_body (entry.Routine routine) ≡ Some unit → MayCall body closed of_body routine → TakesArguments count unit
-          → Leaves (op.Call of_body routine count) (given_kinds count unit.locals) (tables of_body (entry.Routine routine)).result
+          → Leaves (op.Call of_body routine count) (given_kinds count unit.locals) (claims of_body (entry.Routine routine)).result
       init : (modvar of_body count : ℕ) (unit : CodeUnit) → closed ≡ false → unit_of code of_body entry.Initialize ≡ Some unit → count ≡ length (child_of s of_body).parameters
           → Leaves (op.Init modvar of_body count) (value_kinds (child_of s of_body).parameters) []
       release : (modvar : ℕ) → closed ≡ false → Leaves (op.Release modvar) [] []
@@ -193,6 +209,10 @@ module _ (s : Subject) (n : Numbers) (code : List CodeUnit) (tables : Tables) wh
       pub each : (address : ℕ) (ks : List Kind) → Stands address ks → IsFine address ks
       pub values : IsTrue (list_all is_of_values t.result)
 
-  -- each unit is fine with its table, which tells what it is for
+  -- some stacks make the unit fine with what is claimed of it
+  abbrev pub HasStacks : ℕ → CodeUnit → Claim → Type 0
+  HasStacks body unit c = (stacks : Stacks) × IsKindedUnit body unit (with_stacks c stacks)
+
+  -- so they do each unit, of which is claimed what it is for
   abbrev pub IsKinded : Type 0
-  IsKinded = (body : ℕ) (e : Entry) (unit : CodeUnit) → unit_of code body e ≡ Some unit → IsKindedUnit body unit (tables body e) × IsFor s body e unit (tables body e).result
+  IsKinded = (body : ℕ) (e : Entry) (unit : CodeUnit) → unit_of code body e ≡ Some unit → HasStacks body unit (claims body e) × IsFor s body e unit (claims body e).result

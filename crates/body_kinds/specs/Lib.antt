@@ -2,4 +2,4 @@
 pub mod Kinds
 -- ---- codes of good kinds
 pub mod Kinded
-pub mod Listed
+pub mod Good

@@ -33,7 +33,7 @@ use Rattle.body_machine.specs.Frames.{frame_with, push_frame, pop_frame, deeper_
 use Rattle.body_machine.specs.Rows.{Row, Nullary, OfValue, OfPlace, OfValues, OfBoth, OfMany, Jumps, JumpsWhere, Turns, Calls, Begins, Returns, row}
 use Rattle.body_machine.specs.Steps.{behind, goes_on, taken_from, values_from, with_values, jump_back, jump, decide, turn, nothing_given, begun, enter, call_given, call_with, call_unit, initialize, init_with, resume, held, return_to, by_row, act, next}
 use Rattle.body_kinds.specs.Kinds.{Kind, Boolean, PlaceOf, is_of_values, kind_of}
-use Rattle.body_kinds.specs.Kinded.{Table, Tables, local_kind, given_kinds, goes_back, Stands, Enters, Leads, straight, jump as jumps, jfalse, jtrue, turn as turns, ret, fail, IsKindedUnit, IsKinded}
+use Rattle.body_kinds.specs.Kinded.{Claims, Table, with_stacks, local_kind, given_kinds, goes_back, Stands, Enters, Leads, straight, jump as jumps, jfalse, jtrue, turn as turns, ret, fail, IsKindedUnit, IsKinded}
 use Rattle.body_machine_kinds.specs.Typed.{Bodies, Grows, Frames, value_shapes, reference_shapes, MayBeHeld, IsSound, HasKind, HaveKinds, ArePlaces, IsRunning, with_own, IsUnit, IsActive, Fits, AreWaiting, IsTyped}
 use Rattle.body_machine_kinds.specs.Laws.{asks_more, AreLeft, RefusedBy, IsRefused, IsFate}
 use Rattle.body_machine_kinds.proofs.Values.{bool_operand}
@@ -53,27 +53,27 @@ one_item : (s : Subject) (bodies : Bodies) (frames : Frames) (k : Kind) (below :
 one_item s bodies frames k below [] h = absurd h
 one_item s bodies frames k below (i ∷ rest) h = (i, rest, refl, h.0, h.1)
 
-module _ (s : Subject) (n : Numbers) (code : List CodeUnit) (tables : Tables) where
+module _ (s : Subject) (n : Numbers) (code : List CodeUnit) (claims : Claims) where
   -- ---- more instances
 
   module _ (bodies all : Bodies) (grows : Grows bodies all) where
-    pub unit_grows : (lower : Frames) (a : Activation) (t : Table) → IsUnit s n code tables bodies lower a t → IsUnit s n code tables all lower a t
+    pub unit_grows : (lower : Frames) (a : Activation) (t : Table) → IsUnit s n code claims bodies lower a t → IsUnit s n code claims all lower a t
     unit_grows lower a t u = record {
       kinded = u.kinded;
       frame = u.frame;
-      references = places_grow s bodies all (with_own s n code tables lower a) (with_own s n code tables lower a) grows (λ f shapes e. e) (reference_shapes a.unit.locals) a.here.references u.references;
+      references = places_grow s bodies all (with_own s n code claims lower a) (with_own s n code claims lower a) grows (λ f shapes e. e) (reference_shapes a.unit.locals) a.here.references u.references;
       home = λ c. grows a.here.path a.body (u.home c);
     }
 
     held_grows : (body m : ℕ) (c : Path) → MayBeHeld s bodies body m c → MayBeHeld s all body m c
     held_grows body m c h = record { of_body = h.of_body; is = grows c h.of_body h.is; header = h.header }
 
-    fits_grow : (a : Activation) (return : Return) → Fits s n code tables bodies a return → Fits s n code tables all a return
+    fits_grow : (a : Activation) (return : Return) → Fits s n code claims bodies a return → Fits s n code claims all a return
     fits_grow a (ToParent variable body c) h = (h.0, grows a.here.path h.0 h.1, held_grows h.0 variable c h.2)
     fits_grow a ToNone h = tt
     fits_grow a ToCaller h = tt
 
-    pub waiting_grows : (last : List Kind) (frames : Frames) (return : Return) (result : List Kind) (waiting : List Activation) → AreWaiting s n code tables bodies last frames return result waiting → AreWaiting s n code tables all last frames return result waiting
+    pub waiting_grows : (last : List Kind) (frames : Frames) (return : Return) (result : List Kind) (waiting : List Activation) → AreWaiting s n code claims bodies last frames return result waiting → AreWaiting s n code claims all last frames return result waiting
     waiting_grows last frames return result [] h = h
     waiting_grows last frames return result (a ∷ waiting) h =
         let w = h.4 in (
@@ -84,7 +84,7 @@ module _ (s : Subject) (n : Numbers) (code : List CodeUnit) (tables : Tables) wh
           record {
             unit = unit_grows h.0 a h.1 w.unit;
             enters = w.enters;
-            items = kinds_grow s bodies all (with_own s n code tables h.0 a) (with_own s n code tables h.0 a) grows (λ f shapes e. e) h.2 a.stack w.items;
+            items = kinds_grow s bodies all (with_own s n code claims h.0 a) (with_own s n code claims h.0 a) grows (λ f shapes e. e) h.2 a.stack w.items;
             fits = fits_grow a return w.fits;
           },
           waiting_grows last h.0 a.return h.1.result waiting h.5,
@@ -92,18 +92,18 @@ module _ (s : Subject) (n : Numbers) (code : List CodeUnit) (tables : Tables) wh
 
   -- ---- a machine
 
-  module _ (kinded : IsKinded s n code tables) (known : Bodies) (last : List Kind) (m : Machine) (t : IsTyped s n code tables known last m) where
+  module _ (kinded : IsKinded s n code claims) (known : Bodies) (last : List Kind) (m : Machine) (t : IsTyped s n code claims known last m) where
     abbrev frames : Frames
-    frames = with_own s n code tables t.lower m.active
+    frames = with_own s n code claims t.lower m.active
 
     abbrev Running_well : Running Logged → Type 0
     Running_well r = IsRunning s t.bodies frames r
 
     abbrev Fate : Next → Type 0
-    Fate x = IsFate s n code tables known last m x
+    Fate x = IsFate s n code claims known last m x
 
     abbrev Entered : ℕ → List Kind → Type 0
-    Entered address ks = Enters s n code tables m.active.body m.active.unit t.table address ks
+    Entered address ks = Enters s n code claims m.active.body m.active.unit t.table address ks
 
     abbrev Items : List Kind → List Item → Type 0
     Items ks items = HaveKinds s t.bodies frames ks items
@@ -112,11 +112,11 @@ module _ (s : Subject) (n : Numbers) (code : List CodeUnit) (tables : Tables) wh
     abbrev moved : ℕ → List Item → Bool → Activation
     moved address stack turned = record m.active { address = address; stack = stack; turned = turned }
 
-    unit_moved : (address : ℕ) (stack : List Item) (turned : Bool) → IsUnit s n code tables t.bodies t.lower (moved address stack turned) t.table
+    unit_moved : (address : ℕ) (stack : List Item) (turned : Bool) → IsUnit s n code claims t.bodies t.lower (moved address stack turned) t.table
     unit_moved address stack turned = let u = t.active.unit in record { kinded = u.kinded; frame = u.frame; references = u.references; home = u.home }
 
-    arrived : (address : ℕ) (ks : List Kind) (stack : List Item) (turned : Bool) (r : Running Logged) → Running_well r → Stands s n code tables m.active.body m.active.unit t.table address ks
-        → (goes_back s n code tables address (slice_get m.active.unit.instrs address) ≡ true → turned ≡ true) → Items ks stack → IsTyped s n code tables known last (record m { running = r; active = moved address stack turned })
+    arrived : (address : ℕ) (ks : List Kind) (stack : List Item) (turned : Bool) (r : Running Logged) → Running_well r → Stands s n code claims m.active.body m.active.unit t.table address ks
+        → (goes_back s n code claims address (slice_get m.active.unit.instrs address) ≡ true → turned ≡ true) → Items ks stack → IsTyped s n code claims known last (record m { running = r; active = moved address stack turned })
     arrived address ks stack turned r h stands back items = record {
       bodies = t.bodies;
       grown = t.grown;
@@ -128,12 +128,12 @@ module _ (s : Subject) (n : Numbers) (code : List CodeUnit) (tables : Tables) wh
       waiting = t.waiting;
     }
 
-    entered : (address : ℕ) (ks : List Kind) (stack : List Item) (turned : Bool) (r : Running Logged) → Running_well r → Entered address ks → Items ks stack → IsTyped s n code tables known last (record m { running = r; active = moved address stack turned })
-    entered address ks stack turned r h e items = arrived address ks stack turned r h e.0 (λ back. absurd (not_both (goes_back s n code tables address (slice_get m.active.unit.instrs address)) back e.1)) items
+    entered : (address : ℕ) (ks : List Kind) (stack : List Item) (turned : Bool) (r : Running Logged) → Running_well r → Entered address ks → Items ks stack → IsTyped s n code claims known last (record m { running = r; active = moved address stack turned })
+    entered address ks stack turned r h e items = arrived address ks stack turned r h e.0 (λ back. absurd (not_both (goes_back s n code claims address (slice_get m.active.unit.instrs address)) back e.1)) items
 
     -- ---- instructions that go on behind themselves
 
-    went : (may : Bool) (left below : List Kind) (o : StepResult Logged (List Item)) (rest : List Item) → Safely may (Left s n code tables t.bodies frames left) o → Items below rest → Entered (suc m.active.address) (left ++ below)
+    went : (may : Bool) (left below : List Kind) (o : StepResult Logged (List Item)) (rest : List Item) → Safely may (Left s n code claims t.bodies frames left) o → Items below rest → Entered (suc m.active.address) (left ++ below)
         → ((l : ℕ) → o ≡ Err (Broken, l) → may ≡ true → IsRefused s n code m l) → Fate (goes_on o rest m)
     went may left below (Ok r) rest h k e refused = entered (suc m.active.address) (left ++ below) (r.0 ++ rest) m.active.turned r.1 h.1 e (kinds_append s t.bodies frames left r.0 below rest h.0 k)
     went may left below (Err (Faults f, l)) rest h k e refused = tt
@@ -145,8 +145,8 @@ module _ (s : Subject) (n : Numbers) (code : List CodeUnit) (tables : Tables) wh
     -- ---- units that are entered
 
     -- a unit begins above, and this one waits for what it leaves
-    began : (all : Bodies) (table : Table) (left below : List Kind) (o : StepResult Logged (Unit {0})) (a : Activation) (rest : List Item) → Grows t.bodies all → Safely false (Stays s all (with_own s n code tables frames a)) o
-        → IsActive s n code tables all frames a table [] → Items below rest → Entered (suc m.active.address) (left ++ below) → left ≡ table.result → Fits s n code tables all (behind rest m.active) a.return → Fate (enter o a rest m)
+    began : (all : Bodies) (table : Table) (left below : List Kind) (o : StepResult Logged (Unit {0})) (a : Activation) (rest : List Item) → Grows t.bodies all → Safely false (Stays s all (with_own s n code claims frames a)) o
+        → IsActive s n code claims all frames a table [] → Items below rest → Entered (suc m.active.address) (left ++ below) → left ≡ table.result → Fits s n code claims all (behind rest m.active) a.return → Fate (enter o a rest m)
     began all table left below (Ok r) a rest grows h active items e is fits = record {
       bodies = all;
       grown = λ p b k. grows p b (t.grown p b k);
@@ -173,8 +173,8 @@ module _ (s : Subject) (n : Numbers) (code : List CodeUnit) (tables : Tables) wh
     began all table left below (Err (Broken, l)) a rest grows h active items e is fits = absurd (cc)
 
     -- a unit as it begins
-    first : (all : Bodies) (body : ℕ) (u : CodeUnit) (table : Table) (path : Path) (references : List _) (return : Return) → IsKindedUnit s n code tables body u table → ArePlaces s all (frames ++ value_shapes u.locals ∷ []) (reference_shapes u.locals) references
-        → (table.closed ≡ false → all path ≡ Some body) → IsActive s n code tables all frames (begun body u path (suc m.active.here.frame) references return) table []
+    first : (all : Bodies) (body : ℕ) (u : CodeUnit) (table : Table) (path : Path) (references : List _) (return : Return) → IsKindedUnit s n code claims body u table → ArePlaces s all (frames ++ value_shapes u.locals ∷ []) (reference_shapes u.locals) references
+        → (table.closed ≡ false → all path ≡ Some body) → IsActive s n code claims all frames (begun body u path (suc m.active.here.frame) references return) table []
     first all body u table path references return k places home = record {
       unit = record {
         kinded = k;
@@ -184,18 +184,19 @@ module _ (s : Subject) (n : Numbers) (code : List CodeUnit) (tables : Tables) wh
       };
       stands = k.begins.0;
       items = tt;
-      turned = λ back. absurd (not_both (goes_back s n code tables 0 (slice_get u.instrs 0)) back k.begins.1);
+      turned = λ back. absurd (not_both (goes_back s n code claims 0 (slice_get u.instrs 0)) back k.begins.1);
     }
 
     -- ---- calls
 
     calls : (of_body routine count : ℕ) (u : CodeUnit) (left below : List Kind) → unit_of code of_body (entry.Routine routine) ≡ Some u
-        → ((tables of_body (entry.Routine routine)).closed ≡ true) ⊎ ((t.table.closed ≡ false) × (of_body ≡ m.active.body)) → count ≤ length u.locals → list_any (λ l. l.by_ref) (drop count u.locals) ≡ false
-        → left ≡ (tables of_body (entry.Routine routine)).result → Items (given_kinds count u.locals ++ below) m.active.stack → Entered (suc m.active.address) (left ++ below) → Fate (by_row s n code (Calls of_body routine count) m.active.stack m)
+        → ((claims of_body (entry.Routine routine)).closed ≡ true) ⊎ ((t.table.closed ≡ false) × (of_body ≡ m.active.body)) → count ≤ length u.locals → list_any (λ l. l.by_ref) (drop count u.locals) ≡ false
+        → left ≡ (claims of_body (entry.Routine routine)).result → Items (given_kinds count u.locals ++ below) m.active.stack → Entered (suc m.active.address) (left ++ below) → Fate (by_row s n code (Calls of_body routine count) m.active.stack m)
     calls of_body routine count u left below is may few none same items e =
         let top = taken s t.bodies frames (map local_kind (take count u.locals)) below count m.active.stack (taken_length count u.locals few) items in
         let g = given_is s t.bodies frames count u.locals top.top nothing_given top.topmost in
-        let table = tables of_body (entry.Routine routine) in
+        let k = (kinded of_body (entry.Routine routine) u is).0 in
+        let table = with_stacks (claims of_body (entry.Routine routine)) k.0 in
         let unit = begun of_body u m.active.here.path (suc m.active.here.frame) g.references ToCaller in
         subst (λ (o : Option CodeUnit). Fate (call_unit s n code of_body o count m.active.stack m)) (sym is)
         (subst (λ (o : Option (List Item × List Item)). Fate (call_with s n code of_body u count o m)) (sym top.is)
@@ -203,7 +204,7 @@ module _ (s : Subject) (n : Numbers) (code : List CodeUnit) (tables : Tables) wh
         (began t.bodies table left below ((deeper_than m.active.here.frame >> push_frame (frame_with u.locals count g.values)) m.running) unit top.rest (λ p b k. k)
         (safely_then false (Stays s t.bodies frames) (Stays s t.bodies (frames ++ value_shapes u.locals ∷ [])) (deeper_than m.active.here.frame m.running) (λ a. push_frame (frame_with u.locals count g.values)) (deeper s t.bodies frames false m.active.here.frame m.running t.running)
         (λ a r h. pushed s t.bodies frames (value_shapes u.locals) (frame_with u.locals count g.values) r (frame_begun count u.locals g.values g.held) h))
-        (first t.bodies of_body u table m.active.here.path g.references ToCaller (kinded of_body (entry.Routine routine) u is).0
+        (first t.bodies of_body u table m.active.here.path g.references ToCaller k.1
         (places_grow s t.bodies t.bodies frames (frames ++ value_shapes u.locals ∷ []) (λ p b k. k) (λ f shapes k. get_more frames (value_shapes u.locals ∷ []) f shapes k) (reference_shapes u.locals) g.references (references_all s t.bodies frames count u.locals g.references none g.places))
         (home table may))
         top.below e same tt)))
@@ -220,10 +221,12 @@ module _ (s : Subject) (n : Numbers) (code : List CodeUnit) (tables : Tables) wh
         → (o : StepResult Logged Path) → makes_child s m.active.here.path m.active.here.frame modvar of_body x.0 m.running ≡ o → Safely true (Made s t.bodies frames m.active.body m.active.here.path (t.active.unit.home own) modvar of_body) o
         → Fate (initialize s n code modvar of_body u o x.1 m)
     inits modvar of_body count u below x from own is items e refused (Ok r) at made =
-        began made.all (tables of_body entry.Initialize) [] below (push_frame (frame_with u.locals 0 []) r.1) (begun of_body u r.0 (suc m.active.here.frame) [] (ToParent modvar of_body r.0)) x.1 made.grown
+        let k = kinded of_body entry.Initialize u is in
+        let table = with_stacks (claims of_body entry.Initialize) k.0.0 in
+        began made.all table [] below (push_frame (frame_with u.locals 0 []) r.1) (begun of_body u r.0 (suc m.active.here.frame) [] (ToParent modvar of_body r.0)) x.1 made.grown
         (pushed s made.all frames (value_shapes u.locals) (frame_with u.locals 0 []) r.1 (frame_begun 0 u.locals [] refl) made.running)
-        (first made.all of_body u (tables of_body entry.Initialize) r.0 [] (ToParent modvar of_body r.0) (kinded of_body entry.Initialize u is).0 (no_references s made.all (frames ++ value_shapes u.locals ∷ []) u.locals (kinded of_body entry.Initialize u is).1.0.0) (λ c. made.is))
-        items e (sym (kinded of_body entry.Initialize u is).1.1) (m.active.body, made.grown m.active.here.path m.active.body (t.active.unit.home own), made.fits)
+        (first made.all of_body u table r.0 [] (ToParent modvar of_body r.0) k.0.1 (no_references s made.all (frames ++ value_shapes u.locals ∷ []) u.locals k.1.0.0) (λ c. made.is))
+        items e (sym k.1.1) (m.active.body, made.grown m.active.here.path m.active.body (t.active.unit.home own), made.fits)
     inits modvar of_body count u below x from own is items e refused (Err (Faults f, l)) at made = tt
     inits modvar of_body count u below x from own is items e refused (Err (Broken, l)) at made = refused l (x, from, at)
 
@@ -232,7 +235,7 @@ module _ (s : Subject) (n : Numbers) (code : List CodeUnit) (tables : Tables) wh
     none_below : (ks below : List Kind) → ks ≡ [] → Items (ks ++ below) m.active.stack → Items below m.active.stack
     none_below ks below e h = subst (λ (x : List Kind). Items (x ++ below) m.active.stack) e h
 
-    row_fate : (may : Bool) (x : Row) (wanted left below : List Kind) → IsGood s n code tables t.bodies frames m.active.body t.table.closed may x wanted left → Items (wanted ++ below) m.active.stack → Entered (suc m.active.address) (left ++ below)
+    row_fate : (may : Bool) (x : Row) (wanted left below : List Kind) → IsGood s n code claims t.bodies frames m.active.body t.table.closed may x wanted left → Items (wanted ++ below) m.active.stack → Entered (suc m.active.address) (left ++ below)
         → ((l : ℕ) → may ≡ true → RefusedBy s n code x m l → IsRefused s n code m l) → Fate (by_row s n code x m.active.stack m)
     row_fate may (Nullary p) wanted left below g items e refused =
         went may left below (p m.running) m.active.stack (g.1 m.running t.running) (none_below wanted below g.0 items) e (λ l at yes. refused l yes at)
@@ -309,17 +312,17 @@ module _ (s : Subject) (n : Numbers) (code : List CodeUnit) (tables : Tables) wh
         by true false rest h = entered (suc m.active.address) ks rest m.active.turned m.running t.running here h
         by false true rest h = entered (suc m.active.address) ks rest m.active.turned m.running t.running here h
 
-    turned : (ks : List Kind) (o : StepResult Logged (Unit {0})) → Safely false (Stays s t.bodies frames) o → Stands s n code tables m.active.body m.active.unit t.table (suc m.active.address) ks → Items ks m.active.stack → Fate (turn o m)
+    turned : (ks : List Kind) (o : StepResult Logged (Unit {0})) → Safely false (Stays s t.bodies frames) o → Stands s n code claims m.active.body m.active.unit t.table (suc m.active.address) ks → Items ks m.active.stack → Fate (turn o m)
     turned ks (Ok r) h stands items = arrived (suc m.active.address) ks m.active.stack true r.1 h stands (λ back. refl) items
     turned ks (Err (Faults f, l)) h stands items = tt
     turned ks (Err (Broken, l)) h stands items = absurd (cc)
 
     -- ---- the end of a unit
 
-    resumed : (return : Return) (result : List Kind) (a : Activation) (waiting : List Activation) (items : List Item) (r : Running Logged) (w : AreWaiting s n code tables t.bodies last t.lower return result (a ∷ waiting))
+    resumed : (return : Return) (result : List Kind) (a : Activation) (waiting : List Activation) (items : List Item) (r : Running Logged) (w : AreWaiting s n code claims t.bodies last t.lower return result (a ∷ waiting))
         → IsTrue (list_all is_of_values result) → Items result items → IsRunning s t.bodies t.lower r → Fate (resume s n code a waiting items r)
     resumed return result a waiting items r w values h running =
-        let own = with_own s n code tables w.0 a in
+        let own = with_own s n code claims w.0 a in
         record {
           bodies = t.bodies;
           grown = t.grown;
@@ -331,12 +334,12 @@ module _ (s : Subject) (n : Numbers) (code : List CodeUnit) (tables : Tables) wh
             unit = let u = w.4.unit in record { kinded = u.kinded; frame = u.frame; references = u.references; home = u.home };
             stands = w.4.enters.0;
             items = kinds_append s t.bodies own result items w.2 a.stack (values_anywhere s t.bodies frames own result items values h) w.4.items;
-            turned = λ back. absurd (not_both (goes_back s n code tables a.address (slice_get a.unit.instrs a.address)) back w.4.enters.1);
+            turned = λ back. absurd (not_both (goes_back s n code claims a.address (slice_get a.unit.instrs a.address)) back w.4.enters.1);
           };
           waiting = w.5;
         }
 
-    returned : (return : Return) (result : List Kind) (waiting : List Activation) (items : List Item) (r : Running Logged) → AreWaiting s n code tables t.bodies last t.lower return result waiting
+    returned : (return : Return) (result : List Kind) (waiting : List Activation) (items : List Item) (r : Running Logged) → AreWaiting s n code claims t.bodies last t.lower return result waiting
         → IsTrue (list_all is_of_values result) → Items result items → IsRunning s t.bodies t.lower r → Fate (return_to s n code return waiting items r)
     returned ToNone result [] items r w values h running = (subst (λ (ks : List Kind). AreLeft ks items) w.1 (values_left s t.bodies frames frames result items values h), (t.bodies, t.grown, running.state))
     returned ToCaller result [] items r w values h running = (subst (λ (ks : List Kind). AreLeft ks items) w.1 (values_left s t.bodies frames frames result items values h), (t.bodies, t.grown, running.state))
@@ -362,12 +365,12 @@ module _ (s : Subject) (n : Numbers) (code : List CodeUnit) (tables : Tables) wh
 
     -- ---- one instruction
 
-    lead_fate : (i : Instr) (ks : List Kind) → Leads s n code tables m.active.body m.active.unit t.table m.active.address i ks → slice_get m.active.unit.instrs m.active.address ≡ Some i → Items ks m.active.stack
+    lead_fate : (i : Instr) (ks : List Kind) → Leads s n code claims m.active.body m.active.unit t.table m.active.address i ks → slice_get m.active.unit.instrs m.active.address ≡ Some i → Items ks m.active.stack
         → Fate (by_row s n code (row s n m.active i) m.active.stack m)
     unfolding row
     lead_fate _ _ (straight i wanted left below l e) there items =
-        row_fate (asks_more i) (row s n m.active i) wanted left below (good s n code tables t.bodies t.lower m.active t.table t.active.unit i wanted left l) items e (λ k yes r. record { instr = i; there = there; asks = yes; refused = r })
-    lead_fate _ _ (jumps to ks e) there items = jumped to ks m.active.stack e items (λ back. t.active.turned (ap (goes_back s n code tables m.active.address) there ∙ back))
+        row_fate (asks_more i) (row s n m.active i) wanted left below (good s n code claims t.bodies t.lower m.active t.table t.active.unit i wanted left l) items e (λ k yes r. record { instr = i; there = there; asks = yes; refused = r })
+    lead_fate _ _ (jumps to ks e) there items = jumped to ks m.active.stack e items (λ back. t.active.turned (ap (goes_back s n code claims m.active.address) there ∙ back))
     lead_fate _ _ (jfalse to ks less e f) there items = decided false to ks less e f items
     lead_fate _ _ (jtrue to ks less e f) there items = decided true to ks less e f items
     lead_fate _ _ (turns ks stands) there items = turned ks (spend m.running) (spends s t.bodies frames false m.running t.running) stands items

@@ -47,7 +47,7 @@ use Rattle.body_machine.specs.Ends.{output_with}
 use Rattle.body_machine.specs.Slots.{reference_number}
 use Rattle.body_machine.specs.Rows.{Row, Nullary, OfValue, OfPlace, OfValues, OfBoth, OfMany, Calls, Begins, leaves, gives, nothing, by_export, store_as, computing, combining, storing, fitting, referring, exporting, acting, sending, row}
 use Rattle.body_kinds.specs.Kinds.{Kind, Integer, Boolean, Character, Enumerated, Members, PlaceOf, is_of_at, is_of, is_of_values, simple_kind_at, simple_kind, kind_of, part_in, StoresInto}
-use Rattle.body_kinds.specs.Kinded.{Table, Tables, variable_shape, HasHeader, given_kinds, value_kinds, TakesArguments, MayCall, Leaves, push, var, loc, ref, exp, field, index, load as loading, store, fit, blank, neg, abs, sqr, odd, chr, ord, successor, predecessor, negated, add, sub, mul, div, mod_, eq, ne, lt, le, gt, ge, empty, one, span, unite, meet, minus, has, call, init, release, connect, disconnect, attach, detach, output}
+use Rattle.body_kinds.specs.Kinded.{Table, Claims, variable_shape, HasHeader, given_kinds, value_kinds, TakesArguments, MayCall, Leaves, push, var, loc, ref, exp, field, index, load as loading, store, fit, blank, neg, abs, sqr, odd, chr, ord, successor, predecessor, negated, add, sub, mul, div, mod_, eq, ne, lt, le, gt, ge, empty, one, span, unite, meet, minus, has, call, init, release, connect, disconnect, attach, detach, output}
 use Rattle.body_machine_kinds.specs.Typed.{Bodies, Frames, value_shapes, MayBeHeld, IsPlaceOf, HaveKinds, IsRunning, with_own, IsUnit}
 use Rattle.body_machine_kinds.specs.Laws.{asks_more}
 use Rattle.body_machine_kinds.proofs.Values.{Gives, int_operand, neg_gives, abs_gives, sqr_gives, odd_gives, chr_gives, not_gives, ord_gives, succ_gives, pred_gives, one_gives, add_gives, sub_gives, mul_gives, div_gives, mod_gives, unite_gives, minus_gives, meet_gives, span_gives, has_gives, compare_gives, is_membership}
@@ -94,7 +94,7 @@ pub length_kinds : (types : List Denoter) → length (map (λ t. kind_of (shape_
 length_kinds [] = refl
 length_kinds (t ∷ types) = ap (λ (n : ℕ). suc n) (length_kinds types)
 
-module _ (s : Subject) (n : Numbers) (code : List CodeUnit) (tables : Tables) (bodies : Bodies) (frames : Frames) where
+module _ (s : Subject) (n : Numbers) (code : List CodeUnit) (claims : Claims) (bodies : Bodies) (frames : Frames) where
   -- items of these kinds are left, and all is as it has to be
   abbrev pub Left : List Kind → List Item → Running Logged → Type 0
   Left ks items r = HaveKinds s bodies frames ks items × IsRunning s bodies frames r
@@ -110,8 +110,8 @@ module _ (s : Subject) (n : Numbers) (code : List CodeUnit) (tables : Tables) (b
       × ((p : Place) (v : Value) (r : Running Logged) → IsPlaceOf s bodies frames shape p → is_of k v ≡ true → IsRunning s bodies frames r → Safely false (Left left) (f p v r))
   IsGood body closed may (OfMany count f) taken left = (ks : List Kind) × (taken ≡ reverse ks) × (count ≡ length ks) × IsTrue (list_all is_of_values ks)
       × ((vs : List Value) (r : Running Logged) → AreOf s bodies frames ks vs → IsRunning s bodies frames r → Safely may (Left left) (f vs r))
-  IsGood body closed may (Calls of_body routine count) taken left = (unit : CodeUnit) × (unit_of code of_body (entry.Routine routine) ≡ Some unit) × MayCall s n code tables body closed of_body routine × TakesArguments count unit
-      × (taken ≡ given_kinds count unit.locals) × (left ≡ (tables of_body (entry.Routine routine)).result)
+  IsGood body closed may (Calls of_body routine count) taken left = (unit : CodeUnit) × (unit_of code of_body (entry.Routine routine) ≡ Some unit) × MayCall s n code claims body closed of_body routine × TakesArguments count unit
+      × (taken ≡ given_kinds count unit.locals) × (left ≡ (claims of_body (entry.Routine routine)).result)
   IsGood body closed may (Begins modvar of_body count) taken left = (unit : CodeUnit) × (may ≡ true) × (closed ≡ false) × (unit_of code of_body entry.Initialize ≡ Some unit)
       × (count ≡ length (child_of s of_body).parameters) × (taken ≡ value_kinds (child_of s of_body).parameters) × (left ≡ [])
   IsGood body closed may _ taken left = ⊥
@@ -197,56 +197,56 @@ module _ (s : Subject) (n : Numbers) (code : List CodeUnit) (tables : Tables) (b
 
 -- ---- one line an opcode
 
-module _ (s : Subject) (n : Numbers) (code : List CodeUnit) (tables : Tables) (bodies : Bodies) (lower : Frames) (a : Activation) (t : Table) (u : IsUnit s n code tables bodies lower a t) where
+module _ (s : Subject) (n : Numbers) (code : List CodeUnit) (claims : Claims) (bodies : Bodies) (lower : Frames) (a : Activation) (t : Table) (u : IsUnit s n code claims bodies lower a t) where
   abbrev frames : Frames
-  frames = with_own s n code tables lower a
+  frames = with_own s n code claims lower a
 
-  pub good : (i : Instr) (taken left : List Kind) → Leaves s n code tables a.body t.closed a.unit.locals i taken left → IsGood s n code tables bodies frames a.body t.closed (asks_more i) (row s n a i) taken left
+  pub good : (i : Instr) (taken left : List Kind) → Leaves s n code claims a.body t.closed a.unit.locals i taken left → IsGood s n code claims bodies frames a.body t.closed (asks_more i) (row s n a i) taken left
   unfolding row
   good _ _ _ (push v k e) = (refl, λ r h. ((simple_is v k e, tt), h))
   good _ _ _ (var k shape c e) = (refl, λ r h. ((record { body = a.body; is = u.home c; variable = shape; declared = e; part = refl }, tt), h))
   good _ _ _ (loc k l e f) = (refl, λ r h. ((record { shapes = value_shapes a.unit.locals; is = ap (slice_get frames) u.frame ∙ get_last lower (value_shapes a.unit.locals); variable = l.shape; declared = slot_there a.unit.locals k l e f; part = refl }, tt), h))
-  good _ _ _ (ref k l e f) = referred s n code tables bodies frames a.body t.closed false a.unit.locals a.here.references k l e f (reference_there s bodies frames a.unit.locals a.here.references k l u.references e f)
-  good _ _ _ (exp modvar export shape c x) = exported s n code tables bodies frames a.body t.closed false a.here.path modvar x.variable (export_numbered n a.body modvar export) shape (u.home c) x.is x.shapes
+  good _ _ _ (ref k l e f) = referred s n code claims bodies frames a.body t.closed false a.unit.locals a.here.references k l e f (reference_there s bodies frames a.unit.locals a.here.references k l u.references e f)
+  good _ _ _ (exp modvar export shape c x) = exported s n code claims bodies frames a.body t.closed false a.here.path modvar x.variable (export_numbered n a.body modvar export) shape (u.home c) x.is x.shapes
   good _ _ _ (field k shape part fields e f) = (shape, refl, λ p r is h. ((place_deeper s bodies frames shape part k p (ap (λ (os : Shape-F Shape). part_in os k) e ∙ f) is, tt), h))
-  good _ _ _ (index low high shape item e) = (Integer, shape, refl, refl, λ p v r is i h. indexed s n code tables bodies frames a.body t.closed false low high shape item p v r e is i h)
-  good _ _ _ (loading shape) = loaded s n code tables bodies frames a.body t.closed false shape
-  good _ _ _ (store k outer shape e inner) = stored s n code tables bodies frames a.body t.closed false (shape_numbered n k) outer shape e inner
-  good _ _ _ (fit k shape e) = fitted s n code tables bodies frames a.body t.closed false (shape_numbered n k) shape e
-  good _ _ _ (blank shape) = blanked s n code tables bodies frames a.body t.closed false shape
-  good _ _ _ neg = computed s n code tables bodies frames a.body t.closed false unary.Neg Integer Integer refl neg_gives
-  good _ _ _ abs = computed s n code tables bodies frames a.body t.closed false unary.Abs Integer Integer refl abs_gives
-  good _ _ _ sqr = computed s n code tables bodies frames a.body t.closed false unary.Sqr Integer Integer refl sqr_gives
-  good _ _ _ odd = computed s n code tables bodies frames a.body t.closed false unary.Odd Integer Boolean refl odd_gives
-  good _ _ _ chr = computed s n code tables bodies frames a.body t.closed false unary.Chr Integer Character refl chr_gives
-  good _ _ _ (ord k o) = computed s n code tables bodies frames a.body t.closed false unary.Ord k Integer (ordinal_of_values k o) (ord_gives k o)
-  good _ _ _ (successor k o) = computed s n code tables bodies frames a.body t.closed false unary.Succ k k (ordinal_of_values k o) (succ_gives k o)
-  good _ _ _ (predecessor k o) = computed s n code tables bodies frames a.body t.closed false unary.Pred k k (ordinal_of_values k o) (pred_gives k o)
-  good _ _ _ negated = computed s n code tables bodies frames a.body t.closed false unary.Not Boolean Boolean refl not_gives
-  good _ _ _ add = combined s n code tables bodies frames a.body t.closed false binary.Plus Integer Integer Integer refl refl add_gives
-  good _ _ _ sub = combined s n code tables bodies frames a.body t.closed false binary.Minus Integer Integer Integer refl refl sub_gives
-  good _ _ _ mul = combined s n code tables bodies frames a.body t.closed false binary.Times Integer Integer Integer refl refl mul_gives
-  good _ _ _ div = combined s n code tables bodies frames a.body t.closed false binary.Div Integer Integer Integer refl refl div_gives
-  good _ _ _ mod_ = combined s n code tables bodies frames a.body t.closed false binary.Mod Integer Integer Integer refl refl mod_gives
-  good _ _ _ (eq k o) = compared s n code tables bodies frames a.body t.closed false relation.Equal k refl (compared_of_values k o)
-  good _ _ _ (ne k o) = compared s n code tables bodies frames a.body t.closed false relation.NotEqual k refl (compared_of_values k o)
-  good _ _ _ (lt k o) = compared s n code tables bodies frames a.body t.closed false relation.Less k refl (ordinal_of_values k o)
-  good _ _ _ (le k o) = compared s n code tables bodies frames a.body t.closed false relation.AtMost k refl (compared_of_values k o)
-  good _ _ _ (gt k o) = compared s n code tables bodies frames a.body t.closed false relation.Greater k refl (ordinal_of_values k o)
-  good _ _ _ (ge k o) = compared s n code tables bodies frames a.body t.closed false relation.AtLeast k refl (compared_of_values k o)
+  good _ _ _ (index low high shape item e) = (Integer, shape, refl, refl, λ p v r is i h. indexed s n code claims bodies frames a.body t.closed false low high shape item p v r e is i h)
+  good _ _ _ (loading shape) = loaded s n code claims bodies frames a.body t.closed false shape
+  good _ _ _ (store k outer shape e inner) = stored s n code claims bodies frames a.body t.closed false (shape_numbered n k) outer shape e inner
+  good _ _ _ (fit k shape e) = fitted s n code claims bodies frames a.body t.closed false (shape_numbered n k) shape e
+  good _ _ _ (blank shape) = blanked s n code claims bodies frames a.body t.closed false shape
+  good _ _ _ neg = computed s n code claims bodies frames a.body t.closed false unary.Neg Integer Integer refl neg_gives
+  good _ _ _ abs = computed s n code claims bodies frames a.body t.closed false unary.Abs Integer Integer refl abs_gives
+  good _ _ _ sqr = computed s n code claims bodies frames a.body t.closed false unary.Sqr Integer Integer refl sqr_gives
+  good _ _ _ odd = computed s n code claims bodies frames a.body t.closed false unary.Odd Integer Boolean refl odd_gives
+  good _ _ _ chr = computed s n code claims bodies frames a.body t.closed false unary.Chr Integer Character refl chr_gives
+  good _ _ _ (ord k o) = computed s n code claims bodies frames a.body t.closed false unary.Ord k Integer (ordinal_of_values k o) (ord_gives k o)
+  good _ _ _ (successor k o) = computed s n code claims bodies frames a.body t.closed false unary.Succ k k (ordinal_of_values k o) (succ_gives k o)
+  good _ _ _ (predecessor k o) = computed s n code claims bodies frames a.body t.closed false unary.Pred k k (ordinal_of_values k o) (pred_gives k o)
+  good _ _ _ negated = computed s n code claims bodies frames a.body t.closed false unary.Not Boolean Boolean refl not_gives
+  good _ _ _ add = combined s n code claims bodies frames a.body t.closed false binary.Plus Integer Integer Integer refl refl add_gives
+  good _ _ _ sub = combined s n code claims bodies frames a.body t.closed false binary.Minus Integer Integer Integer refl refl sub_gives
+  good _ _ _ mul = combined s n code claims bodies frames a.body t.closed false binary.Times Integer Integer Integer refl refl mul_gives
+  good _ _ _ div = combined s n code claims bodies frames a.body t.closed false binary.Div Integer Integer Integer refl refl div_gives
+  good _ _ _ mod_ = combined s n code claims bodies frames a.body t.closed false binary.Mod Integer Integer Integer refl refl mod_gives
+  good _ _ _ (eq k o) = compared s n code claims bodies frames a.body t.closed false relation.Equal k refl (compared_of_values k o)
+  good _ _ _ (ne k o) = compared s n code claims bodies frames a.body t.closed false relation.NotEqual k refl (compared_of_values k o)
+  good _ _ _ (lt k o) = compared s n code claims bodies frames a.body t.closed false relation.Less k refl (ordinal_of_values k o)
+  good _ _ _ (le k o) = compared s n code claims bodies frames a.body t.closed false relation.AtMost k refl (compared_of_values k o)
+  good _ _ _ (gt k o) = compared s n code claims bodies frames a.body t.closed false relation.Greater k refl (ordinal_of_values k o)
+  good _ _ _ (ge k o) = compared s n code claims bodies frames a.body t.closed false relation.AtLeast k refl (compared_of_values k o)
   good _ _ _ empty = (refl, λ r h. ((ap (is_of_at Members (value.Set [])) (value.outs-Set []), tt), h))
-  good _ _ _ (one k o) = computed s n code tables bodies frames a.body t.closed false unary.One k Members (ordinal_of_values k o) (one_gives k o)
-  good _ _ _ (span k o) = combined s n code tables bodies frames a.body t.closed false binary.Span k k Members (ordinal_of_values k o) (ordinal_of_values k o) (span_gives k o)
-  good _ _ _ unite = combined s n code tables bodies frames a.body t.closed false binary.Plus Members Members Members refl refl unite_gives
-  good _ _ _ meet = combined s n code tables bodies frames a.body t.closed false binary.Times Members Members Members refl refl meet_gives
-  good _ _ _ minus = combined s n code tables bodies frames a.body t.closed false binary.Minus Members Members Members refl refl minus_gives
-  good _ _ _ (has k o) = combined s n code tables bodies frames a.body t.closed false (binary.Compare relation.Member) k Members Boolean (ordinal_of_values k o) refl (has_gives k o)
+  good _ _ _ (one k o) = computed s n code claims bodies frames a.body t.closed false unary.One k Members (ordinal_of_values k o) (one_gives k o)
+  good _ _ _ (span k o) = combined s n code claims bodies frames a.body t.closed false binary.Span k k Members (ordinal_of_values k o) (ordinal_of_values k o) (span_gives k o)
+  good _ _ _ unite = combined s n code claims bodies frames a.body t.closed false binary.Plus Members Members Members refl refl unite_gives
+  good _ _ _ meet = combined s n code claims bodies frames a.body t.closed false binary.Times Members Members Members refl refl meet_gives
+  good _ _ _ minus = combined s n code claims bodies frames a.body t.closed false binary.Minus Members Members Members refl refl minus_gives
+  good _ _ _ (has k o) = combined s n code claims bodies frames a.body t.closed false (binary.Compare relation.Member) k Members Boolean (ordinal_of_values k o) refl (has_gives k o)
   good _ _ _ (call of_body routine count unit e may takes) = (unit, e, may, takes, refl, refl)
   good _ _ _ (init modvar of_body count unit c e many) = (unit, refl, c, e, many, refl, refl)
-  good _ _ _ (release modvar c) = acted s n code tables bodies frames a.body t.closed false _ (releases s bodies frames a.body a.here.path (u.home c) modvar)
-  good _ _ _ (connect x y c) = acted s n code tables bodies frames a.body t.closed true _ (connects s bodies frames a.body a.here.path (u.home c) x y)
-  good _ _ _ (disconnect (ends.Point x) c) = acted s n code tables bodies frames a.body t.closed true _ (disconnects s bodies frames a.body a.here.path (u.home c) x)
-  good _ _ _ (disconnect (ends.Child m) c) = acted s n code tables bodies frames a.body t.closed false _ (disconnects_child s bodies frames a.body a.here.path (u.home c) m)
-  good _ _ _ (attach upper lower c) = acted s n code tables bodies frames a.body t.closed true _ (attaches s bodies frames a.body a.here.path (u.home c) upper lower)
-  good _ _ _ (detach ip c) = acted s n code tables bodies frames a.body t.closed true _ (detaches s bodies frames a.body a.here.path (u.home c) ip)
-  good _ _ _ (output ip interaction count word kind c e f many) = sent s n code tables bodies frames a.body t.closed true a.here.path ip count (word_of n a.body ip) (interaction_of n a.body ip interaction) word kind refl (u.home c) e f many
+  good _ _ _ (release modvar c) = acted s n code claims bodies frames a.body t.closed false _ (releases s bodies frames a.body a.here.path (u.home c) modvar)
+  good _ _ _ (connect x y c) = acted s n code claims bodies frames a.body t.closed true _ (connects s bodies frames a.body a.here.path (u.home c) x y)
+  good _ _ _ (disconnect (ends.Point x) c) = acted s n code claims bodies frames a.body t.closed true _ (disconnects s bodies frames a.body a.here.path (u.home c) x)
+  good _ _ _ (disconnect (ends.Child m) c) = acted s n code claims bodies frames a.body t.closed false _ (disconnects_child s bodies frames a.body a.here.path (u.home c) m)
+  good _ _ _ (attach upper lower c) = acted s n code claims bodies frames a.body t.closed true _ (attaches s bodies frames a.body a.here.path (u.home c) upper lower)
+  good _ _ _ (detach ip c) = acted s n code claims bodies frames a.body t.closed true _ (detaches s bodies frames a.body a.here.path (u.home c) ip)
+  good _ _ _ (output ip interaction count word kind c e f many) = sent s n code claims bodies frames a.body t.closed true a.here.path ip count (word_of n a.body ip) (interaction_of n a.body ip interaction) word kind refl (u.home c) e f many

@@ -10,5 +10,6 @@ pub mod Going
 pub mod Runs
 pub mod Starting
 pub mod Jobs
+pub mod TrueGuards
+pub mod NeverStuck
 mod Worked
-pub mod Listed

@@ -11,14 +11,14 @@ use Rattle.body_numbers.specs.declared.numbers.Numbers.{Numbers}
 use Rattle.body_machine.specs.Machine.{Machine, Next, Goes, Ends, Stops}
 use Rattle.body_machine.specs.Steps.{next, run, Comes}
 use Rattle.body_kinds.specs.Kinds.{Kind}
-use Rattle.body_kinds.specs.Kinded.{Tables, IsKinded}
+use Rattle.body_kinds.specs.Kinded.{Claims, IsKinded}
 use Rattle.body_machine_kinds.specs.Typed.{Bodies, IsTyped}
 use Rattle.body_machine_kinds.specs.Laws.{IsResult, IsFate, IsEnd}
 use Rattle.body_machine_kinds.proofs.Going.{goes_on_well}
 
-module _ (s : Subject) (n : Numbers) (code : List CodeUnit) (tables : Tables) (kinded : IsKinded s n code tables) (known : Bodies) (last : List Kind) where
+module _ (s : Subject) (n : Numbers) (code : List CodeUnit) (claims : Claims) (kinded : IsKinded s n code claims) (known : Bodies) (last : List Kind) where
   abbrev End : Machine → Next → Type 0
-  End m x = IsEnd s n code tables known last m x
+  End m x = IsEnd s n code claims known last m x
 
   -- one instruction earlier
   earlier : (m new : Machine) (x : Next) → next s n code m ≡ Goes new → End new x → End m x
@@ -35,22 +35,22 @@ module _ (s : Subject) (n : Numbers) (code : List CodeUnit) (tables : Tables) (k
   stops_stay zero by left = refl
   stops_stay (suc k) by left = refl
 
-  pub runs_well : (k : ℕ) (m : Machine) → IsTyped s n code tables known last m → End m (run s n code k (Goes m))
+  pub runs_well : (k : ℕ) (m : Machine) → IsTyped s n code claims known last m → End m (run s n code k (Goes m))
   runs_well zero m t = t
-  runs_well (suc k) m t = by (next s n code m) refl (goes_on_well s n code tables kinded known last m t) (λ new h. runs_well k new h)
+  runs_well (suc k) m t = by (next s n code m) refl (goes_on_well s n code claims kinded known last m t) (λ new h. runs_well k new h)
     where
-      by : (x : Next) → next s n code m ≡ x → IsFate s n code tables known last m x → ((new : Machine) → IsTyped s n code tables known last new → End new (run s n code k (Goes new))) → End m (run s n code k x)
+      by : (x : Next) → next s n code m ≡ x → IsFate s n code claims known last m x → ((new : Machine) → IsTyped s n code claims known last new → End new (run s n code k (Goes new))) → End m (run s n code k x)
       by (Goes new) e f rest = earlier m new (run s n code k (Goes new)) e (rest new f)
       by (Ends items r) e f rest = subst (End m) (sym (ends_stay k items r)) f
       by (Stops (Faults fault) left) e f rest = subst (End m) (sym (stops_stay k (Faults fault) left)) f
       by (Stops Broken left) e f rest = subst (End m) (sym (stops_stay k Broken left)) record { at = m; typed = t; comes = (0, refl); stops = e; refused = f }
 
   -- and what is made of it
-  pub result_well : (m : Machine) (x : Next) (result : StepResult Logged (List Item)) → ended x ≡ Some result → End m x → IsResult s n code tables known last m result
+  pub result_well : (m : Machine) (x : Next) (result : StepResult Logged (List Item)) → ended x ≡ Some result → End m x → IsResult s n code claims known last m result
   result_well m (Goes new) result e h = absurd (cc)
-  result_well m (Ends items r) result e h = let is : Ok (items, r) ≡ result = cc in subst (IsResult s n code tables known last m) is h
-  result_well m (Stops (Faults f) left) result e h = let is : Err (Faults f, left) ≡ result = cc in subst (IsResult s n code tables known last m) is tt
-  result_well m (Stops Broken left) result e h = let is : Err (Broken, left) ≡ result = cc in subst (IsResult s n code tables known last m) is h
+  result_well m (Ends items r) result e h = let is : Ok (items, r) ≡ result = cc in subst (IsResult s n code claims known last m) is h
+  result_well m (Stops (Faults f) left) result e h = let is : Err (Faults f, left) ≡ result = cc in subst (IsResult s n code claims known last m) is tt
+  result_well m (Stops Broken left) result e h = let is : Err (Broken, left) ≡ result = cc in subst (IsResult s n code claims known last m) is h
 
-  pub comes_well : (m : Machine) → IsTyped s n code tables known last m → (x : Next) → Comes s n code (Goes m) x → End m x
+  pub comes_well : (m : Machine) → IsTyped s n code claims known last m → (x : Next) → Comes s n code (Goes m) x → End m x
   comes_well m t x c = subst (End m) c.1 (runs_well c.0 m t)

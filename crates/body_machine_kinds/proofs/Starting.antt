@@ -35,7 +35,7 @@ use Rattle.estelle_model_legality.proofs.Lookups.{same, same_is, same_itself}
 use Rattle.estelle_model_legality.proofs.Started.{only_there, only_was, root_was}
 use Rattle.body_numbers.specs.declared.numbers.Numbers.{Numbers}
 use Rattle.body_machine_meaning.specs.Executed.{started}
-use Rattle.body_kinds.specs.Kinded.{Tables, has_references, IsGiven, goes_back, IsKinded}
+use Rattle.body_kinds.specs.Kinded.{Claims, with_stacks, has_references, IsGiven, goes_back, IsKinded}
 use Rattle.body_machine_kinds.specs.Typed.{Bodies, value_shapes, is_held, MayBeHeld, IsSound, IsTyped}
 use Rattle.body_machine_kinds.specs.Laws.{MayBegin}
 use Rattle.body_machine_kinds.proofs.Parts.{belongs_held}
@@ -57,22 +57,23 @@ given_held (t ∷ types) (l ∷ locals) (v ∷ values) none same are =
     subst (λ (x : Bool). each_passes (each is_held (cond x [] (l.shape ∷ []) ++ value_shapes (take (length values) locals))) (v ∷ values) ≡ true) (sym b.0)
     (both_and (is_held l.shape v) (each_passes (each is_held (value_shapes (take (length values) locals))) values) (subst (λ (x : Shape). is_held x v ≡ true) shape (belongs_held (shape_of t) v both.0)) (given_held types locals values b.1 rest both.1))
 
-pub started_typed : (s : Subject) (n : Numbers) (code : List CodeUnit) (tables : Tables) → IsKinded s n code tables → (b : ℕ) (e : Entry) (unit : CodeUnit) → unit_of code b e ≡ Some unit → (types : List Denoter) → IsGiven types unit
-    → (values : List Value) → IsTrue (are_values_of types values) → (path : Path) (r : Running Logged) (begin : MayBegin s path b r.state.image) → IsTyped s n code tables begin.0 (tables b e).result (started b unit path values r)
-started_typed s n code tables kinded b e unit is types given values are path r begin =
-    let k = (kinded b e unit is).0 in
+pub started_typed : (s : Subject) (n : Numbers) (code : List CodeUnit) (claims : Claims) → IsKinded s n code claims → (b : ℕ) (e : Entry) (unit : CodeUnit) → unit_of code b e ≡ Some unit → (types : List Denoter) → IsGiven types unit
+    → (values : List Value) → IsTrue (are_values_of types values) → (path : Path) (r : Running Logged) (begin : MayBegin s path b r.state.image) → IsTyped s n code claims begin.0 (claims b e).result (started b unit path values r)
+started_typed s n code claims kinded b e unit is types given values are path r begin =
+    let stacks = (kinded b e unit is).0.0 in
+    let k = (kinded b e unit is).0.1 in
     record {
       bodies = begin.0;
       grown = λ p x k. k;
       lower = [];
-      table = tables b e;
+      table = with_stacks (claims b e) stacks;
       kinds = [];
       running = record { state = record { types = begin.1.types; instances = begin.1.instances }; values = (frame_begun (length values) unit.locals values (given_held types unit.locals values given.0 given.1 are), tt) };
       active = record {
         unit = record { kinded = k; frame = refl; references = no_references s begin.0 (value_shapes unit.locals ∷ []) unit.locals given.0; home = λ c. begin.2 };
         stands = k.begins.0;
         items = tt;
-        turned = λ back. absurd (not_both (goes_back s n code tables 0 (slice_get unit.instrs 0)) back k.begins.1);
+        turned = λ back. absurd (not_both (goes_back s n code claims 0 (slice_get unit.instrs 0)) back k.begins.1);
       };
       waiting = (refl, refl);
     }

@@ -31,7 +31,7 @@ use Rattle.body_machine.specs.Steps.{taken_from, values_from, next, Comes}
 use Rattle.body_kinds.specs.Kinds.{Kind, Boolean, is_of}
 use Rattle.estelle_model_legality.specs.Jobs.{IsLegalImage}
 use Rattle.body_machine_meaning.specs.Executed.{started, RunsTo}
-use Rattle.body_kinds.specs.Kinded.{Tables, IsGiven, delay_kinds, IsKinded}
+use Rattle.body_kinds.specs.Kinded.{Claims, IsGiven, delay_kinds, IsKinded}
 use Rattle.body_machine_kinds.specs.Typed.{Bodies, Grows, IsState, IsTyped}
 
 -- an instruction that asks for channels, roles, headers and bounds, which kinds do not tell
@@ -70,10 +70,10 @@ module _ (s : Subject) (n : Numbers) (code : List CodeUnit) where
     pub asks : IsTrue (asks_more instr)
     pub refused : RefusedBy (row s n m.active instr) m left
 
-  module _ (tables : Tables) where
+  module _ (claims : Claims) where
     -- a typed machine, an end with what is to be left, a fault, or a refusal
     abbrev pub IsFate : Bodies → List Kind → Machine → Next → Type 0
-    IsFate known last m (Goes new) = IsTyped s n code tables known last new
+    IsFate known last m (Goes new) = IsTyped s n code claims known last new
     IsFate known last m (Ends items running) = AreLeft last items × IsLeft s known running.state.image
     IsFate known last m (Stops (Faults f) left) = Unit {0}
     IsFate known last m (Stops Broken left) = IsRefused m left
@@ -81,14 +81,14 @@ module _ (s : Subject) (n : Numbers) (code : List CodeUnit) where
     -- what a run has come to is refused
     pub record WasRefused (known : Bodies) (last : List Kind) (m : Machine) (left : ℕ) : Type 0 where
       pub at : Machine
-      pub typed : IsTyped s n code tables known last at
+      pub typed : IsTyped s n code claims known last at
       pub comes : Comes s n code (Goes m) (Goes at)
       pub stops : next s n code at ≡ Stops Broken left
       pub refused : IsRefused at left
 
     -- the same of a run
     abbrev pub IsEnd : Bodies → List Kind → Machine → Next → Type 0
-    IsEnd known last m (Goes new) = IsTyped s n code tables known last new
+    IsEnd known last m (Goes new) = IsTyped s n code claims known last new
     IsEnd known last m (Ends items running) = AreLeft last items × IsLeft s known running.state.image
     IsEnd known last m (Stops (Faults f) left) = Unit {0}
     IsEnd known last m (Stops Broken left) = WasRefused known last m left
@@ -103,13 +103,13 @@ module _ (s : Subject) (n : Numbers) (code : List CodeUnit) where
 
 -- each instruction of a code of good kinds
 abbrev pub KindedCodesGoOn : Type 0
-KindedCodesGoOn = (s : Subject) (n : Numbers) (code : List CodeUnit) (tables : Tables) → IsKinded s n code tables →
-    (known : Bodies) (last : List Kind) (m : Machine) → IsTyped s n code tables known last m → IsFate s n code tables known last m (next s n code m)
+KindedCodesGoOn = (s : Subject) (n : Numbers) (code : List CodeUnit) (claims : Claims) → IsKinded s n code claims →
+    (known : Bodies) (last : List Kind) (m : Machine) → IsTyped s n code claims known last m → IsFate s n code claims known last m (next s n code m)
 
 -- and each run
 abbrev pub KindedCodesAreNotStuck : Type 0
-KindedCodesAreNotStuck = (s : Subject) (n : Numbers) (code : List CodeUnit) (tables : Tables) → IsKinded s n code tables →
-    (known : Bodies) (last : List Kind) (m : Machine) → IsTyped s n code tables known last m → (x : Next) → Comes s n code (Goes m) x → IsEnd s n code tables known last m x
+KindedCodesAreNotStuck = (s : Subject) (n : Numbers) (code : List CodeUnit) (claims : Claims) → IsKinded s n code claims →
+    (known : Bodies) (last : List Kind) (m : Machine) → IsTyped s n code claims known last m → (x : Next) → Comes s n code (Goes m) x → IsEnd s n code claims known last m x
 
 -- an instance of the body may begin on these instances
 abbrev pub MayBegin : Subject → Path → (body : ℕ) → Core → Type 0
@@ -117,10 +117,10 @@ MayBegin s path body c = (bodies : Bodies) × IsState s bodies c × (bodies path
 
 -- and each run of a unit that begins with values of the types that it is given
 abbrev pub StartedAreNotStuck : Type 0
-StartedAreNotStuck = (s : Subject) (n : Numbers) (code : List CodeUnit) (tables : Tables) → IsKinded s n code tables →
+StartedAreNotStuck = (s : Subject) (n : Numbers) (code : List CodeUnit) (claims : Claims) → IsKinded s n code claims →
     (body : ℕ) (e : Entry) (unit : CodeUnit) → unit_of code body e ≡ Some unit → (types : List Denoter) → IsGiven types unit → (values : List Value) → IsTrue (are_values_of types values) →
     (path : Path) (r : Running Logged) (begin : MayBegin s path body r.state.image) → (x : Next) → Comes s n code (Goes (started body unit path values r)) x →
-    IsEnd s n code tables begin.0 (tables body e).result (started body unit path values r) x
+    IsEnd s n code claims begin.0 (claims body e).result (started body unit path values r) x
 
 -- each instance of a legal image may begin there
 abbrev pub LegalImagesMayBegin : Type 0
@@ -132,31 +132,31 @@ TheStartMayBegin = (s : Subject) → MayBegin s [] 0 (bare s).core
 
 -- ---- what jobs and guards run
 
-module _ (s : Subject) (n : Numbers) (code : List CodeUnit) (tables : Tables) where
+module _ (s : Subject) (n : Numbers) (code : List CodeUnit) (claims : Claims) where
   -- whatever a unit comes to that runs for itself, for an instance that is there
   abbrev pub RunsWell : (last : List Kind) (body : ℕ) → CodeUnit → Path → List Value → Running Logged → Type 0
   RunsWell last body unit path values r = (known : Bodies) × (known path ≡ Some body)
-      × ((result : StepResult Logged (List Item)) → RunsTo s n code body (Some unit) path values r result → IsResult s n code tables known last (started body unit path values r) result)
+      × ((result : StepResult Logged (List Item)) → RunsTo s n code body (Some unit) path values r result → IsResult s n code claims known last (started body unit path values r) result)
 
 -- the block of a transition, on what is received
 abbrev pub BlocksAreNotStuck : Type 0
-BlocksAreNotStuck = (s : Subject) (n : Numbers) (code : List CodeUnit) (tables : Tables) → IsKinded s n code tables →
+BlocksAreNotStuck = (s : Subject) (n : Numbers) (code : List CodeUnit) (claims : Claims) → IsKinded s n code claims →
     (body k : ℕ) (unit : CodeUnit) → unit_of code body (entry.Block k) ≡ Some unit → (t : Transition) → transition s body k ≡ Some t → (values : List Value) → IsTrue (are_values_of t.received values) →
-    (path : Path) (r : Running Logged) → MayBegin s path body r.state.image → RunsWell s n code tables [] body unit path values r
+    (path : Path) (r : Running Logged) → MayBegin s path body r.state.image → RunsWell s n code claims [] body unit path values r
 
 -- its guard, which leaves a truth value
 abbrev pub GuardsAreNotStuck : Type 0
-GuardsAreNotStuck = (s : Subject) (n : Numbers) (code : List CodeUnit) (tables : Tables) → IsKinded s n code tables →
+GuardsAreNotStuck = (s : Subject) (n : Numbers) (code : List CodeUnit) (claims : Claims) → IsKinded s n code claims →
     (body k : ℕ) (unit : CodeUnit) → unit_of code body (entry.Guard k) ≡ Some unit → (t : Transition) → transition s body k ≡ Some t → (values : List Value) → IsTrue (are_values_of t.received values) →
-    (path : Path) (r : Running Logged) → MayBegin s path body r.state.image → RunsWell s n code tables (Boolean ∷ []) body unit path values r
+    (path : Path) (r : Running Logged) → MayBegin s path body r.state.image → RunsWell s n code claims (Boolean ∷ []) body unit path values r
 
 -- its delay, which leaves an integer, or two
 abbrev pub DelaysAreNotStuck : Type 0
-DelaysAreNotStuck = (s : Subject) (n : Numbers) (code : List CodeUnit) (tables : Tables) → IsKinded s n code tables →
+DelaysAreNotStuck = (s : Subject) (n : Numbers) (code : List CodeUnit) (claims : Claims) → IsKinded s n code claims →
     (body k : ℕ) (unit : CodeUnit) → unit_of code body (entry.Delay k) ≡ Some unit → (t : Transition) (d : Delay) → transition s body k ≡ Some t → t.delay ≡ Some d → (values : List Value) → IsTrue (are_values_of t.received values) →
-    (path : Path) (r : Running Logged) → MayBegin s path body r.state.image → RunsWell s n code tables (delay_kinds d.high) body unit path values r
+    (path : Path) (r : Running Logged) → MayBegin s path body r.state.image → RunsWell s n code claims (delay_kinds d.high) body unit path values r
 
 -- the initialization of a body
 abbrev pub InitializationsAreNotStuck : Type 0
-InitializationsAreNotStuck = (s : Subject) (n : Numbers) (code : List CodeUnit) (tables : Tables) → IsKinded s n code tables →
-    (body : ℕ) (unit : CodeUnit) → unit_of code body entry.Initialize ≡ Some unit → (path : Path) (r : Running Logged) → MayBegin s path body r.state.image → RunsWell s n code tables [] body unit path [] r
+InitializationsAreNotStuck = (s : Subject) (n : Numbers) (code : List CodeUnit) (claims : Claims) → IsKinded s n code claims →
+    (body : ℕ) (unit : CodeUnit) → unit_of code body entry.Initialize ≡ Some unit → (path : Path) (r : Running Logged) → MayBegin s path body r.state.image → RunsWell s n code claims [] body unit path [] r

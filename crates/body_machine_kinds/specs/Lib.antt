@@ -2,3 +2,4 @@
 pub mod Typed
 -- ---- the laws
 pub mod Laws
+pub mod NeverStuck

@@ -22,7 +22,7 @@ use Rattle.body_machine.specs.declared.activation.Return.{Return}
 use Rattle.body_machine.specs.declared.activation.Return.TheVariants.{ToParent}
 use Rattle.body_machine.specs.Machine.{Activation, Machine}
 use Rattle.body_kinds.specs.Kinds.{Kind, Whole, PlaceOf, is_of_at, is_of, kind_of, shape_in}
-use Rattle.body_kinds.specs.Kinded.{Table, Tables, variable_shape, HasHeader, goes_back, Stands, Enters, IsKindedUnit}
+use Rattle.body_kinds.specs.Kinded.{Table, Claims, variable_shape, HasHeader, goes_back, Stands, Enters, IsKindedUnit}
 
 -- The body of each instance that there has been, since places name those that are gone.
 abbrev pub Bodies : Type 0
@@ -137,7 +137,7 @@ module _ (s : Subject) (bodies : Bodies) where
     ArePlaces (shape ∷ shapes) (p ∷ places) = IsPlaceOf shape p × ArePlaces shapes places
     ArePlaces _ _ = ⊥
 
-module _ (s : Subject) (n : Numbers) (code : List CodeUnit) (tables : Tables) where
+module _ (s : Subject) (n : Numbers) (code : List CodeUnit) (claims : Claims) where
   -- the frames of those below a unit, and its own
   abbrev pub with_own : Frames → Activation → Frames
   with_own lower a = lower ++ value_shapes a.unit.locals ∷ []
@@ -145,7 +145,7 @@ module _ (s : Subject) (n : Numbers) (code : List CodeUnit) (tables : Tables) wh
   module _ (bodies : Bodies) where
     -- a unit of good kinds has its frame, its references and the instance that it needs
     pub record IsUnit (lower : Frames) (a : Activation) (t : Table) : Type 0 where
-      pub kinded : IsKindedUnit s n code tables a.body a.unit t
+      pub kinded : IsKindedUnit s n code claims a.body a.unit t
       pub frame : a.here.frame ≡ length lower
       pub references : ArePlaces s bodies (with_own lower a) (reference_shapes a.unit.locals) a.here.references
       pub home : t.closed ≡ false → bodies a.here.path ≡ Some a.body
@@ -153,9 +153,9 @@ module _ (s : Subject) (n : Numbers) (code : List CodeUnit) (tables : Tables) wh
     -- the stack has the kinds at the address, and a jump back its turn
     pub record IsActive (lower : Frames) (a : Activation) (t : Table) (ks : List Kind) : Type 0 where
       pub unit : IsUnit lower a t
-      pub stands : Stands s n code tables a.body a.unit t a.address ks
+      pub stands : Stands s n code claims a.body a.unit t a.address ks
       pub items : HaveKinds s bodies (with_own lower a) ks a.stack
-      pub turned : goes_back s n code tables a.address (slice_get a.unit.instrs a.address) ≡ true → a.turned ≡ true
+      pub turned : goes_back s n code claims a.address (slice_get a.unit.instrs a.address) ≡ true → a.turned ≡ true
 
     -- a child fits the module variable that will hold it
     abbrev pub Fits : Activation → Return → Type 0
@@ -165,7 +165,7 @@ module _ (s : Subject) (n : Numbers) (code : List CodeUnit) (tables : Tables) wh
     -- a unit that waits for these kinds, above its own
     pub record IsWaiting (lower : Frames) (a : Activation) (t : Table) (return : Return) (result ks : List Kind) : Type 0 where
       pub unit : IsUnit lower a t
-      pub enters : Enters s n code tables a.body a.unit t a.address (result ++ ks)
+      pub enters : Enters s n code claims a.body a.unit t a.address (result ++ ks)
       pub items : HaveKinds s bodies (with_own lower a) ks a.stack
       pub fits : Fits a return
 

@@ -1,7 +1,7 @@
 //! The laws: the contract of each is the law, and none does anything.
 
 ghost use Rattle.body_machine_kinds.specs.Laws.{KindedCodesGoOn, KindedCodesAreNotStuck, StartedAreNotStuck, LegalImagesMayBegin, TheStartMayBegin, BlocksAreNotStuck, GuardsAreNotStuck, DelaysAreNotStuck, InitializationsAreNotStuck};
-ghost use Rattle.body_kinds.specs.Listed.{KindedByUnits};
+ghost use Rattle.body_machine_kinds.specs.NeverStuck.{GoodKindsAreNeverStuck, TrueGuardsSayTrue};
 
 /// An instruction of a code of good kinds finds its operands. What stops it is a fault, or a rule of a statement of Estelle
 /// that its own step tests.
@@ -33,7 +33,13 @@ pub fn legal_images_may_begin()
     ensures start { TheStartMayBegin }
 {}
 
-/// A code is of good kinds where its units are with their tables, one after another.
-pub fn kinded_by_units()
-    ensures { KindedByUnits }
+/// In all, the start, firings and guards by a code of good kinds end, fault, or break a rule only where an instruction that asks for
+/// more than kinds is refused.
+pub fn good_kinds_are_never_stuck()
+    ensures { GoodKindsAreNeverStuck }
+{}
+
+/// The guard of a transition without `provided` leaves true, whatever it is given.
+pub fn true_guards_say_true()
+    ensures { TrueGuardsSayTrue }
 {}

@@ -7,6 +7,6 @@
 mod laws;
 
 pub use laws::{
-    kinded_by_units, kinded_codes_are_not_stuck, kinded_codes_go_on, legal_images_may_begin,
-    started_are_not_stuck, units_are_not_stuck,
+    good_kinds_are_never_stuck, kinded_codes_are_not_stuck, kinded_codes_go_on,
+    legal_images_may_begin, started_are_not_stuck, true_guards_say_true, units_are_not_stuck,
 };

@@ -17,7 +17,7 @@ use Rattle.estelle_model.specs.declared.meaning.InteractionKind.{InteractionKind
 use Rattle.estelle_model.specs.Subject.{child_of}
 use Rattle.body_numbers.specs.Numbers.{shape_numbered, word_of, interaction_of}
 use Rattle.body_kinds.specs.Kinds.{Kind, Integer, PlaceOf, simple_kind, kind_of, StoresInto, itself, inside}
-use Rattle.body_kinds.specs.Kinded.{Table, variable_shape, IsExport, given_kinds, value_kinds, TakesArguments, MayCall, push, var, loc, ref, exp, field, index, load, store, fit, blank, call, init, release, connect, disconnect, attach, detach, output}
+use Rattle.body_kinds.specs.Kinded.{Claim as Claimed, variable_shape, IsExport, given_kinds, value_kinds, TakesArguments, MayCall, push, var, loc, ref, exp, field, index, load, store, fit, blank, call, init, release, connect, disconnect, attach, detach, output}
 use Rattle.body_unit_kinds.specs.declared.kind.Kind as code
 use Rattle.body_unit_kinds.specs.declared.claims.Claim.{Claim}
 use Rattle.body_unit_kinds.specs.declared.effects.After.{After}
@@ -74,10 +74,10 @@ module _ (h : Here) where
   pub effect_call : (b r count : ℕ) (unit : CodeUnit) (claim : Claim) (left ks rest : List Kind) → unit_of h.code.now b (entry.Routine r) ≡ Some unit → claimed h.claims.now b (entry.Routine r) ≡ claimed_by (Some claim)
       → (claim.closed ≡ true) ⊎ ((h.claim.now.closed ≡ false) × (b ≡ h.body)) → TakesArguments count unit → stack_of claim.result ≡ left → ks ≡ given_kinds count unit.locals ++ rest → HasEffect h (op.Call b r count) ks left rest
   effect_call b r count unit claim left ks rest e is may takes l g =
-      subst (λ (x : List Kind). HasEffect h (op.Call b r count) ks x rest) (ap (λ (t : Table). t.result) is ∙ l) (record { taken = given_kinds count unit.locals; are = g; leaves = call b r count unit e (may_call may) takes })
+      subst (λ (x : List Kind). HasEffect h (op.Call b r count) ks x rest) (ap (λ (c : Claimed). c.result) is ∙ l) (record { taken = given_kinds count unit.locals; are = g; leaves = call b r count unit e (may_call may) takes })
     where
       may_call : (claim.closed ≡ true) ⊎ ((h.claim.now.closed ≡ false) × (b ≡ h.body)) → MayCall h.bodies.now h.numbers.now h.code.now (claimed h.claims.now) h.body h.claim.now.closed b r
-      may_call (inl c) = inl (ap (λ (t : Table). t.closed) is ∙ c)
+      may_call (inl c) = inl (ap (λ (c : Claimed). c.closed) is ∙ c)
       may_call (inr c) = inr c
 
   pub effect_init : (m b count : ℕ) (unit : CodeUnit) (ks rest : List Kind) → h.claim.now.closed ≡ false → unit_of h.code.now b entry.Initialize ≡ Some unit → count ≡ length (child_of h.bodies.now b).parameters

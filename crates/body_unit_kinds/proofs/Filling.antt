@@ -5,10 +5,11 @@ use Rattle.std.proofs.lemmas.Option.{slice_get-map}
 use Rattle.std.proofs.lemmas.List.{length-set}
 use Rattle.estelle_model_legality.proofs.Lists.{set_other, set_same}
 use Rattle.body_kinds.specs.Kinds.{Kind}
+use Rattle.body_kinds.specs.Kinded.{Stacks}
 use Rattle.body_unit_kinds.specs.declared.kind.Kind as code
 use Rattle.body_unit_kinds.specs.declared.here.Here.{Here}
 use Rattle.body_unit_kinds.specs.Seen.{stack_of, stacks_of}
-use Rattle.body_unit_kinds.specs.Units.{Stacks, Grows, Enters}
+use Rattle.body_unit_kinds.specs.Units.{Grows, Enters}
 
 pub same_stacks : (a : ℕ) (s : Stacks) → Grows a s s
 same_stacks a s = record { more = λ k ks h. h; kept = λ k less. refl; same = refl }

@@ -8,10 +8,10 @@ use Rattle.pascal_values.specs.declared.fault.Fault.{Fault}
 use Rattle.body_code.specs.declared.instr.Instr.{Instr}
 use Rattle.body_code.specs.declared.instr.Instr.TheVariants as op
 use Rattle.body_kinds.specs.Kinds.{Kind, Boolean, is_of_values}
-use Rattle.body_kinds.specs.Kinded.{goes_back, Leads, straight, jump, jfalse, jtrue, turn, ret, fail}
+use Rattle.body_kinds.specs.Kinded.{Stacks, HasStacks, goes_back, Leads, straight, jump, jfalse, jtrue, turn, ret, fail}
 use Rattle.body_unit_kinds.specs.declared.here.Here.{Here}
 use Rattle.body_unit_kinds.specs.Seen.{stack_of, claimed, claimed_by}
-use Rattle.body_unit_kinds.specs.Units.{Stacks, table_with, Grows, Enters, Decides, GoesOn, LeadsTo, IsFineIn, IsVisited, IsFound, HasStacks}
+use Rattle.body_unit_kinds.specs.Units.{table_with, Grows, Enters, Decides, GoesOn, LeadsTo, IsFineIn, IsVisited, IsFound}
 
 -- what follows from a rule follows where it is met
 pub met_then : {E : Type 0} (r : Result Bool E) (P Q : Type 0) → (P → Q) → IfOk r (λ b. b ≡ true → P) → IfOk r (λ b. b ≡ true → Q)

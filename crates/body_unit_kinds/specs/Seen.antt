@@ -4,8 +4,7 @@ use Rattle.std.specs.Map.{lookup}
 use Rattle.body_code.specs.Units.{same_place}
 use Rattle.body_code.specs.declared.unit.Entry.{Entry}
 use Rattle.body_kinds.specs.Kinds.{Kind, Integer, Boolean, Character, Enumerated, Members, Whole, PlaceOf}
-use Rattle.body_kinds.specs.Kinded.{Table, Tables}
-use Rattle.body_kinds.specs.Listed.{no_table}
+use Rattle.body_kinds.specs.Kinded as kinded
 use Rattle.body_unit_kinds.specs.declared.kind.Kind as code
 use Rattle.body_unit_kinds.specs.declared.kind.Kind.TheVariants as variant
 use Rattle.body_unit_kinds.specs.declared.claims.Claim.{Claim}
@@ -32,10 +31,10 @@ left_of (Some k) = meant k ∷ []
 abbrev pub stacks_of : List (Option (List code.Kind)) → List (Option (List Kind))
 stacks_of = each (option_map stack_of)
 
--- a unit of which this is claimed, before its stacks are found
-abbrev pub claimed_by : Option Claim → Table
-claimed_by None = no_table
-claimed_by (Some c) = record { closed = c.closed; stacks = []; result = stack_of c.result }
+-- what is claimed of a unit; nothing is of one that is not there
+abbrev pub claimed_by : Option Claim → kinded.Claim
+claimed_by None = record { closed = false; result = [] }
+claimed_by (Some c) = record { closed = c.closed; result = stack_of c.result }
 
-abbrev pub claimed : Claims → Tables
+abbrev pub claimed : Claims → kinded.Claims
 claimed cs body e = claimed_by (lookup (same_place (body, e)) cs.units.entries)

@@ -1,23 +1,15 @@
 -- Units whose stacks are found one address after another.
-use Rattle.std.specs.Prelude.{◌≡◌, ◌≤◌, ◌<◌, ℕ, suc, Bool, true, false, List, [], ◌∷◌, ◌++◌, length, slice_get, Option, Some, None}
+use Rattle.std.specs.Prelude.{◌≡◌, ◌≤◌, ◌<◌, ℕ, suc, false, List, [], ◌∷◌, ◌++◌, length, slice_get, Some}
 use Rattle.body_code.specs.declared.instr.Instr.{Instr}
-use Rattle.body_code.specs.declared.unit.Entry.{Entry}
-use Rattle.body_code.specs.declared.unit.CodeUnit.{CodeUnit}
-use Rattle.body_code.specs.Units.{Place}
-use Rattle.estelle_model.specs.Subject.{Subject}
-use Rattle.body_numbers.specs.declared.numbers.Numbers.{Numbers}
 use Rattle.body_kinds.specs.Kinds.{Kind, Boolean}
-use Rattle.body_kinds.specs.Kinded.{Table, Tables, goes_back, Leads, IsFine, IsKindedUnit, IsFor}
+use Rattle.body_kinds.specs.Kinded.{Stacks, Table, with_stacks, goes_back, Leads, IsFine}
 use Rattle.body_unit_kinds.specs.declared.here.Here.{Here}
-use Rattle.body_unit_kinds.specs.Seen.{stack_of, claimed}
+use Rattle.body_unit_kinds.specs.Seen.{claimed_by, claimed}
 use Rattle.body_unit_kinds.specs.Effects.{HasEffect}
 
--- the stacks of a unit, as far as they are known
-abbrev pub Stacks : Type 0
-Stacks = List (Option (List Kind))
-
+-- what is claimed of the unit, with its stacks as far as they are known
 abbrev pub table_with : Here → Stacks → Table
-table_with h stacks = record { closed = h.claim.now.closed; stacks = stacks; result = stack_of h.claim.now.result }
+table_with h stacks = with_stacks (claimed_by (Some h.claim.now)) stacks
 
 -- more is known, and nothing more before an address
 pub record Grows (address : ℕ) (old new : Stacks) : Type 0 where
@@ -61,17 +53,3 @@ pub record IsFound (h : Here) (stacks : Stacks) (address : ℕ) : Type 0 where
   pub all : length stacks ≡ length h.unit.now.instrs
   pub begins : Enters h stacks 0 []
   pub fine : (k : ℕ) → k < address → IsVisited h stacks k
-
--- some stacks make the unit of good kinds
-abbrev pub HasStacks : Subject → Numbers → List CodeUnit → Tables → ℕ → CodeUnit → Table → Type 0
-HasStacks s n code tables body unit t = (stacks : Stacks) × IsKindedUnit s n code tables body unit (record t { stacks = stacks })
-
--- of each unit at a place
-module _ (s : Subject) (n : Numbers) (code : List CodeUnit) (tables : Tables) where
-  abbrev pub IsGood : Place → CodeUnit → Type 0
-  IsGood p u = HasStacks s n code tables p.0 u (tables p.0 p.1) × IsFor s p.0 p.1 u (tables p.0 p.1).result
-
-  abbrev pub AreGood : List (Option Place × CodeUnit) → Type 0
-  AreGood [] = Unit {0}
-  AreGood ((None, u) ∷ us) = AreGood us
-  AreGood ((Some p, u) ∷ us) = IsGood p u × AreGood us

@@ -3,9 +3,10 @@
 ghost use Rattle.std.specs.Prelude.{◌≡◌, suc, true, IfOk, OnOk, IsTrue, Some};
 ghost use Rattle.std.specs.List.{list_all};
 ghost use Rattle.body_kinds.specs.Kinds as spec;
+ghost use Rattle.body_kinds.specs.Kinded.{HasStacks};
 ghost use Rattle.body_unit_kinds.specs.Seen.{meant, claimed, claimed_by, stack_of, stacks_of};
 ghost use Rattle.body_unit_kinds.specs.Effects.{AreVariables};
-ghost use Rattle.body_unit_kinds.specs.Units.{Grows, Decides, GoesOn, LeadsTo, IsVisited, HasStacks};
+ghost use Rattle.body_unit_kinds.specs.Units.{Grows, Decides, GoesOn, LeadsTo, IsVisited};
 
 use crate::effects::effect;
 use crate::here::Here;
