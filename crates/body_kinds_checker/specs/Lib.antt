@@ -1,0 +1,2 @@
+-- ---- units one after another
+pub mod Placed
