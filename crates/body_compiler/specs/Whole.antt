@@ -1,5 +1,6 @@
 -- What of the code of a specification is there so far.
-use Rattle.std.specs.Prelude.{◌≡◌, ℕ, ◌<◌, ◌≤◌, List, ◌++◌, slice_get, Option, Some, None}
+use Rattle.std.specs.Prelude.{◌≡◌, ℕ, ◌<◌, ◌≤◌, if◌then◌else◌, List, [], ◌++◌, length, replicate, slice_get, Option, Some, None}
+use Rattle.estelle_tree.specs.declared.tree.declaration.Formal.{Formal}
 use Rattle.estelle_tree.specs.declared.tree.declaration.Routine.{Routine as RoutineTree}
 use Rattle.body_code.specs.declared.unit.Entry.{Entry}
 use Rattle.body_code.specs.declared.unit.Entry.TheVariants as entry
@@ -10,6 +11,7 @@ use Rattle.estelle_model.specs.declared.meaning.Routine.{Routine}
 use Rattle.estelle_model.specs.declared.meaning.Meaning.TheVariants.{Called}
 use Rattle.estelle_model.specs.Meant.{Meanings}
 use Rattle.estelle_model.specs.Names.{at_place}
+use Rattle.estelle_model.specs.Denoted.{named_type}
 use Rattle.estelle_model.specs.Transitions.{Delay, Transition}
 use Rattle.estelle_model.specs.Subject.{Subject, declared_in, meant, meant_with, transition, begins}
 use Rattle.body_compiler_laws.specs.Compiled.{HasUnit}
@@ -17,6 +19,10 @@ use Rattle.body_compiler_laws.specs.Codes.{HasClause, HasTransition, AreApart, i
 use Rattle.body_compiler_laws.specs.Order.{IsOpen}
 use Rattle.body_program_numbers.specs.Numbering.{routines_of}
 use Rattle.body_compiler_emission.specs.Known.{known_in}
+
+-- the types of a formal parameter, if it is a var parameter
+abbrev pub reference_types : Meanings → Formal → List Denoter
+reference_types known f = if f.is_var then replicate (length f.names.names) (named_type known f.type_name) else []
 
 -- ---- units in the order of the listing
 

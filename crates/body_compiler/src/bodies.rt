@@ -11,6 +11,7 @@ ghost use Rattle.body_compiler_laws.specs.Order.{IsOpen};
 ghost use Rattle.body_compiler_emission.specs.Known.{known_in};
 ghost use Rattle.body_compiler.specs.Whole.{IsFree, Grown, Comes, HasRoutine, HasRoutines, HasBody};
 
+use crate::references::references;
 use crate::transitions::put_transitions;
 use crate::units::Units;
 use body_code::{CodeUnit, Heading, Instrs, Shared};
@@ -52,7 +53,16 @@ fn put_routine(
         Meaning::Called(called) => {
             let name = tree.name.word.copy(units.alloc)?;
             let heading = Heading::Routine { routine, name };
-            let unit = routine_unit(units.alloc, table, numbering, body, heading, called)?;
+            let references = references(units.alloc, table, tree)?;
+            let unit = routine_unit(
+                units.alloc,
+                table,
+                numbering,
+                body,
+                heading,
+                called,
+                references.as_slice(),
+            )?;
             units.push(unit)?;
             Ok(())
         }
@@ -95,7 +105,7 @@ fn put_block(
 {
     let table = numbering.program().table();
     let heading = Heading::Initialize;
-    let unit = routine_unit(units.alloc, table, numbering, body, heading, block)?;
+    let unit = routine_unit(units.alloc, table, numbering, body, heading, block, &[])?;
     units.push(unit)?;
     Ok(())
 }

@@ -3,6 +3,7 @@
 ghost use Rattle.std.specs.Prelude.{◌≡◌, IfOk};
 ghost use Rattle.estelle_model.specs.Subject.{meant};
 ghost use Rattle.body_machine_meaning.specs.Faithful.{IsFaithful};
+ghost use Rattle.body_kinds.specs.Good.{HasGoodKinds};
 ghost use Rattle.body_program_numbers.specs.Numbering.{numbers_of};
 ghost use Rattle.body_compiler_laws.specs.Codes.{IsCompiled};
 ghost use Rattle.body_compiler_emission.specs.Known.{known_in};
@@ -11,6 +12,7 @@ use crate::bodies::put_body;
 use crate::units::Units;
 use body_code::Code;
 use body_compiler_laws::compiled_codes_are_faithful;
+use body_kinds_checker::is_kinded;
 use body_program_numbers::Numbering;
 use std::alloc::{AllocError, Global};
 
@@ -31,11 +33,16 @@ fn all_units(alloc: Global, numbering: &Numbering) -> Result<Units, AllocError>
 
 /// Compiles the bodies of a specification. The error is want of memory, as which a code of more than 2^26 instructions is told too. So is
 /// what no accepted specification has, which is tested and not proved: a routine that is declared as something else, a name of `any` at
-/// whose place something else is declared, and what has no code.
+/// whose place something else is declared, what has no code, and a code that is not found to be of good kinds.
 pub fn compile(alloc: Global, numbering: &Numbering) -> Result<Code, AllocError>
-    ensures { IfOk result (λ code. IsFaithful numbering.now (numbers_of numbering.now) code) }
+    ensures faithful { IfOk result (λ code. IsFaithful numbering.now (numbers_of numbering.now) code) }
+    ensures kinds { IfOk result (λ code. HasGoodKinds numbering.now (numbers_of numbering.now) code) }
 {
     let units = all_units(alloc, numbering)?;
     compiled_codes_are_faithful();
-    Ok(units.into_code())
+    let code = units.into_code();
+    if !is_kinded(alloc, numbering, &code)? {
+        return Err(AllocError);
+    }
+    Ok(code)
 }

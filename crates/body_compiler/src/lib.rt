@@ -6,6 +6,7 @@
 
 mod bodies;
 mod compiler;
+mod references;
 mod transitions;
 mod units;
 

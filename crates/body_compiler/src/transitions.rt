@@ -164,7 +164,7 @@ fn put_block(
     ensures has { OnOk result (HasUnit units.new (known_in numbering.now (meanings_of table.now)) body (entry.Block trans) block.now) }
 {
     let heading = Heading::Block { trans };
-    let unit = routine_unit(units.alloc, table, numbering, body, heading, block)?;
+    let unit = routine_unit(units.alloc, table, numbering, body, heading, block, &[])?;
     units.push(unit)?;
     Ok(())
 }

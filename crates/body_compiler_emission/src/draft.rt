@@ -13,7 +13,7 @@ use std::marker::Model;
 /// The locals and the instructions of a unit so far. What has no code is not put into it.
 pub struct Draft {
     locals: Items<Local>,
-    instrs: Items<Instr>,
+    instrs: Vec<Instr>,
 }
 
 impl Drop for Draft {
@@ -36,7 +36,7 @@ impl Model for Draft {
 
     ghost coded = { Prim.hlevel (codes, of_local.the_row.coded, of_instr.the_row.coded) };
 
-    ghost view = { λ d. record { locals = d.locals; instrs = d.instrs; fine = true } };
+    ghost view = { λ d. record { locals = d.locals; instrs = d.instrs.items; fine = true } };
 }
 
 /// A number in instructions. What is beyond them counts as want of memory.
@@ -66,7 +66,7 @@ impl Draft {
     {
         Draft {
             locals,
-            instrs: Items::new(alloc),
+            instrs: Vec::new(alloc),
         }
     }
 
@@ -74,7 +74,8 @@ impl Draft {
     pub fn push(&mut self, instr: Instr) -> Result<(), AllocError>
         ensures { OnOk result (self.new ≡ with_instr instr self.old) }
     {
-        self.instrs.push(instr)
+        self.instrs.push(instr)?;
+        Ok(())
     }
 
     /// The address of the next instruction.
@@ -100,7 +101,7 @@ impl Draft {
         if at as usize >= self.instrs.len() {
             return Err(AllocError);
         }
-        self.instrs.set(at as usize, instr);
+        self.instrs[at as usize] = instr;
         Ok(())
     }
 
@@ -176,10 +177,11 @@ impl Draft {
     {
         let Draft { locals, mut instrs } = self;
         instrs.push(Instr::Ret)?;
+        instrs.shrink_to_fit();
         Ok(CodeUnit {
             heading,
             locals: Shared::of(alloc, locals)?,
-            instrs: Instrs::of(instrs),
+            instrs: Instrs::of(Items::from_vec(instrs)),
         })
     }
 

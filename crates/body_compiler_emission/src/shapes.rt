@@ -50,30 +50,49 @@ pub fn push_result(
     }
 }
 
-/// The local of a parameter. Of a var parameter the shape says nothing.
-fn parameter(alloc: Global, passing: &Passing) -> Result<Local, AllocError>
+/// The local of a parameter. A var parameter's has the shape of the type that is handed in for it.
+fn parameter(
+    alloc: Global,
+    passing: &Passing,
+    reference: Option<&Type>,
+) -> Result<Local, AllocError>
     ensures { IfOk result (λ l. AreParameters (passing.now ∷ []) (l ∷ [])) }
 {
-    match passing {
-        Passing::ByValue(type_) => Ok(Local {
+    match (passing, reference) {
+        (Passing::ByValue(type_), _) => Ok(Local {
             shape: shape_of(alloc, type_.denoter())?,
             by_ref: false,
         }),
-        Passing::ByPlace => Ok(Local {
-            shape: Shape::Bool { low: 0, high: 1 },
+        (Passing::ByPlace, Some(type_)) => Ok(Local {
+            shape: shape_of(alloc, type_.denoter())?,
             by_ref: true,
         }),
+        (Passing::ByPlace, None) => Err(AllocError),
     }
 }
 
-/// The locals of parameters.
+/// How many var parameters a parameter is.
+fn references_in(passing: &Passing) -> usize {
+    match passing {
+        Passing::ByValue(_) => 0,
+        Passing::ByPlace => 1,
+    }
+}
+
+/// The locals of parameters, with the types of those that are var parameters, in order.
 #[tactic(auto, using(crate::proofs::UnitSteps::parameters_next, crate::proofs::UnitSteps::parameters_all))]
-pub fn parameters(alloc: Global, passed: &[Passing]) -> Result<Items<Local>, AllocError>
+pub fn parameters(
+    alloc: Global,
+    passed: &[Passing],
+    references: &[Type],
+) -> Result<Items<Local>, AllocError>
     ensures { IfOk result (λ ls. AreParameters passed.now ls) }
 {
     let mut locals = Items::new(alloc);
+    let mut next: usize = 0;
     for passing in passed {
-        locals.push(parameter(alloc, passing)?)?;
+        locals.push(parameter(alloc, passing, references.get(next))?)?;
+        next = next.saturating_add(references_in(passing));
     }
     Ok(locals)
 }

@@ -54,7 +54,7 @@ fn load_result(scope: &Scope, unit: &mut Draft, routine: &Routine) -> Result<(),
 }
 
 /// The unit of a routine, of a block or of an initialization of a body. The table tells what names mean there, where those of an
-/// `any` clause have values.
+/// `any` clause have values. The types of the routine's var parameters come in order.
 pub fn routine_unit(
     alloc: Global,
     table: &Table,
@@ -62,11 +62,12 @@ pub fn routine_unit(
     body: u32,
     heading: Heading,
     routine: &Routine,
+    references: &[Type],
 ) -> Result<CodeUnit, AllocError>
     ensures unit { IfOk result (λ unit. IsUnit (known_in numbering.now (meanings_of table.now)) body routine.now unit) }
     ensures heading { IfOk result (λ unit. unit.heading ≡ heading) }
 {
-    let mut locals = parameters(alloc, routine.parameters.items())?;
+    let mut locals = parameters(alloc, routine.parameters.items(), references)?;
     push_variables(alloc, &mut locals, routine.locals.items())?;
     push_result(alloc, &mut locals, &routine.result)?;
     let own = own_count(routine)?;
@@ -120,7 +121,7 @@ pub fn clause_unit(
     ensures heading { IfOk result (λ unit. unit.heading ≡ heading) }
 {
     let passed = by_value(alloc, received)?;
-    let locals = parameters(alloc, passed.as_slice())?;
+    let locals = parameters(alloc, passed.as_slice(), &[])?;
     let scope = Scope::new(alloc, table, numbering, body, passed.as_slice(), 0)?;
     let mut unit = Draft::new(alloc, locals);
     values(&scope, &mut unit, exprs)?;
@@ -134,7 +135,7 @@ pub fn true_unit(alloc: Global, heading: Heading, received: &[Type]) -> Result<C
     ensures heading { IfOk result (λ unit. unit.heading ≡ heading) }
 {
     let passed = by_value(alloc, received)?;
-    let locals = parameters(alloc, passed.as_slice())?;
+    let locals = parameters(alloc, passed.as_slice(), &[])?;
     let mut unit = Draft::new(alloc, locals);
     unit.push(Instr::Push(Value::Bool(true)))?;
     let done = unit.finish(alloc, heading)?;

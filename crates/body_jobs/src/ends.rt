@@ -1,6 +1,8 @@
 //! What jobs and guards come to.
 
 ghost use Rattle.std.specs.Prelude.{◌≡◌, IfOk};
+ghost use Rattle.pascal_values.specs.declared.fault.Fault.TheVariants as fault;
+ghost use Rattle.estelle_model.specs.declared.job.Outcome.TheVariants as outcome;
 ghost use Rattle.estelle_model.specs.States.{Logged};
 ghost use Rattle.estelle_model.specs.Steps.{Step, Do};
 ghost use Rattle.estelle_model.specs.Clauses as clauses;
@@ -36,7 +38,9 @@ pub fn finish(
 }
 
 /// Where there is no such transition, nothing is asked.
-pub fn nothing(budget: u32) -> (Outcome, u32) {
+pub fn nothing(budget: u32) -> (Outcome, u32)
+    ensures { result ≡ (outcome.Faulted fault.NoModule, budget) }
+{
     (Outcome::Faulted(Fault::NoModule), budget)
 }
 

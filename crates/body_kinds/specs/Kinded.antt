@@ -25,7 +25,7 @@ use Rattle.estelle_model.specs.Subject as subject
 use Rattle.estelle_model.specs.Subject.{Subject, child_of, headers_of, types_of_variables, transition}
 use Rattle.body_numbers.specs.declared.numbers.Numbers.{Numbers}
 use Rattle.body_numbers.specs.Numbers.{shape_numbered, export_numbered, word_of, interaction_of}
-use Rattle.body_kinds.specs.Kinds.{Kind, Integer, Boolean, Character, Members, PlaceOf, is_ordinal, is_compared, is_of_values, simple_kind, kind_of, StoresInto}
+use Rattle.body_kinds.specs.Kinds.{Kind, Integer, Boolean, Character, Members, PlaceOf, is_ordinal, is_compared, is_added, is_of_values, simple_kind, kind_of, StoresInto}
 
 -- what is claimed of a unit
 pub record Claim : Type 0 where
@@ -140,9 +140,9 @@ module _ (s : Subject) (n : Numbers) (code : List CodeUnit) (claims : Claims) wh
       successor : (k : Kind) → IsTrue (is_ordinal k) → Leaves op.Succ (k ∷ []) (k ∷ [])
       predecessor : (k : Kind) → IsTrue (is_ordinal k) → Leaves op.Pred (k ∷ []) (k ∷ [])
       negated : Leaves op.Not (Boolean ∷ []) (Boolean ∷ [])
-      add : Leaves op.Add (Integer ∷ Integer ∷ []) (Integer ∷ [])
-      sub : Leaves op.Sub (Integer ∷ Integer ∷ []) (Integer ∷ [])
-      mul : Leaves op.Mul (Integer ∷ Integer ∷ []) (Integer ∷ [])
+      add : (k : Kind) → IsTrue (is_added k) → Leaves op.Add (k ∷ k ∷ []) (k ∷ [])
+      sub : (k : Kind) → IsTrue (is_added k) → Leaves op.Sub (k ∷ k ∷ []) (k ∷ [])
+      mul : (k : Kind) → IsTrue (is_added k) → Leaves op.Mul (k ∷ k ∷ []) (k ∷ [])
       div : Leaves op.Div (Integer ∷ Integer ∷ []) (Integer ∷ [])
       mod_ : Leaves op.Mod (Integer ∷ Integer ∷ []) (Integer ∷ [])
       eq : (k : Kind) → IsTrue (is_compared k) → Leaves op.Eq (k ∷ k ∷ []) (Boolean ∷ [])
@@ -153,7 +153,8 @@ module _ (s : Subject) (n : Numbers) (code : List CodeUnit) (claims : Claims) wh
       ge : (k : Kind) → IsTrue (is_compared k) → Leaves op.Ge (k ∷ k ∷ []) (Boolean ∷ [])
       empty : Leaves op.Empty [] (Members ∷ [])
       one : (k : Kind) → IsTrue (is_ordinal k) → Leaves op.One (k ∷ []) (Members ∷ [])
-      span : (k : Kind) → IsTrue (is_ordinal k) → Leaves op.Span (k ∷ k ∷ []) (Members ∷ [])
+      -- the first one is given by its ordinal
+      span : (k : Kind) → IsTrue (is_ordinal k) → Leaves op.Span (k ∷ Integer ∷ []) (Members ∷ [])
       unite : Leaves op.Unite (Members ∷ Members ∷ []) (Members ∷ [])
       meet : Leaves op.Meet (Members ∷ Members ∷ []) (Members ∷ [])
       minus : Leaves op.Minus (Members ∷ Members ∷ []) (Members ∷ [])

@@ -45,6 +45,12 @@ abbrev pub is_compared : Kind → Bool
 is_compared Members = true
 is_compared k = is_ordinal k
 
+-- a kind of what is added, subtracted and multiplied: for sets these are union, difference and intersection
+abbrev pub is_added : Kind → Bool
+is_added Integer = true
+is_added Members = true
+is_added _ = false
+
 -- a kind of values
 abbrev pub is_of_values : Kind → Bool
 is_of_values (PlaceOf shape) = false

@@ -50,10 +50,10 @@ use Rattle.body_kinds.specs.Kinds.{Kind, Integer, Boolean, Character, Enumerated
 use Rattle.body_kinds.specs.Kinded.{Table, Claims, variable_shape, HasHeader, given_kinds, value_kinds, TakesArguments, MayCall, Leaves, push, var, loc, ref, exp, field, index, load as loading, store, fit, blank, neg, abs, sqr, odd, chr, ord, successor, predecessor, negated, add, sub, mul, div, mod_, eq, ne, lt, le, gt, ge, empty, one, span, unite, meet, minus, has, call, init, release, connect, disconnect, attach, detach, output}
 use Rattle.body_machine_kinds.specs.Typed.{Bodies, Frames, value_shapes, MayBeHeld, IsPlaceOf, HaveKinds, IsRunning, with_own, IsUnit}
 use Rattle.body_machine_kinds.specs.Laws.{asks_more}
-use Rattle.body_machine_kinds.proofs.Values.{Gives, int_operand, neg_gives, abs_gives, sqr_gives, odd_gives, chr_gives, not_gives, ord_gives, succ_gives, pred_gives, one_gives, add_gives, sub_gives, mul_gives, div_gives, mod_gives, unite_gives, minus_gives, meet_gives, span_gives, has_gives, compare_gives, is_membership}
+use Rattle.body_machine_kinds.proofs.Values.{Gives, int_operand, neg_gives, abs_gives, sqr_gives, odd_gives, chr_gives, not_gives, ord_gives, succ_gives, pred_gives, one_gives, plus_gives, difference_gives, times_gives, div_gives, mod_gives, unite_gives, minus_gives, meet_gives, span_gives, has_gives, compare_gives, is_membership}
 use Rattle.body_machine_kinds.proofs.Places.{Safely, safely_then, child_held, Stays, loads, stores, blanks}
 use Rattle.body_machine_kinds.proofs.Plans.{loosen, connects, disconnects, disconnects_child, attaches, detaches, releases, outputs}
-use Rattle.body_machine_kinds.proofs.Items.{kind_of_values, ordinal_of_values, compared_of_values, get_last, AreOf, place_deeper, reference_there, slot_there}
+use Rattle.body_machine_kinds.proofs.Items.{kind_of_values, ordinal_of_values, compared_of_values, added_of_values, get_last, AreOf, place_deeper, reference_there, slot_there}
 
 -- ---- lemmas on operands
 
@@ -223,9 +223,9 @@ module _ (s : Subject) (n : Numbers) (code : List CodeUnit) (claims : Claims) (b
   good _ _ _ (successor k o) = computed s n code claims bodies frames a.body t.closed false unary.Succ k k (ordinal_of_values k o) (succ_gives k o)
   good _ _ _ (predecessor k o) = computed s n code claims bodies frames a.body t.closed false unary.Pred k k (ordinal_of_values k o) (pred_gives k o)
   good _ _ _ negated = computed s n code claims bodies frames a.body t.closed false unary.Not Boolean Boolean refl not_gives
-  good _ _ _ add = combined s n code claims bodies frames a.body t.closed false binary.Plus Integer Integer Integer refl refl add_gives
-  good _ _ _ sub = combined s n code claims bodies frames a.body t.closed false binary.Minus Integer Integer Integer refl refl sub_gives
-  good _ _ _ mul = combined s n code claims bodies frames a.body t.closed false binary.Times Integer Integer Integer refl refl mul_gives
+  good _ _ _ (add k o) = combined s n code claims bodies frames a.body t.closed false binary.Plus k k k (added_of_values k o) (added_of_values k o) (plus_gives k o)
+  good _ _ _ (sub k o) = combined s n code claims bodies frames a.body t.closed false binary.Minus k k k (added_of_values k o) (added_of_values k o) (difference_gives k o)
+  good _ _ _ (mul k o) = combined s n code claims bodies frames a.body t.closed false binary.Times k k k (added_of_values k o) (added_of_values k o) (times_gives k o)
   good _ _ _ div = combined s n code claims bodies frames a.body t.closed false binary.Div Integer Integer Integer refl refl div_gives
   good _ _ _ mod_ = combined s n code claims bodies frames a.body t.closed false binary.Mod Integer Integer Integer refl refl mod_gives
   good _ _ _ (eq k o) = compared s n code claims bodies frames a.body t.closed false relation.Equal k refl (compared_of_values k o)
@@ -236,7 +236,7 @@ module _ (s : Subject) (n : Numbers) (code : List CodeUnit) (claims : Claims) (b
   good _ _ _ (ge k o) = compared s n code claims bodies frames a.body t.closed false relation.AtLeast k refl (compared_of_values k o)
   good _ _ _ empty = (refl, λ r h. ((ap (is_of_at Members (value.Set [])) (value.outs-Set []), tt), h))
   good _ _ _ (one k o) = computed s n code claims bodies frames a.body t.closed false unary.One k Members (ordinal_of_values k o) (one_gives k o)
-  good _ _ _ (span k o) = combined s n code claims bodies frames a.body t.closed false binary.Span k k Members (ordinal_of_values k o) (ordinal_of_values k o) (span_gives k o)
+  good _ _ _ (span k o) = combined s n code claims bodies frames a.body t.closed false binary.Span Integer k Members refl (ordinal_of_values k o) (span_gives k o)
   good _ _ _ unite = combined s n code claims bodies frames a.body t.closed false binary.Plus Members Members Members refl refl unite_gives
   good _ _ _ meet = combined s n code claims bodies frames a.body t.closed false binary.Times Members Members Members refl refl meet_gives
   good _ _ _ minus = combined s n code claims bodies frames a.body t.closed false binary.Minus Members Members Members refl refl minus_gives

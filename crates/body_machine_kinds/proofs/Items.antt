@@ -18,7 +18,7 @@ use Rattle.body_machine.specs.declared.item.Item.{Item}
 use Rattle.body_machine.specs.declared.item.Item.TheVariants.{Datum, Spot}
 use Rattle.body_machine.specs.Slots.{slot, reference_number, variables_in, references_in}
 use Rattle.body_machine.specs.Steps.{taken_from, values_with, values_from}
-use Rattle.body_kinds.specs.Kinds.{Kind, PlaceOf, is_of, is_ordinal, is_compared, is_of_values, kind_at, kind_of, part_in}
+use Rattle.body_kinds.specs.Kinds.{Kind, PlaceOf, is_of, is_ordinal, is_compared, is_added, is_of_values, kind_at, kind_of, part_in}
 use Rattle.body_machine_kinds.specs.Typed.{Bodies, Frames, value_shapes, reference_shapes, IsPlaceOf, IsSpotOf, HasKind, HaveKinds, ArePlaces}
 use Rattle.body_machine_kinds.proofs.Parts.{way_more}
 
@@ -43,6 +43,10 @@ ordinal_of_values _ h = refl
 pub compared_of_values : (k : Kind) → IsTrue (is_compared k) → is_of_values k ≡ true
 compared_of_values (PlaceOf shape) h = absurd (cc)
 compared_of_values _ h = refl
+
+pub added_of_values : (k : Kind) → IsTrue (is_added k) → is_of_values k ≡ true
+added_of_values (PlaceOf shape) h = absurd (cc)
+added_of_values _ h = refl
 
 -- ---- lists
 

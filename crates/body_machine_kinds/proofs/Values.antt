@@ -23,7 +23,7 @@ use Rattle.estelle_model.proofs.Fitting.{is_rises}
 use Rattle.body_machine.specs.declared.operators.Unary.TheVariants as unary
 use Rattle.body_machine.specs.declared.operators.Binary.TheVariants as binary
 use Rattle.body_machine.specs.Operations.{a_set, unary_value, binary_value}
-use Rattle.body_kinds.specs.Kinds.{Kind, Integer, Boolean, Character, Enumerated, Members, is_of_at, is_of, is_ordinal}
+use Rattle.body_kinds.specs.Kinds.{Kind, Integer, Boolean, Character, Enumerated, Members, is_of_at, is_of, is_ordinal, is_added}
 
 -- ---- operands
 
@@ -255,9 +255,24 @@ pub meet_gives : (v w : Value) → is_of Members v ≡ true → is_of Members w 
 unfolding times
 meet_gives v w h k = by_kind_sets product_of intersection v w is_intersection h k
 
-pub span_gives : (k : Kind) → IsTrue (is_ordinal k) → (v w : Value) → is_of k v ≡ true → is_of k w ≡ true → Gives Members (binary_value binary.Span v w)
+pub plus_gives : (k : Kind) → IsTrue (is_added k) → (v w : Value) → is_of k v ≡ true → is_of k w ≡ true → Gives k (binary_value binary.Plus v w)
+plus_gives Integer o v w h i = add_gives v w h i
+plus_gives Members o v w h i = unite_gives v w h i
+plus_gives _ o v w h i = absurd (cc)
+
+pub difference_gives : (k : Kind) → IsTrue (is_added k) → (v w : Value) → is_of k v ≡ true → is_of k w ≡ true → Gives k (binary_value binary.Minus v w)
+difference_gives Integer o v w h i = sub_gives v w h i
+difference_gives Members o v w h i = minus_gives v w h i
+difference_gives _ o v w h i = absurd (cc)
+
+pub times_gives : (k : Kind) → IsTrue (is_added k) → (v w : Value) → is_of k v ≡ true → is_of k w ≡ true → Gives k (binary_value binary.Times v w)
+times_gives Integer o v w h i = mul_gives v w h i
+times_gives Members o v w h i = meet_gives v w h i
+times_gives _ o v w h i = absurd (cc)
+
+pub span_gives : (k : Kind) → IsTrue (is_ordinal k) → (v w : Value) → is_of Integer v ≡ true → is_of k w ≡ true → Gives Members (binary_value binary.Span v w)
 span_gives k o v w h i =
-    let a = ordinal_operand k o v h in
+    let a = ordinal_operand Integer refl v h in
     let b = ordinal_operand k o w i in
     subst (λ (r : Result ℤ Stop). Gives Members (a_set (r >>> λ m. ordinal_of w >>> λ n. members_from m n))) (sym a.1)
     (subst (λ (r : Result ℤ Stop). Gives Members (a_set (r >>> λ n. members_from a.0 n))) (sym b.1) (gives_set (members_from a.0 b.0) (gives_span a.0 b.0)))

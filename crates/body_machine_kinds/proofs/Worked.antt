@@ -58,7 +58,7 @@ module _ (s : Subject) (n : Numbers) (code : List CodeUnit) (claims : Claims) wh
     each_fine (suc (suc zero)) ks e = let is : PlaceOf int ∷ [] ≡ ks = cc in subst (Fine 2) is (record { instr = op.Var 0; there = refl; leads = straight (op.Var 0) ([]) (PlaceOf int ∷ []) (PlaceOf int ∷ []) (var 0 int refl declared) (refl, refl) })
     each_fine (suc (suc (suc zero))) ks e = let is : PlaceOf int ∷ PlaceOf int ∷ [] ≡ ks = cc in subst (Fine 3) is (record { instr = op.Load; there = refl; leads = straight (op.Load) (PlaceOf int ∷ []) (Integer ∷ []) (PlaceOf int ∷ []) (loaded) (refl, refl) })
     each_fine (suc (suc (suc (suc zero)))) ks e = let is : Integer ∷ PlaceOf int ∷ [] ≡ ks = cc in subst (Fine 4) is (record { instr = op.Push (pascal.Int (pos 1)); there = refl; leads = straight (op.Push (pascal.Int (pos 1))) ([]) (Integer ∷ []) (Integer ∷ PlaceOf int ∷ []) (pushed (pos 1)) (refl, refl) })
-    each_fine (suc (suc (suc (suc (suc zero))))) ks e = let is : Integer ∷ Integer ∷ PlaceOf int ∷ [] ≡ ks = cc in subst (Fine 5) is (record { instr = op.Add; there = refl; leads = straight (op.Add) (Integer ∷ Integer ∷ []) (Integer ∷ []) (PlaceOf int ∷ []) (add) (refl, refl) })
+    each_fine (suc (suc (suc (suc (suc zero))))) ks e = let is : Integer ∷ Integer ∷ PlaceOf int ∷ [] ≡ ks = cc in subst (Fine 5) is (record { instr = op.Add; there = refl; leads = straight (op.Add) (Integer ∷ Integer ∷ []) (Integer ∷ []) (PlaceOf int ∷ []) (add Integer refl) (refl, refl) })
     each_fine (suc (suc (suc (suc (suc (suc zero)))))) ks e = let is : Integer ∷ PlaceOf int ∷ [] ≡ ks = cc in subst (Fine 6) is (record { instr = op.Store 0; there = refl; leads = straight (op.Store 0) (Integer ∷ PlaceOf int ∷ []) ([]) ([]) (stored) (refl, refl) })
     each_fine (suc (suc (suc (suc (suc (suc (suc zero))))))) ks e = let is : [] ≡ ks = cc in subst (Fine 7) is (record { instr = op.Var 0; there = refl; leads = straight (op.Var 0) ([]) (PlaceOf int ∷ []) ([]) (var 0 int refl declared) (refl, refl) })
     each_fine (suc (suc (suc (suc (suc (suc (suc (suc zero)))))))) ks e = let is : PlaceOf int ∷ [] ≡ ks = cc in subst (Fine 8) is (record { instr = op.Load; there = refl; leads = straight (op.Load) (PlaceOf int ∷ []) (Integer ∷ []) ([]) (loaded) (refl, refl) })

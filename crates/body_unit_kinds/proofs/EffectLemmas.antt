@@ -1,10 +1,9 @@
 -- What each other instruction takes and leaves.
-use Rattle.std.proofs.Common.{◌≡◌, ◌∙◌, refl, sym, ap, subst, ℕ, Bool, true, false, ◌++◌, List, [], ◌∷◌, length, Option, Some, None, inl, inr, ℤ}
+use Rattle.std.proofs.Common.{◌≡◌, ◌∙◌, refl, sym, ap, subst, ℕ, true, false, ◌++◌, List, [], ◌∷◌, length, Option, Some, None, inl, inr, ℤ}
 use Rattle.std.specs.Prelude.{slice_get, ◌⊎◌, IfSome}
 use Rattle.pascal_values.specs.declared.value.Value.{Value}
 use Rattle.pascal_values.specs.declared.value.Shape.{Shape, out-Shape}
 use Rattle.pascal_values.specs.declared.value.Shape.TheVariants as shapes
-use Rattle.pascal_values.specs.declared.value.Shape.TheOpen.{Shape-F}
 use Rattle.body_code.specs.declared.instr.Point as point
 use Rattle.body_code.specs.declared.instr.Ends as ends
 use Rattle.body_code.specs.declared.instr.Instr.{Instr}

@@ -1,8 +1,9 @@
 -- Stacks that are put at addresses.
-use Rattle.std.proofs.Common.{◌≡◌, ◌∙◌, refl, sym, ap, subst, ℕ, zero, suc, ◌<◌, ◌≤◌, false, List, [], ◌∷◌, length, map as each, Option, Some, None, arith}
+use Rattle.std.proofs.Common.{◌≡◌, ◌∙◌, refl, sym, ap, subst, ℕ, zero, suc, ◌<◌, ◌≤◌, List, [], ◌∷◌, map as each, Option, Some, None, arith}
 use Rattle.std.specs.Prelude.{slice_get, slice_set, option_map}
 use Rattle.std.proofs.lemmas.Option.{slice_get-map}
 use Rattle.std.proofs.lemmas.List.{length-set}
+use Rattle.smallvec.specs.SmallVec.{SmallVec}
 use Rattle.estelle_model_legality.proofs.Lists.{set_other, set_same}
 use Rattle.body_kinds.specs.Kinds.{Kind}
 use Rattle.body_kinds.specs.Kinded.{Stacks}
@@ -29,24 +30,27 @@ map_set f [] i x = refl
 map_set f (y ∷ ys) zero x = refl
 map_set f (y ∷ ys) (suc i) x = ap (λ zs. f y ∷ zs) (map_set f ys i x)
 
-module _ (stacks : List (Option (List code.Kind))) (a to : ℕ) (stack : List code.Kind) (empty : slice_get stacks to ≡ Some None) where
+abbrev seen_of : SmallVec code.Kind → List Kind
+seen_of s = stack_of s.items
+
+module _ (stacks : List (Option (SmallVec code.Kind))) (a to : ℕ) (stack : SmallVec code.Kind) (empty : slice_get stacks to ≡ Some None) where
   abbrev seen : Stacks
-  seen = slice_set (stacks_of stacks) to (Some (stack_of stack))
+  seen = slice_set (stacks_of stacks) to (Some (stack_of stack.items))
 
   is_seen : stacks_of (slice_set stacks to (Some stack)) ≡ seen
-  is_seen = map_set (option_map stack_of) stacks to (Some stack)
+  is_seen = map_set (option_map seen_of) stacks to (Some stack)
 
   was : slice_get (stacks_of stacks) to ≡ Some None
-  was = slice_get-map (option_map stack_of) stacks to ∙ ap (option_map (option_map stack_of)) empty
+  was = slice_get-map (option_map seen_of) stacks to ∙ ap (option_map (option_map seen_of)) empty
 
-  pub put_stands : slice_get (stacks_of (slice_set stacks to (Some stack))) to ≡ Some (Some (stack_of stack))
-  put_stands = ap (λ s. slice_get s to) is_seen ∙ set_same (Option (List Kind)) (stacks_of stacks) to (Some (stack_of stack)) None was
+  pub put_stands : slice_get (stacks_of (slice_set stacks to (Some stack))) to ≡ Some (Some (stack_of stack.items))
+  put_stands = ap (λ s. slice_get s to) is_seen ∙ set_same (Option (List Kind)) (stacks_of stacks) to (Some (stack_of stack.items)) None was
 
   pub put_grows : a ≤ to → Grows a (stacks_of stacks) (stacks_of (slice_set stacks to (Some stack)))
   put_grows le = subst (λ (s : Stacks). Grows a (stacks_of stacks) s) (sym is_seen) (record {
-    more = λ k ks is. set_other (Option (List Kind)) (stacks_of stacks) to k (Some (stack_of stack)) (λ same. differs k ks is same) ∙ is;
-    kept = λ k less. set_other (Option (List Kind)) (stacks_of stacks) to k (Some (stack_of stack)) (λ same. apart k less same);
-    same = length-set (stacks_of stacks) to (Some (stack_of stack));
+    more = λ k ks is. set_other (Option (List Kind)) (stacks_of stacks) to k (Some (stack_of stack.items)) (λ same. differs k ks is same) ∙ is;
+    kept = λ k less. set_other (Option (List Kind)) (stacks_of stacks) to k (Some (stack_of stack.items)) (λ same. apart k less same);
+    same = length-set (stacks_of stacks) to (Some (stack_of stack.items));
   })
     where
       differs : (k : ℕ) (ks : List Kind) → slice_get (stacks_of stacks) k ≡ Some (Some ks) → k ≡ to → ⊥
@@ -59,5 +63,5 @@ module _ (stacks : List (Option (List code.Kind))) (a to : ℕ) (stack : List co
       apart k less same = let l : k < a = less in let e : k ≡ to = same in let m : a ≤ to = le in omega (arith, l, e, m)
 
 -- the same of the stacks that it leaves
-pub put_more : (stacks new : List (Option (List code.Kind))) (a to : ℕ) (stack : List code.Kind) → new ≡ slice_set stacks to (Some stack) → slice_get stacks to ≡ Some None → a ≤ to → Grows a (stacks_of stacks) (stacks_of new)
-put_more stacks new a to stack e empty le = subst (λ (s : List (Option (List code.Kind))). Grows a (stacks_of stacks) (stacks_of s)) (sym e) (put_grows stacks a to stack empty le)
+pub put_more : (stacks new : List (Option (SmallVec code.Kind))) (a to : ℕ) (stack : SmallVec code.Kind) → new ≡ slice_set stacks to (Some stack) → slice_get stacks to ≡ Some None → a ≤ to → Grows a (stacks_of stacks) (stacks_of new)
+put_more stacks new a to stack e empty le = subst (λ (s : List (Option (SmallVec code.Kind))). Grows a (stacks_of stacks) (stacks_of s)) (sym e) (put_grows stacks a to stack empty le)

@@ -1,5 +1,5 @@
 -- Where an instruction leads, and that what is fine stays so as more stacks are known.
-use Rattle.std.proofs.Common.{◌≡◌, ◌∙◌, refl, sym, ap, subst, ℕ, suc, ◌<◌, ◌≤◌, ◌+◌, ◌++◌, Bool, true, false, List, [], ◌∷◌, length, Option, Some, None, Result, Ok, Err, arith}
+use Rattle.std.proofs.Common.{◌≡◌, ◌∙◌, sym, subst, ℕ, suc, ◌<◌, ◌≤◌, ◌+◌, ◌++◌, Bool, true, false, List, [], length, Some, Result, Ok, Err, arith}
 use borrow.Author.Count.{below_more}
 use Rattle.std.specs.Prelude.{IsTrue, IfOk, slice_get}
 use Rattle.std.specs.List.{list_all}
@@ -7,11 +7,11 @@ use Rattle.std.proofs.lemmas.Option.{slice_get_within}
 use Rattle.pascal_values.specs.declared.fault.Fault.{Fault}
 use Rattle.body_code.specs.declared.instr.Instr.{Instr}
 use Rattle.body_code.specs.declared.instr.Instr.TheVariants as op
-use Rattle.body_kinds.specs.Kinds.{Kind, Boolean, is_of_values}
+use Rattle.body_kinds.specs.Kinds.{Kind, is_of_values}
 use Rattle.body_kinds.specs.Kinded.{Stacks, HasStacks, goes_back, Leads, straight, jump, jfalse, jtrue, turn, ret, fail}
 use Rattle.body_unit_kinds.specs.declared.here.Here.{Here}
 use Rattle.body_unit_kinds.specs.Seen.{stack_of, claimed, claimed_by}
-use Rattle.body_unit_kinds.specs.Units.{table_with, Grows, Enters, Decides, GoesOn, LeadsTo, IsFineIn, IsVisited, IsFound}
+use Rattle.body_unit_kinds.specs.Units.{table_with, Grows, Enters, Decides, GoesOn, GoesOnAt, LeadsTo, IsFineIn, IsVisited, IsFound}
 
 -- what follows from a rule follows where it is met
 pub met_then : {E : Type 0} (r : Result Bool E) (P Q : Type 0) → (P → Q) → IfOk r (λ b. b ≡ true → P) → IfOk r (λ b. b ≡ true → Q)
@@ -55,10 +55,10 @@ module _ (h : Here) where
   pub fails : (next : ℕ) (kind : Fault) (ks : List Kind) (stacks : Stacks) → LeadsTo h next (op.Fail kind) ks stacks
   fails next kind ks stacks address is = fail kind ks
 
-  pub goes_on : (next : ℕ) (i : Instr) (ks : List Kind) (stacks : Stacks) → GoesOn h next i ks stacks → LeadsTo h next i ks stacks
-  goes_on next i ks stacks g address is =
+  goes_on : (next : ℕ) (i : Instr) (ks ls : List Kind) (stacks : Stacks) → GoesOn h i ks ls → Enters h stacks next ls → LeadsTo h next i ks stacks
+  goes_on next i ks ls stacks g e address is =
       subst (λ (x : List Kind). LeadsIn stacks address i x) (sym g.effect.are)
-      (straight i g.effect.taken g.left g.rest g.effect.leaves (entered stacks next (suc address) (g.left ++ g.rest) is g.enters))
+      (straight i g.effect.taken g.left g.rest g.effect.leaves (entered stacks next (suc address) (g.left ++ g.rest) is (subst (λ (x : List Kind). Enters h stacks next x) g.are e)))
 
   pub leads_of : (next : ℕ) (i j : Instr) (ks : List Kind) (stacks : Stacks) → i ≡ j → LeadsTo h next j ks stacks → LeadsTo h next i ks stacks
   leads_of next i j ks stacks e l = subst (λ (x : Instr). LeadsTo h next x ks stacks) (sym e) l
@@ -70,6 +70,9 @@ module _ (h : Here) where
       let stands : slice_get new address ≡ Some (Some ks) = grows.more address ks stood in
       let same : ks ≡ ls = cc in
       subst (λ (x : List Kind). IsFineIn h new address x) same (record { instr = i; there = there; leads = leads address is })
+
+  pub visited_on : (address next : ℕ) (ls : List Kind) (old new : Stacks) → next ≡ suc address → GoesOnAt h old address ls → Grows next old new → Enters h new next ls → IsVisited h new address
+  visited_on address next ls old new is l grows e = visited address next l.instr l.ks old new is l.there l.stood grows (goes_on next l.instr l.ks ls new l.goes e)
 
   -- nothing stands there
   pub not_visited : (address next : ℕ) (old : Stacks) → ((ks : List Kind) → slice_get old address ≡ Some (Some ks) → ⊥) → IsVisited h old address

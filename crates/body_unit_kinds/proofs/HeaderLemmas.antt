@@ -1,5 +1,5 @@
 -- Which bodies have the header of a module variable.
-use Rattle.std.proofs.Common.{◌≡◌, ℕ, List, Option, Some, None}
+use Rattle.std.proofs.Common.{◌≡◌, ℕ, Option, Some, None}
 use Rattle.std.specs.Prelude.{slice_get, option_map, is_some, IsTrue}
 use Rattle.std.specs.Option.{unwrap_or}
 use Rattle.estelle_model.specs.Bodies.{BodyAlone, heading, module_headers}

@@ -1,5 +1,5 @@
 -- The kinds of values, and of the values of a type.
-use Rattle.std.proofs.Common.{◌≡◌, ◌∙◌, sym, ap, ℕ, Bool, List, Option, Some, None, ℤ}
+use Rattle.std.proofs.Common.{◌≡◌, ◌∙◌, sym, ap, ℕ, Bool, List, Some, None, ℤ}
 use Rattle.std.specs.Prelude.{if◌then◌else◌}
 use Rattle.pascal_values.specs.declared.value.Value.{Value}
 use Rattle.pascal_values.specs.declared.value.Value.TheVariants as values
@@ -13,7 +13,7 @@ use Rattle.estelle_model.specs.declared.denoter.Denoter.{Denoter}
 use Rattle.estelle_model.specs.declared.denoter.Denoter.TheVariants as denoters
 use Rattle.estelle_model.specs.Types.{shape_of, ordinal_shape}
 use Rattle.estelle_model.proofs.Fitting.{is_rises}
-use Rattle.body_kinds.specs.Kinds.{Kind, Integer, Boolean, Character, Enumerated, Members, Whole, simple_kind, simple_kind_at, kind_of, kind_at}
+use Rattle.body_kinds.specs.Kinds.{Integer, Boolean, Character, Enumerated, Members, Whole, simple_kind, simple_kind_at, kind_of, kind_at}
 use Rattle.body_unit_kinds.proofs.ShapeEquations.{shape_ordinal_is, shape_set_is, shape_array_is, shape_fields_is}
 
 pub set_kind : (v : Value) (ns : List ℕ) → v ≡ values.Set ns → IsRising 0 ns 256 → Some Members ≡ simple_kind v

@@ -2,7 +2,7 @@
 use Rattle.std.proofs.Common.{◌≡◌, subst, List, [], ◌∷◌, Option, Some, None}
 use Rattle.body_code.specs.declared.instr.Instr.{Instr}
 use Rattle.body_code.specs.declared.instr.Instr.TheVariants as op
-use Rattle.body_kinds.specs.Kinds.{Kind, Integer, Boolean, Character, Members}
+use Rattle.body_kinds.specs.Kinds.{Kind, Integer, Boolean, Members}
 use Rattle.body_kinds.specs.Kinded.{neg, abs, sqr, odd, chr, ord, successor, predecessor, negated, add, sub, mul, div, mod_, eq, ne, lt, le, gt, ge, empty, one, span, unite, meet, minus, has}
 use Rattle.body_unit_kinds.specs.declared.operators.Operator.{Operator}
 use Rattle.body_unit_kinds.specs.declared.here.Here.{Here}
@@ -28,9 +28,9 @@ operator_does h op.Succ ks k rest st = record { taken = k ∷ []; are = st.1; le
 operator_does h op.Pred ks k rest st = record { taken = k ∷ []; are = st.1; leaves = predecessor k st.0 }
 operator_does h op.One ks k rest st = record { taken = k ∷ []; are = st.1; leaves = one k st.0 }
 operator_does h op.Not ks k rest st = record { taken = Boolean ∷ []; are = cc; leaves = negated }
-operator_does h op.Add ks k rest st = record { taken = Integer ∷ Integer ∷ []; are = cc; leaves = add }
-operator_does h op.Sub ks k rest st = record { taken = Integer ∷ Integer ∷ []; are = cc; leaves = sub }
-operator_does h op.Mul ks k rest st = record { taken = Integer ∷ Integer ∷ []; are = cc; leaves = mul }
+operator_does h op.Add ks k rest st = record { taken = k ∷ k ∷ []; are = st.1; leaves = add k st.0 }
+operator_does h op.Sub ks k rest st = record { taken = k ∷ k ∷ []; are = st.1; leaves = sub k st.0 }
+operator_does h op.Mul ks k rest st = record { taken = k ∷ k ∷ []; are = st.1; leaves = mul k st.0 }
 operator_does h op.Div ks k rest st = record { taken = Integer ∷ Integer ∷ []; are = cc; leaves = div }
 operator_does h op.Mod ks k rest st = record { taken = Integer ∷ Integer ∷ []; are = cc; leaves = mod_ }
 operator_does h op.Eq ks k rest st = record { taken = k ∷ k ∷ []; are = st.1; leaves = eq k st.0 }
@@ -39,7 +39,7 @@ operator_does h op.Lt ks k rest st = record { taken = k ∷ k ∷ []; are = st.1
 operator_does h op.Le ks k rest st = record { taken = k ∷ k ∷ []; are = st.1; leaves = le k st.0 }
 operator_does h op.Gt ks k rest st = record { taken = k ∷ k ∷ []; are = st.1; leaves = gt k st.0 }
 operator_does h op.Ge ks k rest st = record { taken = k ∷ k ∷ []; are = st.1; leaves = ge k st.0 }
-operator_does h op.Span ks k rest st = record { taken = k ∷ k ∷ []; are = st.1; leaves = span k st.0 }
+operator_does h op.Span ks k rest st = record { taken = k ∷ Integer ∷ []; are = st.1; leaves = span k st.0 }
 operator_does h op.Empty ks k rest st = record { taken = []; are = st; leaves = empty }
 operator_does h op.Unite ks k rest st = record { taken = Members ∷ Members ∷ []; are = cc; leaves = unite }
 operator_does h op.Meet ks k rest st = record { taken = Members ∷ Members ∷ []; are = cc; leaves = meet }

@@ -1,12 +1,12 @@
 -- What an instruction takes from a stack of kinds, and what it leaves.
-use Rattle.std.specs.Prelude.{◌≡◌, ◌<◌, ℕ, Bool, true, false, IsTrue, is_some, List, [], ◌∷◌, ◌++◌, length, map as each, slice_get, Option, Some, None}
+use Rattle.std.specs.Prelude.{◌≡◌, ◌<◌, ℕ, IsTrue, is_some, List, ◌∷◌, ◌++◌, length, map as each, slice_get, Option, Some, None}
 use Rattle.pascal_values.specs.declared.value.Shape.{Shape}
 use Rattle.body_code.specs.declared.instr.Instr.{Instr}
 use Rattle.body_code.specs.declared.instr.Instr.TheVariants as op
 use Rattle.estelle_model.specs.Types.{shape_of}
 use Rattle.estelle_model.specs.Subject as subject
 use Rattle.estelle_model.specs.Subject.{Subject, types_of_variables}
-use Rattle.body_kinds.specs.Kinds.{Kind, Integer, Boolean, Character, Members, is_ordinal, is_compared}
+use Rattle.body_kinds.specs.Kinds.{Kind, Integer, Boolean, Character, Members, is_ordinal, is_compared, is_added}
 use Rattle.body_kinds.specs.Kinded.{Leaves}
 use Rattle.body_unit_kinds.specs.declared.operators.Takes.{Takes}
 use Rattle.body_unit_kinds.specs.declared.operators.Takes.TheVariants as takes
@@ -38,9 +38,9 @@ operator_of op.Succ = operator takes.Ordinal gives.Same
 operator_of op.Pred = operator takes.Ordinal gives.Same
 operator_of op.One = operator takes.Ordinal gives.Members
 operator_of op.Not = operator takes.Boolean gives.Boolean
-operator_of op.Add = operator takes.Integers gives.Integer
-operator_of op.Sub = operator takes.Integers gives.Integer
-operator_of op.Mul = operator takes.Integers gives.Integer
+operator_of op.Add = operator takes.Added gives.Same
+operator_of op.Sub = operator takes.Added gives.Same
+operator_of op.Mul = operator takes.Added gives.Same
 operator_of op.Div = operator takes.Integers gives.Integer
 operator_of op.Mod = operator takes.Integers gives.Integer
 operator_of op.Eq = operator takes.Compared gives.Boolean
@@ -49,7 +49,7 @@ operator_of op.Lt = operator takes.Ordinals gives.Boolean
 operator_of op.Le = operator takes.Compared gives.Boolean
 operator_of op.Gt = operator takes.Ordinals gives.Boolean
 operator_of op.Ge = operator takes.Compared gives.Boolean
-operator_of op.Span = operator takes.Ordinals gives.Members
+operator_of op.Span = operator takes.Ends gives.Members
 operator_of op.Empty = operator takes.Nothing gives.Members
 operator_of op.Unite = operator takes.Sets gives.Members
 operator_of op.Meet = operator takes.Sets gives.Members
@@ -72,7 +72,9 @@ Stand takes.Integer ks k rest = (k ≡ Integer) × (ks ≡ k ∷ rest)
 Stand takes.Boolean ks k rest = (k ≡ Boolean) × (ks ≡ k ∷ rest)
 Stand takes.Ordinal ks k rest = IsTrue (is_ordinal k) × (ks ≡ k ∷ rest)
 Stand takes.Integers ks k rest = (k ≡ Integer) × (ks ≡ k ∷ k ∷ rest)
+Stand takes.Added ks k rest = IsTrue (is_added k) × (ks ≡ k ∷ k ∷ rest)
 Stand takes.Ordinals ks k rest = IsTrue (is_ordinal k) × (ks ≡ k ∷ k ∷ rest)
+Stand takes.Ends ks k rest = IsTrue (is_ordinal k) × (ks ≡ k ∷ Integer ∷ rest)
 Stand takes.Compared ks k rest = IsTrue (is_compared k) × (ks ≡ k ∷ k ∷ rest)
 Stand takes.Sets ks k rest = (k ≡ Members) × (ks ≡ k ∷ k ∷ rest)
 Stand takes.Member ks k rest = IsTrue (is_ordinal k) × (ks ≡ Members ∷ k ∷ rest)

@@ -1,8 +1,8 @@
 -- Kinds in code, and what is claimed of units, as what is meant.
-use Rattle.std.specs.Prelude.{ℕ, Bool, true, false, List, [], ◌∷◌, map as each, option_map, Option, Some, None}
+use Rattle.std.specs.Prelude.{false, List, [], ◌∷◌, map as each, option_map, Option, Some, None}
 use Rattle.std.specs.Map.{lookup}
+use Rattle.smallvec.specs.SmallVec.{SmallVec}
 use Rattle.body_code.specs.Units.{same_place}
-use Rattle.body_code.specs.declared.unit.Entry.{Entry}
 use Rattle.body_kinds.specs.Kinds.{Kind, Integer, Boolean, Character, Enumerated, Members, Whole, PlaceOf}
 use Rattle.body_kinds.specs.Kinded as kinded
 use Rattle.body_unit_kinds.specs.declared.kind.Kind as code
@@ -28,8 +28,8 @@ left_of None = []
 left_of (Some k) = meant k ∷ []
 
 -- the stack at each address that is come to
-abbrev pub stacks_of : List (Option (List code.Kind)) → List (Option (List Kind))
-stacks_of = each (option_map stack_of)
+abbrev pub stacks_of : List (Option (SmallVec code.Kind)) → List (Option (List Kind))
+stacks_of = each (option_map (λ s. stack_of s.items))
 
 -- what is claimed of a unit; nothing is of one that is not there
 abbrev pub claimed_by : Option Claim → kinded.Claim

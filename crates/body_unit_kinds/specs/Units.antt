@@ -30,12 +30,20 @@ pub record Decides (h : Here) (next to : ℕ) (ks : List Kind) (stacks : Stacks)
   pub jumps : Enters h stacks to below
   pub falls : Enters h stacks next below
 
--- what an instruction leaves stands behind it
-pub record GoesOn (h : Here) (next : ℕ) (i : Instr) (ks : List Kind) (stacks : Stacks) : Type 0 where
+-- an instruction goes on behind itself, and leaves such a stack
+pub record GoesOn (h : Here) (i : Instr) (ks stack : List Kind) : Type 0 where
   pub left : List Kind
   pub rest : List Kind
   pub effect : HasEffect h i ks left rest
-  pub enters : Enters h stacks next (left ++ rest)
+  pub are : stack ≡ left ++ rest
+
+-- the one at an address does, with the stack there
+pub record GoesOnAt (h : Here) (stacks : Stacks) (address : ℕ) (stack : List Kind) : Type 0 where
+  pub instr : Instr
+  pub there : slice_get h.unit.now.instrs address ≡ Some instr
+  pub ks : List Kind
+  pub stood : slice_get stacks address ≡ Some (Some ks)
+  pub goes : GoesOn h instr ks stack
 
 -- where an instruction leads before an address
 abbrev pub LeadsTo : Here → ℕ → Instr → List Kind → Stacks → Type 0

@@ -24,6 +24,12 @@ pub enum Kind<'a> {
     PlaceOf(&'a Shape),
 }
 
+impl Default for Kind<'_> {
+    fn default() -> Self {
+        Kind::Members
+    }
+}
+
 /// The kind of the values of a shape.
 pub fn kind_of(shape: &Shape) -> Kind
     ensures { meant result ≡ spec.kind_of shape.now }

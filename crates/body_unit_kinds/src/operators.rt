@@ -15,9 +15,13 @@ pub enum Takes {
     Integer,
     Boolean,
     Ordinal,
-    /// Two, of one kind where they are not integers.
+    /// Two integers.
     Integers,
+    /// Two integers, or two sets.
+    Added,
     Ordinals,
+    /// The ordinal of the first member, and the last member.
+    Ends,
     Compared,
     Sets,
     /// A member and a set above it.
@@ -62,9 +66,9 @@ pub fn operator_of(instr: &Instr) -> Option<Operator>
         Instr::Pred => make_operator(Takes::Ordinal, Gives::Same),
         Instr::One => make_operator(Takes::Ordinal, Gives::Members),
         Instr::Not => make_operator(Takes::Boolean, Gives::Boolean),
-        Instr::Add => make_operator(Takes::Integers, Gives::Integer),
-        Instr::Sub => make_operator(Takes::Integers, Gives::Integer),
-        Instr::Mul => make_operator(Takes::Integers, Gives::Integer),
+        Instr::Add => make_operator(Takes::Added, Gives::Same),
+        Instr::Sub => make_operator(Takes::Added, Gives::Same),
+        Instr::Mul => make_operator(Takes::Added, Gives::Same),
         Instr::Div => make_operator(Takes::Integers, Gives::Integer),
         Instr::Mod => make_operator(Takes::Integers, Gives::Integer),
         Instr::Eq => make_operator(Takes::Compared, Gives::Boolean),
@@ -73,7 +77,7 @@ pub fn operator_of(instr: &Instr) -> Option<Operator>
         Instr::Le => make_operator(Takes::Compared, Gives::Boolean),
         Instr::Gt => make_operator(Takes::Ordinals, Gives::Boolean),
         Instr::Ge => make_operator(Takes::Compared, Gives::Boolean),
-        Instr::Span => make_operator(Takes::Ordinals, Gives::Members),
+        Instr::Span => make_operator(Takes::Ends, Gives::Members),
         Instr::Empty => make_operator(Takes::Nothing, Gives::Members),
         Instr::Unite => make_operator(Takes::Sets, Gives::Members),
         Instr::Meet => make_operator(Takes::Sets, Gives::Members),
@@ -129,6 +133,20 @@ fn is_ordinal(kind: Kind) -> bool
         Kind::Character => true,
         Kind::Enumerated => true,
         Kind::Members => false,
+        Kind::Whole(_) => false,
+        Kind::PlaceOf(_) => false,
+    }
+}
+
+fn is_added(kind: Kind) -> bool
+    ensures { result ≡ spec.is_added (meant kind.entry) }
+{
+    match kind {
+        Kind::Integer => true,
+        Kind::Members => true,
+        Kind::Boolean => false,
+        Kind::Character => false,
+        Kind::Enumerated => false,
         Kind::Whole(_) => false,
         Kind::PlaceOf(_) => false,
     }
@@ -199,6 +217,13 @@ pub fn operands<'a, 's>(takes: Takes, stack: &'s [Kind<'a>]) -> Option<(Kind<'a>
         }
         Takes::Integers => two_like(Kind::Integer, stack),
         Takes::Sets => two_like(Kind::Members, stack),
+        Takes::Added => {
+            let (kind, rest) = two(stack)?;
+            if is_added(kind) {
+                return Some((kind, rest));
+            }
+            None
+        }
         Takes::Ordinals => {
             let (kind, rest) = two(stack)?;
             if is_ordinal(kind) {
@@ -209,6 +234,14 @@ pub fn operands<'a, 's>(takes: Takes, stack: &'s [Kind<'a>]) -> Option<(Kind<'a>
         Takes::Compared => {
             let (kind, rest) = two(stack)?;
             if is_compared(kind) {
+                return Some((kind, rest));
+            }
+            None
+        }
+        Takes::Ends => {
+            let (kind, below) = one(stack)?;
+            let (_, rest) = one_like(Kind::Integer, below)?;
+            if is_ordinal(kind) {
                 return Some((kind, rest));
             }
             None

@@ -10,10 +10,11 @@ use crate::here::Here;
 use crate::kind::{Kind, same_kinds};
 use body_code::Instr;
 use estelle_tree::Items;
+use smallvec::SmallVec;
 use std::alloc::{AllocError, Global};
 
-/// A stack, the topmost first.
-pub type Stack<'a> = Items<Kind<'a>>;
+/// A stack, the topmost first; most stacks take no memory of their own.
+pub type Stack<'a> = SmallVec<Kind<'a>, 4>;
 
 /// None where nothing is known to come.
 pub type Stacks<'a> = Items<Option<Stack<'a>>>;
@@ -42,25 +43,18 @@ fn compared(stacks: &[Option<Stack>], to: usize, stack: &[Kind]) -> Option<bool>
 
 /// Lets a stack come to an address, where it is put if none is known; whether they agree. Nothing is put before an address.
 #[tactic(auto, using(crate::proofs::Filling::same_stacks, crate::proofs::Filling::put_stands, crate::proofs::Filling::put_grows))]
-pub fn put<'a>(
-    alloc: Global,
-    stacks: &mut Stacks<'a>,
-    address: usize,
-    to: usize,
-    stack: &[Kind<'a>],
-) -> Result<bool, AllocError>
-    ensures grows { OnOk result (Grows address (stacks_of stacks.old) (stacks_of stacks.new)) }
-    ensures stands { IfOk result (λ agree. agree ≡ true → slice_get (stacks_of stacks.new) to ≡ Some (Some (stack_of stack.now))) }
+pub fn put<'a>(stacks: &mut Stacks<'a>, address: usize, to: usize, stack: Stack<'a>) -> bool
+    ensures grows { Grows address (stacks_of stacks.old) (stacks_of stacks.new) }
+    ensures stands { result ≡ true → slice_get (stacks_of stacks.new) to ≡ Some (Some (stack_of stack.entry.items)) }
 {
-    match compared(stacks.as_slice(), to, stack) {
-        Some(same) => Ok(same),
+    match compared(stacks.as_slice(), to, stack.as_slice()) {
+        Some(same) => same,
         None => {
             if to < address || stacks.len() <= to {
-                return Ok(false);
+                return false;
             }
-            let copy = Items::from_slice(alloc, stack)?;
-            stacks.set(to, Some(copy));
-            Ok(true)
+            stacks.set(to, Some(stack));
+            true
         }
     }
 }
@@ -78,20 +72,19 @@ fn goes_back(here: &Here, address: usize) -> bool
 /// The same, at an address to which not only a turn may lead.
 #[tactic(auto, using(crate::proofs::Filling::same_stacks))]
 pub fn enter<'a>(
-    alloc: Global,
     here: &Here,
     stacks: &mut Stacks<'a>,
     address: usize,
     to: usize,
-    stack: &[Kind<'a>],
-) -> Result<bool, AllocError>
-    ensures grows { OnOk result (Grows address (stacks_of stacks.old) (stacks_of stacks.new)) }
-    ensures enters { IfOk result (λ agree. agree ≡ true → Enters here.now (stacks_of stacks.new) to (stack_of stack.now)) }
+    stack: Stack<'a>,
+) -> bool
+    ensures grows { Grows address (stacks_of stacks.old) (stacks_of stacks.new) }
+    ensures enters { result ≡ true → Enters here.now (stacks_of stacks.new) to (stack_of stack.entry.items) }
 {
     if goes_back(here, to) {
-        return Ok(false);
+        return false;
     }
-    put(alloc, stacks, address, to, stack)
+    put(stacks, address, to, stack)
 }
 
 /// A copy of the stack at an address.
@@ -100,13 +93,13 @@ pub fn stack_at<'a>(
     stacks: &[Option<Stack<'a>>],
     address: usize,
 ) -> Result<Option<Stack<'a>>, AllocError>
-    ensures { IfOk result (λ found. MatchOption found ((ks : List spec.Kind) → slice_get (stacks_of stacks.now) address ≡ Some (Some ks) → ⊥) (λ stack. slice_get (stacks_of stacks.now) address ≡ Some (Some (stack_of stack)))) }
+    ensures { IfOk result (λ found. MatchOption found ((ks : List spec.Kind) → slice_get (stacks_of stacks.now) address ≡ Some (Some ks) → ⊥) (λ stack. slice_get (stacks_of stacks.now) address ≡ Some (Some (stack_of stack.items)))) }
 {
     match stacks.get(address) {
         None => Ok(None),
         Some(None) => Ok(None),
         Some(Some(stack)) => {
-            let copy = Items::from_slice(alloc, stack.as_slice())?;
+            let copy = SmallVec::from_slice(alloc, stack.as_slice())?;
             Ok(Some(copy))
         }
     }
@@ -118,24 +111,15 @@ pub fn above<'a>(
     left: Option<Kind<'a>>,
     rest: &[Kind<'a>],
 ) -> Result<Stack<'a>, AllocError>
-    ensures { IfOk result (λ stack. stack_of stack ≡ left_of left.entry ++ stack_of rest.now) }
+    ensures { IfOk result (λ stack. stack_of stack.items ≡ left_of left.entry ++ stack_of rest.now) }
 {
     match left {
-        None => Items::from_slice(alloc, rest),
+        None => SmallVec::from_slice(alloc, rest),
         Some(kind) => {
-            let mut stack = Items::new(alloc);
+            let mut stack = SmallVec::new(alloc);
             stack.push(kind)?;
-            add_all(&mut stack, rest)?;
+            stack.extend_from_slice(rest)?;
             Ok(stack)
         }
     }
-}
-
-fn add_all<'a>(stack: &mut Stack<'a>, rest: &[Kind<'a>]) -> Result<(), AllocError>
-    ensures { OnOk result (stack.new ≡ stack.old ++ rest.now) }
-{
-    for kind in rest {
-        stack.push(*kind)?;
-    }
-    Ok(())
 }

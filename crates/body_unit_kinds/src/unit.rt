@@ -1,20 +1,21 @@
 //! Whether a unit is of good kinds: in one pass each address is checked with the stack that comes to it.
 
-ghost use Rattle.std.specs.Prelude.{◌≡◌, suc, true, IfOk, OnOk, IsTrue, Some};
+ghost use Rattle.std.specs.Prelude.{◌≡◌, suc, true, IfOk, IfSome, OnOk, IsTrue, Some};
 ghost use Rattle.std.specs.List.{list_all};
 ghost use Rattle.body_kinds.specs.Kinds as spec;
 ghost use Rattle.body_kinds.specs.Kinded.{HasStacks};
 ghost use Rattle.body_unit_kinds.specs.Seen.{meant, claimed, claimed_by, stack_of, stacks_of};
 ghost use Rattle.body_unit_kinds.specs.Effects.{AreVariables};
-ghost use Rattle.body_unit_kinds.specs.Units.{Grows, Decides, GoesOn, LeadsTo, IsVisited};
+ghost use Rattle.body_unit_kinds.specs.Units.{Grows, Decides, GoesOn, GoesOnAt, LeadsTo, IsVisited};
 
 use crate::effects::effect;
 use crate::here::Here;
 use crate::kind::{Kind, same_kind, same_kinds};
 use crate::operators::one;
-use crate::stacks::{Stacks, above, enter, put, stack_at, unknown};
+use crate::stacks::{Stack, Stacks, above, enter, put, stack_at, unknown};
 use body_code::Instr;
 use estelle_tree::Sequence;
+use smallvec::SmallVec;
 use std::alloc::{AllocError, Global};
 
 /// A jump over others where a truth value decides.
@@ -36,64 +37,103 @@ fn decide<'a>(
             if !same_kind(top, Kind::Boolean) || to < next {
                 return Ok(false);
             }
-            if !enter(alloc, here, stacks, next, to, rest)? {
+            let first = SmallVec::from_slice(alloc, rest)?;
+            let second = SmallVec::from_slice(alloc, rest)?;
+            if !enter(here, stacks, next, to, first) {
                 return Ok(false);
             }
-            enter(alloc, here, stacks, next, next, rest)
+            Ok(enter(here, stacks, next, next, second))
         }
     }
 }
 
-/// An instruction that goes on behind itself.
-#[tactic(auto, using(crate::proofs::Filling::same_stacks))]
-fn go_on<'a>(
-    alloc: Global,
-    here: &Here<'a, '_>,
-    next: usize,
-    instr: &Instr,
-    stack: &[Kind<'a>],
-    stacks: &mut Stacks<'a>,
-) -> Result<bool, AllocError>
-    requires { AreVariables here.now.bodies.now here.now.variables.now }
-    ensures grows { OnOk result (Grows next (stacks_of stacks.old) (stacks_of stacks.new)) }
-    ensures leads { IfOk result (λ fits. fits ≡ true → GoesOn here.now next instr.now (stack_of stack.now) (stacks_of stacks.new)) }
-{
-    match effect(here, instr, stack) {
-        None => Ok(false),
-        Some(after) => {
-            let left = above(alloc, after.left, after.rest)?;
-            enter(alloc, here, stacks, next, next, left.as_slice())
-        }
-    }
-}
-
-/// Where an instruction leads with a stack; whether that agrees with what is known.
-#[tactic(auto, using(crate::proofs::Filling::same_stacks, crate::proofs::Fine::jumps, crate::proofs::Fine::decides_false, crate::proofs::Fine::decides_true, crate::proofs::Fine::turns, crate::proofs::Fine::returns_there, crate::proofs::Fine::fails, crate::proofs::Fine::goes_on))]
+/// Where an instruction that does not go on behind itself leads with a stack; whether that agrees with what is known.
+#[tactic(auto, using(crate::proofs::Filling::same_stacks, crate::proofs::Fine::jumps, crate::proofs::Fine::decides_false, crate::proofs::Fine::decides_true, crate::proofs::Fine::turns, crate::proofs::Fine::returns_there, crate::proofs::Fine::fails))]
 fn lead<'a>(
     alloc: Global,
-    here: &Here<'a, '_>,
+    here: &Here,
     next: usize,
     instr: &Instr,
-    stack: &[Kind<'a>],
+    stack: Stack<'a>,
     stacks: &mut Stacks<'a>,
 ) -> Result<bool, AllocError>
-    requires { AreVariables here.now.bodies.now here.now.variables.now }
     ensures grows { OnOk result (Grows next (stacks_of stacks.old) (stacks_of stacks.new)) }
-    ensures leads { IfOk result (λ fits. fits ≡ true → LeadsTo here.now next instr.now (stack_of stack.now) (stacks_of stacks.new)) }
+    ensures leads { IfOk result (λ fits. fits ≡ true → LeadsTo here.now next instr.now (stack_of stack.entry.items) (stacks_of stacks.new)) }
 {
     match instr {
-        Instr::Jump(to) => enter(alloc, here, stacks, next, *to as usize, stack),
-        Instr::Jfalse(to) => decide(alloc, here, next, *to as usize, stack, stacks),
-        Instr::Jtrue(to) => decide(alloc, here, next, *to as usize, stack, stacks),
-        Instr::Turn => put(alloc, stacks, next, next, stack),
-        Instr::Ret => Ok(same_kinds(stack, here.claim.result.items())),
+        Instr::Jump(to) => Ok(enter(here, stacks, next, *to as usize, stack)),
+        Instr::Jfalse(to) => decide(alloc, here, next, *to as usize, stack.as_slice(), stacks),
+        Instr::Jtrue(to) => decide(alloc, here, next, *to as usize, stack.as_slice(), stacks),
+        Instr::Turn => Ok(put(stacks, next, next, stack)),
+        Instr::Ret => Ok(same_kinds(stack.as_slice(), here.claim.result.items())),
         Instr::Fail(_) => Ok(true),
-        _ => go_on(alloc, here, next, instr, stack, stacks),
+        _ => Ok(false),
+    }
+}
+
+/// What stands behind an instruction that goes on behind itself, if the stack fits.
+fn left_behind<'a>(
+    alloc: Global,
+    here: &Here<'a, '_>,
+    instr: &Instr,
+    stack: &[Kind<'a>],
+) -> Result<Option<Stack<'a>>, AllocError>
+    requires { AreVariables here.now.bodies.now here.now.variables.now }
+    ensures { IfOk result (λ found. IfSome found (λ left. GoesOn here.now instr.now (stack_of stack.now) (stack_of left.items))) }
+{
+    match effect(here, instr, stack) {
+        None => Ok(None),
+        Some(after) => {
+            let left = above(alloc, after.left, after.rest)?;
+            Ok(Some(left))
+        }
+    }
+}
+
+/// The same at an address, if a stack is known to come there.
+fn left_at<'a>(
+    alloc: Global,
+    here: &Here<'a, '_>,
+    address: usize,
+    stacks: &[Option<Stack<'a>>],
+) -> Result<Option<Stack<'a>>, AllocError>
+    requires { AreVariables here.now.bodies.now here.now.variables.now }
+    ensures { IfOk result (λ found. IfSome found (λ left. GoesOnAt here.now (stacks_of stacks.now) address (stack_of left.items))) }
+{
+    match stacks.get(address) {
+        None => Ok(None),
+        Some(None) => Ok(None),
+        Some(Some(stack)) => match here.unit.instrs.get(address) {
+            None => Ok(None),
+            Some(instr) => left_behind(alloc, here, instr, stack.as_slice()),
+        },
+    }
+}
+
+/// Whether what stands at an address is fine, where no instruction goes on behind itself.
+#[tactic(auto, using(crate::proofs::Filling::same_stacks, crate::proofs::Fine::visited, crate::proofs::Fine::not_visited))]
+fn turn_off<'a>(
+    alloc: Global,
+    here: &Here,
+    address: usize,
+    next: usize,
+    stacks: &mut Stacks<'a>,
+) -> Result<bool, AllocError>
+    requires follows { next ≡ suc address }
+    ensures grows { OnOk result (Grows next (stacks_of stacks.old) (stacks_of stacks.new)) }
+    ensures visited { IfOk result (λ fits. fits ≡ true → IsVisited here.now (stacks_of stacks.new) address) }
+{
+    match stack_at(alloc, stacks.as_slice(), address)? {
+        None => Ok(true),
+        Some(stack) => match here.unit.instrs.get(address) {
+            None => Ok(false),
+            Some(instr) => lead(alloc, here, next, instr, stack, stacks),
+        },
     }
 }
 
 /// Whether what stands at an address is fine.
-#[tactic(auto, using(crate::proofs::Filling::same_stacks, crate::proofs::Fine::visited, crate::proofs::Fine::not_visited))]
+#[tactic(auto, using(crate::proofs::Filling::same_stacks, crate::proofs::Fine::visited_on))]
 fn visit<'a>(
     alloc: Global,
     here: &Here<'a, '_>,
@@ -106,12 +146,9 @@ fn visit<'a>(
     ensures grows { OnOk result (Grows next (stacks_of stacks.old) (stacks_of stacks.new)) }
     ensures visited { IfOk result (λ fits. fits ≡ true → IsVisited here.now (stacks_of stacks.new) address) }
 {
-    match stack_at(alloc, stacks.as_slice(), address)? {
-        None => Ok(true),
-        Some(stack) => match here.unit.instrs.get(address) {
-            None => Ok(false),
-            Some(instr) => lead(alloc, here, next, instr, stack.as_slice(), stacks),
-        },
+    match left_at(alloc, here, address, stacks.as_slice())? {
+        Some(left) => Ok(enter(here, stacks, next, next, left)),
+        None => turn_off(alloc, here, address, next, stacks),
     }
 }
 
@@ -134,7 +171,7 @@ fn guess<'a>(
         Some(Instr::Jump(_)) => match stack_at(alloc, stacks.as_slice(), before)? {
             None => Ok(()),
             Some(stack) => {
-                let _ = put(alloc, stacks, address, address, stack.as_slice())?;
+                let _ = put(stacks, address, address, stack);
                 Ok(())
             }
         },
@@ -175,7 +212,7 @@ pub fn is_kinded<'a>(alloc: Global, here: &Here<'a, '_>) -> Result<bool, AllocEr
 {
     let count = here.unit.instrs.len();
     let mut stacks = unknown(alloc, count)?;
-    if !enter(alloc, here, &mut stacks, 0, 0, &[])? {
+    if !enter(here, &mut stacks, 0, 0, SmallVec::new(alloc)) {
         return Ok(false);
     }
     for address in 0..count {

@@ -8,6 +8,7 @@ ghost use Rattle.estelle_model.specs.Subject.{subject};
 ghost use Rattle.estelle_model_legality.specs.Instances.{LeadsToStates};
 ghost use Rattle.body_state.specs.InOrder.{InOrder};
 ghost use Rattle.body_jobs.specs.Jobs.{MayBeFired};
+ghost use Rattle.body_kinds.specs.Good.{HasGoodKinds};
 ghost use Rattle.body_machine_meaning.specs.Faithful.{IsFaithful};
 ghost use Rattle.body_program_numbers.specs.Numbering.{numbers_of};
 
@@ -53,12 +54,14 @@ impl<'a> Model for CompiledProgram<'a> {
     ghost coded = { Prim.hlevel (codes, of_specs.the_row.coded) };
 
     ghost use Rattle.estelle_model_legality.specs.Instances.{LeadsToStates};
+    ghost use Rattle.body_kinds.specs.Good.{HasGoodKinds};
     ghost use Rattle.body_machine_meaning.specs.Faithful.{IsFaithful};
     ghost use Rattle.body_program_numbers.specs.Numbering.{numbers_of};
 
     ghost view = { λ p. p.program.now };
 
-    ghost invariant = { λ p. (p.numbering ≡ p.program.now) × IsFaithful p.program.now (numbers_of p.program.now) p.code };
+    ghost invariant = { λ p. (p.numbering ≡ p.program.now) × IsFaithful p.program.now (numbers_of p.program.now) p.code
+        × HasGoodKinds p.program.now (numbers_of p.program.now) p.code };
 }
 
 impl<'a> CompiledProgram<'a> {
@@ -90,7 +93,8 @@ impl<'a> CompiledProgram<'a> {
 
     /// The code of its bodies.
     pub fn code(&self) -> &Code
-        ensures { IsFaithful self.now (numbers_of self.now) result.now }
+        ensures faithful { IsFaithful self.now (numbers_of self.now) result.now }
+        ensures kinds { HasGoodKinds self.now (numbers_of self.now) result.now }
     {
         &self.code
     }

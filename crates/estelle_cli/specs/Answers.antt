@@ -21,6 +21,7 @@ use Rattle.estelle_model.specs.Trace.{text, kind_text, line_end}
 use Rattle.estelle_model.specs.Subject.{Subject}
 use Rattle.body_code.specs.declared.unit.CodeUnit.{CodeUnit}
 use Rattle.body_code.specs.Listing.{listing}
+use Rattle.body_kinds.specs.Good.{HasGoodKinds}
 use Rattle.body_machine_meaning.specs.Faithful.{IsFaithful}
 use Rattle.body_program_numbers.specs.Numbering.{numbers_of}
 use Rattle.situation.specs.declared.limits.Limits.{Limits}
@@ -94,9 +95,9 @@ pub record IsShown (left : Option (List ℕ)) (written : List ℕ) : Type 0 wher
   pub input : IfSome left (λ bytes. Reads Alone bytes specification)
   pub canonical : IsCanonicalText specification written
 
--- the text is the listing of a code with which the machine does what the bodies mean
+-- the text is the listing of a code of good kinds, with which the machine does what the bodies mean
 abbrev pub IsListing : Subject → List ℕ → Type 0
-IsListing s written = (code : List CodeUnit) × IsFaithful s (numbers_of s) code × (written ≡ listing code)
+IsListing s written = (code : List CodeUnit) × IsFaithful s (numbers_of s) code × HasGoodKinds s (numbers_of s) code × (written ≡ listing code)
 
 -- the text is that of a code of such a specification
 pub record IsListed (left : Option (List ℕ)) (written : List ℕ) : Type 0 where

@@ -82,7 +82,7 @@ fn push_spellings(shapes: &[Shape], out: &mut Vec<u64>) -> Result<(), AllocError
 pub fn spelling(alloc: Global, shape: &Shape) -> Result<Vec<u64>, AllocError>
     ensures { IfOk result (λ numbers. numbers.items ≡ spec.spelling shape.now) }
 {
-    let mut numbers = Vec::new(alloc);
+    let mut numbers = Vec::with_capacity(alloc, 8)?;
     push_spelling(shape, &mut numbers)?;
     Ok(numbers)
 }

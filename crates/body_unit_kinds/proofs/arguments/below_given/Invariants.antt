@@ -1,4 +1,4 @@
-use Rattle.std.proofs.Common.{◌≡◌, ◌≤◌, ◌++◌, length, drop, map, reverse, take}
+use Rattle.std.proofs.Common.{◌≡◌, ◌≤◌, ◌++◌, drop, map, reverse, take}
 use Rattle.body_kinds.specs.Kinded.{local_kind}
 use Rattle.body_unit_kinds.specs.Seen.{stack_of}
 use Rattle.body_unit_kinds.proofs.arguments.below_given.Given as goal

@@ -1,6 +1,6 @@
 use Rattle.std.proofs.Common.{◌≡◌, ◌∙◌, sym, ap, ◌∷◌, rules}
 use Rattle.pascal_values.specs.declared.value.Shape.TheVariants as shapes
-use Rattle.body_kinds.specs.Kinds.{Integer, PlaceOf}
+use Rattle.body_kinds.specs.Kinds.{Integer}
 use Rattle.body_unit_kinds.specs.Seen.{stack_of}
 use Rattle.body_unit_kinds.proofs.EffectLemmas.{effect_index}
 use Rattle.body_unit_kinds.proofs.effects.index.Goals as goal
