@@ -44,7 +44,7 @@ END
 
 # (a crate, and those on which it stands)
 sed -n '/^#/d; s/^\([a-z0-9_]*\)[^:]*:/\1/p' crates.txt >"$folder/crates"
-find estelle README.md bench docs examples crates -name out -prune -o -print | sed 's|^\./||' >"$folder/files"
+find estelle README.md bench docs editors examples tools crates -name out -prune -o -print | sed 's|^\./||' >"$folder/files"
 
 # What there is: a crate, a kind (`contract`, `clause` with its call, `code` or `definition`) and a name.
 grep '^crates/[a-z0-9_]*/\(src/.*\.rt\|specs/.*\.antt\)$' "$folder/files" | while read -r file; do
