@@ -1,6 +1,6 @@
 #!/bin/sh
 # Runs each command that README.md, docs/MANUAL.md and examples/README.md show, with the built program, and fails where what it
-# writes, or its status, is not what stands there. It is no part of the merge gate.
+# writes, or its status, is not what stands there. The merge gate calls it (.ci/run).
 #
 # usage: bench/commands.sh [PROGRAM]
 #

@@ -1,6 +1,6 @@
 #!/bin/sh
 # Runs the built program on edge texts and compares what it writes with what the rules say; the answers were worked by
-# hand. It is no part of the merge gate.
+# hand. The merge gate calls it (.ci/run).
 #
 # usage: bench/edges.sh [PROGRAM]
 #

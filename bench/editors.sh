@@ -1,6 +1,6 @@
 #!/bin/sh
 # Makes the files that editors use to colour specifications, and fails where those under editors/ are others. It proves and runs
-# nothing, and is no part of the merge gate.
+# nothing. The merge gate calls it (.ci/run).
 #
 # usage: bench/editors.sh [--write]
 #

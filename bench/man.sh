@@ -1,7 +1,7 @@
 #!/bin/sh
 # Makes docs/estelle.1 from the tables of docs/MANUAL.md (commands, options, statuses, lines of a trace, faults) and the form of a
-# trace in docs/FORMATS.md, and fails where the file that stands there is another. It proves and runs nothing, and is no part of the
-# merge gate.
+# trace in docs/FORMATS.md, and fails where the file that stands there is another. It proves and runs nothing. The merge gate calls
+# it (.ci/run).
 #
 # usage: bench/man.sh [--write]
 #

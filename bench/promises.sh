@@ -1,6 +1,6 @@
 #!/bin/sh
 # Looks up each crate, file, call, clause and definition that docs/PROMISES.md names in backquotes, and fails where one is gone. It
-# proves nothing: that a clause says what the document says of it, a reader must see. It is no part of the merge gate.
+# proves nothing: that a clause says what the document says of it, a reader must see. The merge gate calls it (.ci/run).
 #
 # usage: bench/promises.sh
 #
@@ -44,7 +44,7 @@ END
 
 # (a crate, and those on which it stands)
 sed -n '/^#/d; s/^\([a-z0-9_]*\)[^:]*:/\1/p' crates.txt >"$folder/crates"
-find estelle README.md bench docs editors examples tools crates -name out -prune -o -print | sed 's|^\./||' >"$folder/files"
+find .ci estelle README.md bench docs editors examples tools crates -name out -prune -o -print | sed 's|^\./||' >"$folder/files"
 
 # What there is: a crate, a kind (`contract`, `clause` with its call, `code` or `definition`) and a name.
 grep '^crates/[a-z0-9_]*/\(src/.*\.rt\|specs/.*\.antt\)$' "$folder/files" | while read -r file; do

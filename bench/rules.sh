@@ -1,6 +1,6 @@
 #!/bin/sh
-# Gives the texts of docs/RULES.md to the built program, and fails where an answer is not the one that stands there. It is no
-# part of the merge gate.
+# Gives the texts of docs/RULES.md to the built program, and fails where an answer is not the one that stands there. The merge
+# gate calls it (.ci/run).
 #
 # usage: bench/rules.sh [PROGRAM]
 #

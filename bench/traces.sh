@@ -1,7 +1,7 @@
 #!/bin/sh
 # Gives traces at the bounds of docs/FORMATS.md to `replay` of the built program, each with one line in question behind `start`: one
-# within its bounds is a trace, though none of a run, and one beyond them is a bad line. The answers were worked by hand. It is no
-# part of the merge gate.
+# within its bounds is a trace, though none of a run, and one beyond them is a bad line. The answers were worked by hand. The
+# merge gate calls it (.ci/run).
 #
 # usage: bench/traces.sh [PROGRAM]
 #
