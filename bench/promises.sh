@@ -1,14 +1,15 @@
 #!/bin/sh
-# Looks up each crate, file, call, clause and definition that docs/PROMISES.md names in backquotes, and fails where one is gone. It
-# proves nothing: that a clause says what the document says of it, a reader must see. The merge gate calls it (.ci/run).
+# Looks up each crate, file, call, clause and definition that docs/PROMISES.md and the crates' README.md name in backquotes, and fails
+# where one is gone. The lines of a fenced block in a README.md are to stand one behind another in a source file. It proves nothing:
+# that a clause says what the document says of it, a reader must see. The merge gate calls it (.ci/run).
 #
 # usage: bench/promises.sh
 #
-# What stands behind the name of a crate in bold letters, up to the next one or a heading, is looked up in that crate and in those
-# that its paragraph names besides, a definition also in all on which these stand; what stands elsewhere, in all crates. Behind
+# What stands behind the name of a crate in bold letters, up to the next one or a heading, or in a crate's README.md, is looked up in that
+# crate and in those that its paragraph names besides, a definition also in all on which these stand; what stands elsewhere, in all crates. Behind
 # `clause` or `clauses`, and in the first cell of a row, it must be the name of a clause (`ensures NAME`) or of a part of a
 # definition; in brackets right behind a call that of a clause of this call, or of a definition or a call; else it may be that of a
-# type or a field too. Each crate must have its name in bold letters.
+# type or a field too. Each crate must have its name in bold letters in docs/PROMISES.md.
 set -u
 top=$(cd "$(dirname "$0")/.." && pwd)
 document=docs/PROMISES.md
@@ -29,6 +30,15 @@ pascal_parser begin
 clause_parser trans
 body_table any
 body_program any
+transition_expand any
+estelle_printer show
+estelle_printer make
+spec_maker trial
+body_code code
+trace_replay replay
+estelle_words clap
+estelle_words --name=N
+estelle_words --workers
 estelle_cli run
 estelle_cli check
 estelle_cli show
@@ -96,6 +106,7 @@ grep '^crates/[a-z0-9_]*/\(src/.*\.rt\|specs/.*\.antt\)$' "$folder/files" | whil
     ' "$file"
 done | sort -u >"$folder/index"
 
+# shellcheck disable=SC2046 # (names of files hold no blanks)
 awk -v document="$document" -v folder="$folder" '
     BEGIN {
         while ((getline line < (folder "/crates")) > 0) { split(line, w, " "); is_crate[w[1]] = 1; line = substr(line, length(w[1]) + 1); below[w[1]] = line }
@@ -145,7 +156,7 @@ awk -v document="$document" -v folder="$folder" '
         else if (call != "") { if (is_there(call "." name, "clause") || is_there(name, "definition code")) return }
         else if (is_there(name, "contract definition code")) return
         failed++
-        printf "FAILED: %s, the part that begins in line %d (%s): `%s`%s\n", document, start, home == "-" ? "any crate" : home, name,
+        printf "FAILED: %s, the part that begins in line %d (%s): `%s`%s\n", part_of, start, home == "-" ? "any crate" : home, name,
             is_clause ? ", as a clause" : call == "" ? "" : ", of the call `" call "`"
     }
     function close_paragraph(   pieces, count, i) {
@@ -180,15 +191,58 @@ awk -v document="$document" -v folder="$folder" '
         name = pieces[j - 1]; sub(/^.*::/, "", name)
         return name ~ /^[a-z_0-9]+$/ && !(name in is_crate) && is_there(name, "code") ? name : ""
     }
-    BEGIN { home = "-" }
-    /^#/ { close_paragraph(); home = "-"; next }
+    FNR == 1 {
+        close_paragraph()
+        part_of = FILENAME
+        base = "-"
+        if (FILENAME != document) {
+            base = FILENAME; sub(/^crates\//, "", base); sub(/\/.*/, "", base)
+            if ($0 != "# " base) { failed++; printf "FAILED: %s does not begin with the name of its crate\n", FILENAME }
+        }
+        home = base
+    }
+    /^```/ { close_paragraph(); inside = !inside; if (inside) blocks++; next }
+    inside { line = $0; gsub(/^[ \t]+|[ \t]+$/, "", line); print blocks, FILENAME, line > (folder "/blocks"); next }
+    /^#/ { close_paragraph(); home = base; next }
     /^$/ { close_paragraph(); next }
-    /^\|/ { close_paragraph(); start = NR; paragraph = $0; close_paragraph(); next }
-    { if (paragraph == "") { start = NR; paragraph = $0 } else paragraph = paragraph " " $0 }
+    /^\|/ { close_paragraph(); start = FNR; paragraph = $0; close_paragraph(); next }
+    { if (paragraph == "") { start = FNR; paragraph = $0 } else paragraph = paragraph " " $0 }
     END {
         close_paragraph()
         for (c in is_crate) if (!(c in told)) { failed++; printf "FAILED: %s has no part on `%s`\n", document, c }
         printf "%d names, %d failed\n", tried, failed
         exit failed > 0 || tried == 0
     }
-' "$document"
+' "$document" $(grep '^crates/[a-z0-9_]*/README\.md$' "$folder/files")
+failed=$?
+
+# ---- the calls that are shown
+
+: >>"$folder/blocks"
+# shellcheck disable=SC2046
+awk -v blocks="$folder/blocks" '
+    BEGIN {
+        while ((getline line < blocks) > 0) {
+            split(line, word, " "); b = word[1]
+            if (b > count) count = b
+            document[b] = word[2]
+            wanted[b, ++size[b]] = substr(line, length(word[1]) + length(word[2]) + 3)
+            if (size[b] == 1) is_first[wanted[b, 1]] = 1
+        }
+    }
+    FNR == 1 { for (b in open) delete open[b] }
+    {
+        line = $0; gsub(/^[ \t]+|[ \t]+$/, "", line)
+        for (b in open) {
+            if (line == wanted[b, open[b] + 1]) { if (++open[b] == size[b]) { found[b] = 1; delete open[b] } }
+            else delete open[b]
+        }
+        if (line in is_first) for (b = 1; b <= count; b++) if (line == wanted[b, 1] && !(b in found)) { if (size[b] == 1) found[b] = 1; else open[b] = 1 }
+    }
+    END {
+        for (b = 1; b <= count; b++) if (!(b in found)) { failed++; printf "FAILED: %s: no source file has the lines from `%s` on\n", document[b], wanted[b, 1] }
+        printf "%d calls, %d failed\n", count, failed
+        exit failed > 0
+    }
+' $(grep '^crates/[a-z0-9_]*/src/.*\.rt$' "$folder/files") && exit "$failed"
+exit 1
