@@ -426,6 +426,85 @@ runs '4,096 transitions' 'start s4096 f4096 s- dead' <"$folder/text"
 transitions 4097 >"$folder/text"
 refuses '4,097 transitions' 'rule 33 1:1' <"$folder/text"
 
+# ---- so many of a kind that a number cut to a byte, and of variables to two, would name another one
+
+# names PREFIX N: a list of names with numbers
+names() { awk -v p="$1" -v n="$2" 'BEGIN { for (i = 1; i <= n; i++) printf "%s%s%d", (i > 1 ? ", " : ""), p, i }'; }
+# each N TEXT: the text so often, with its number for `#`
+each() { awk -v n="$1" -v text="$2" 'BEGIN { for (i = 1; i <= n; i++) { one = text; gsub(/#/, i, one); print one } }'; }
+
+holds '70,000 variables' "var $(names v 70000): integer;" 'v70000 := 7; v4464 := 8' 'v70000 = 7'
+holds '300 fields' "var w: record $(names f 300): integer end;" 'w.f300 := 7; w.f44 := 8' 'w.f300 = 7'
+holds '300 values of an enumeration' "type e = ($(names e 300)); var x: e;" 'x := e300; n := ord(x)' 'n = 299'
+holds '300 constants' "const $(each 300 'c# = #;')" 'n := c300' 'n = 300'
+holds '300 types' "type $(each 300 't# = 0..#;') var x: t300;" 'x := 300; n := x' 'n = 300'
+holds '300 routines' "$(each 300 'function g#(q: integer): integer; begin g# := # + q end;')" 'n := g300(1)' 'n = 301'
+holds '300 parameters of a routine' "function g($(names q 300): integer): integer; begin g := q300 - q44 end;" "n := g($(names '' 300))" 'n = 256'
+holds '300 variables of a routine' "function g(q: integer): integer; var $(names l 300): integer; begin l300 := q; l44 := 8; g := l300 end;" 'n := g(7)' 'n = 7'
+holds '300 labels of a case' '' "n := 300; case n of $(each 300 '#: n := 1000 + #;') end" 'n = 1300'
+holds '300 members of a set' 'var s: set of 0..255;' "s := [$(awk 'BEGIN { for (i = 0; i < 300; i++) printf "%s%d", (i > 0 ? ", " : ""), i % 256 }')]" '(255 in s) and (0 in s)'
+
+# sends NAME LINE: the first transition of the input fires once, and sends this
+sends() {
+    cat >"$folder/input"
+    { trace start; echo 'select / now 0 takes /:1'; echo 'fire / 1'; echo "$2"; echo 'select / now 0 takes -'; echo 'end deadlock'; } >"$folder/wanted"
+    compare "$1" 0 ''
+}
+sends '300 interaction points' 'lost /.i300 m' <<END
+specification t systemprocess;
+channel c(a, b); by a: m;
+ip $(names i 300): c(a);
+state go, done;
+initialize to go begin end;
+trans from go to done begin output i300.m end;
+end.
+END
+sends '300 interactions' 'lost /.i m300(7)' <<END
+specification t systemprocess;
+channel c(a, b); by a: $(each 300 'm#(x: integer);')
+ip i: c(a);
+state go, done;
+initialize to go begin end;
+trans from go to done begin output i.m300(7) end;
+end.
+END
+sends '300 parameters of an interaction' "lost /.i m($(names '' 300 | tr -d ' '))" <<END
+specification t systemprocess;
+channel c(a, b); by a: m($(names x 300): integer);
+ip i: c(a);
+state go, done;
+initialize to go begin end;
+trans from go to done begin output i.m($(names '' 300)) end;
+end.
+END
+sends '300 channels' 'lost /.i300 m300' <<END
+specification t systemprocess;
+$(each 300 'channel c#(a, b); by a: m#;')
+ip $(each 299 'i#: c#(a);') i300: c300(a);
+state go, done;
+initialize to go begin end;
+trans from go to done begin output i300.m300 end;
+end.
+END
+runs '300 states' 'start s2 f2 s1 f1 s- dead' <<END
+specification t systemprocess;
+state $(names s 300), done;
+initialize to s300 begin end;
+trans
+from s44 to done begin end;
+from s300 to s44 begin end;
+end.
+END
+runs '300 modules, bodies and module variables' 'start s1 f1 s- dead' <<END
+specification t systemprocess;
+$(each 300 'module h# process; export v: integer; end; body b# for h#; initialize begin v := # end; end;')
+modvar $(each 300 'x#: h#;')
+state go, done;
+initialize to go begin init x44 with b44; init x300 with b300 end;
+trans from go to done provided (x300.v = 300) and (x44.v = 44) begin end;
+end.
+END
+
 # A block in which so many `begin` stand in one another, each in a line of its own from line 7 on, with this statement inside.
 nested() {
     printf 'specification t systemprocess;\nvar n: integer;\nprocedure down(k: integer); begin if k > 1 then down(k - 1) else n := 1 end;\nstate go;\ninitialize to go begin n := 0 end;\n'

@@ -12,6 +12,8 @@ mod failing;
 #[cfg(test)]
 mod forms;
 #[cfg(test)]
+mod hostile;
+#[cfg(test)]
 mod making;
 #[cfg(test)]
 mod memory;
