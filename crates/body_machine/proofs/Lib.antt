@@ -4,4 +4,5 @@ pub mod Making
 pub mod Sparing
 pub mod Measure
 pub mod Acting
+pub mod Holding
 pub mod Running

@@ -7,4 +7,5 @@ pub mod Ends
 pub mod Rows
 pub mod Steps
 pub mod Seen
+pub mod Ahead
 pub mod Runs

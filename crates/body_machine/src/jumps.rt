@@ -5,11 +5,13 @@ ghost use Rattle.estelle_model.specs.Operators.{bool_of};
 ghost use Rattle.body_machine.specs.Rows.{Jumps, JumpsWhere, Turns};
 ghost use Rattle.body_machine.specs.Steps.{jump};
 ghost use Rattle.body_machine.specs.Seen.{seen, IsNext, Did};
+ghost use Rattle.body_machine.specs.Ahead.{DidWith};
 
 use crate::item::Item;
 use crate::machine::Machine;
 use crate::values::stuck;
 use body_values::{Stop, bool_of};
+use pascal_values::Value;
 
 /// Goes to an address; back only where a unit was taken by `turn` since the last jump back.
 fn go_to(machine: &mut Machine, to: u32) -> Result<(), Stop>
@@ -30,6 +32,18 @@ pub fn jump(machine: &mut Machine, to: u32) -> Result<(), Stop>
     ensures { Did (Jumps to) machine.old result machine.new }
 {
     go_to(machine, to)
+}
+
+/// Goes to an address where a truth value that was on top is the wanted one.
+pub fn jump_with(machine: &mut Machine, value: Value, wanted: bool, to: u32) -> Result<(), Stop>
+    ensures { DidWith value (JumpsWhere wanted to) machine.old result machine.new }
+{
+    let truth = bool_of(&value)?;
+    if truth == wanted {
+        return go_to(machine, to);
+    }
+    machine.advance()?;
+    Ok(())
 }
 
 /// Goes to an address where the truth value on top is the wanted one.

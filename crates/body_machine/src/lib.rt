@@ -6,6 +6,7 @@
 #![tactic(auto)]
 
 mod activation;
+mod ahead;
 mod calls;
 mod children;
 mod estelle;

@@ -1,6 +1,6 @@
 //! Instructions that push places.
 
-ghost use Rattle.std.specs.Prelude.{◌≡◌, ◌≤◌, [], ◌∷◌, length, take, drop, slice_get};
+ghost use Rattle.std.specs.Prelude.{◌≡◌, ◌≤◌, [], ◌∷◌, length, take, drop, slice_get, IfOk};
 ghost use Rattle.std.specs.Option.{option_copied};
 ghost use Rattle.estelle_model.specs.declared.place.Place.TheVariants.{Of, In};
 ghost use Rattle.body_machine.specs.Machine.{Spot};
@@ -15,7 +15,7 @@ use body_code::Local;
 use body_values::{Stop, copy_place};
 use estelle_model::Place;
 use estelle_tree::{Items, Path, Sequence};
-use std::alloc::Global;
+use std::alloc::{AllocError, Global};
 
 /// The place of a variable of the instance.
 pub fn variable(alloc: Global, machine: &mut Machine, number: u32) -> Result<(), Stop>
@@ -98,14 +98,21 @@ pub fn after(locals: &[Local], number: u32) -> &[Local]
     }
 }
 
+/// The number of a local among those that are variables.
+pub fn slot_of(locals: &[Local], number: u32) -> Result<u32, AllocError>
+    ensures { IfOk result (λ k. k ≡ slot locals.now number) }
+{
+    match u32::try_from(count_variables(before(locals, number))) {
+        Ok(variable) => Ok(variable),
+        Err(_) => Err(AllocError),
+    }
+}
+
 /// The place of a local that is a variable.
 pub fn local(alloc: Global, machine: &mut Machine, number: u32) -> Result<(), Stop>
     ensures { Did (pushing (Spot (In machine.old.active.here.frame (slot machine.old.active.unit.now.locals number) []))) machine.old result machine.new }
 {
-    let count = count_variables(before(machine.active.unit.locals.items(), number));
-    let Ok(variable) = u32::try_from(count) else {
-        return Err(Stop::Memory);
-    };
+    let variable = slot_of(machine.active.unit.locals.items(), number)?;
     let place = Place::In {
         frame: machine.active.here.frame,
         variable,

@@ -3,8 +3,8 @@
 ghost use Rattle.body_machine.specs.Seen.{seen};
 ghost use Rattle.body_machine.specs.Runs.{HasRun};
 
+use crate::ahead::steps;
 use crate::machine::Machine;
-use crate::step::step;
 use body_code::Code;
 use body_numbers::Numbers;
 use body_state::ModuleBodies;
@@ -22,7 +22,7 @@ pub fn run<'a>(
     ensures { HasRun bodies.now numbers.now code.now (seen machine.old) result (seen machine.new) }
 {
     loop {
-        if !step(alloc, bodies, numbers, code, machine)? {
+        if !steps(alloc, bodies, numbers, code, machine)? {
             return Ok(());
         }
     }

@@ -10,6 +10,7 @@ ghost use Rattle.body_state.specs.Follows.{Follows};
 ghost use Rattle.body_machine.specs.Rows.{pushing, computing, combining, loading, extending, indexing, storing, fitting, blanking, failing, fit_as, store_as};
 ghost use Rattle.body_machine.specs.Machine.{Datum};
 ghost use Rattle.body_machine.specs.Seen.{Did};
+ghost use Rattle.body_machine.specs.Ahead.{DidWith};
 
 use crate::item::Item;
 use crate::machine::Machine;
@@ -164,6 +165,25 @@ fn store_as(
             let fit = assignable(shape, &value);
             walk.put_fitting(alloc, place, fit, value)
         }
+    }
+}
+
+/// A value that was on top is stored at the place below it.
+pub fn store_with(
+    alloc: Global,
+    machine: &mut Machine,
+    shape: Option<&Shape>,
+    value: Value,
+) -> Result<(), Stop>
+    ensures { DidWith value (storing (option_copied shape.entry)) machine.old result machine.new }
+{
+    match machine.active.stack.pop() {
+        Some(Item::Spot(place)) => {
+            store_as(alloc, &mut machine.walk, shape, &place, value)?;
+            machine.advance()?;
+            Ok(())
+        }
+        _ => Err(stuck()),
     }
 }
 
