@@ -1,5 +1,5 @@
 -- Instructions that are done at once come to what they come to one by one.
-use Rattle.std.proofs.Common.{◌≡◌, refl, sym, ap, subst, ◌∙◌, ℕ, zero, suc, Bool, true, false, List, [], ◌∷◌, Option, Some, None, Result, Ok, Err}
+use Rattle.std.proofs.Common.{◌≡◌, refl, sym, ap, subst, ◌∙◌, ℕ, zero, suc, true, false, List, ◌∷◌, Option, Some, None, Result, Ok, Err}
 use Rattle.std.specs.Prelude.{slice_get, IfSome}
 use Rattle.pascal_values.specs.declared.value.Value.{Value}
 use Rattle.body_code.specs.declared.instr.Instr.{Instr}
@@ -7,7 +7,6 @@ use Rattle.body_code.specs.declared.instr.Instr.TheVariants as op
 use Rattle.body_code.specs.declared.unit.CodeUnit.{CodeUnit}
 use Rattle.estelle_model.specs.Places.{load}
 use Rattle.pascal_values.specs.declared.value.Shape.{Shape}
-use Rattle.estelle_model.specs.declared.place.Place.{Place}
 use Rattle.estelle_model.specs.States.{Logged, on_log}
 use Rattle.estelle_model.specs.Stops as model
 use Rattle.estelle_model.specs.Steps.{Running, StepResult, and_then, ◌>>=◌}
@@ -20,11 +19,11 @@ use Rattle.body_machine.specs.declared.ahead.Variable.{Variable}
 use Rattle.body_machine.specs.declared.ahead.Variable.TheVariants.{Own, Local}
 use Rattle.body_machine.specs.declared.operators.Binary.{Binary}
 use Rattle.body_machine.specs.Operations.{binary_value}
-use Rattle.body_machine.specs.Machine.{Item, Datum, Spot, Activation, Machine, Next, Goes, Ends, Stops}
+use Rattle.body_machine.specs.Machine.{Item, Datum, Spot, Machine, Next, Goes, Ends, Stops}
 use Rattle.body_machine.specs.Rows.{Row, JumpsWhere, row, pushing, loading, combining, storing, leaves, gives}
 use Rattle.body_machine.specs.Steps.{goes_on, by_row, act, next, run, Comes}
 use Rattle.body_machine.specs.Seen.{IsNext}
-use Rattle.body_machine.specs.Ahead.{pushed_by, place_in, holding, at_address, IsLoad, IsLoadOf, Computes, IsOperator, Loads, joined_to, IsMade, HasMade, HasGone}
+use Rattle.body_machine.specs.Ahead.{pushed_by, place_in, holding, IsLoadOf, Computes, IsOperator, Loads, joined_to, IsMade, HasMade, HasGone}
 
 pub computes : (i j : Instr) (o : Binary) → i ≡ j → Computes j o → Computes i o
 computes i j o is h = λ s n a. ap (row s n a) is ∙ h s n a

@@ -1,5 +1,5 @@
 -- A child is made.
-use Rattle.std.proofs.Common.{◌≡◌, refl, sym, ap, subst, cond, ◌∙◌, ℕ, suc, ◌-◌, Bool, true, false, List, Option, Some, None, Result, Ok, Err}
+use Rattle.std.proofs.Common.{◌≡◌, refl, sym, ap, cond, ◌∙◌, ℕ, ◌-◌, Bool, true, false, List, Option, Some, None, Result, Ok, Err}
 use Rattle.std.specs.Prelude.{◌&&◌, nat_lt, slice_get, unwrap_or, option_map, is_some}
 use Rattle.std.specs.FinMap as map
 use Rattle.pascal_values.specs.declared.fault.Fault.TheVariants.{NoModule, StepLimit, CallDepth}
@@ -11,7 +11,7 @@ use Rattle.estelle_model.specs.Belonging.{are_values_of}
 use Rattle.estelle_model.specs.Core.{Instance, Instances}
 use Rattle.estelle_model.specs.States.{Logged}
 use Rattle.estelle_model.specs.Stops as model
-use Rattle.estelle_model.specs.Steps.{Running, StepResult, Step, and_then, ◌>>◌, ◌>>=◌, checked_at, pure, spend}
+use Rattle.estelle_model.specs.Steps.{StepResult, Step, and_then, ◌>>◌, checked_at, pure, spend}
 use Rattle.estelle_model.specs.Plans.{stops_unless}
 use Rattle.estelle_model.specs.Calls.{max_depth}
 use Rattle.estelle_model.specs.Actions.{may_hold, or_no_module, has_header}

@@ -1,5 +1,5 @@
 -- Each instruction brings a run nearer to its end: it takes a unit, or goes on in its unit, or ends it.
-use Rattle.std.proofs.Common.{◌≡◌, refl, sym, subst, ℕ, zero, suc, ◌+◌, ◌-◌, ◌<◌, ◌≤◌, Bool, true, false, cond, List, [], ◌∷◌, ◌++◌, length, Option, Some, None, Result, Ok, Err, arith}
+use Rattle.std.proofs.Common.{◌≡◌, refl, sym, subst, ℕ, zero, suc, ◌+◌, ◌-◌, ◌<◌, ◌≤◌, Bool, true, false, cond, List, [], ◌∷◌, length, Option, Some, None, Result, Ok, Err, arith}
 use Rattle.std.specs.Prelude.{slice_get, nat_le, nat_lt}
 use Rattle.std.specs.Map.{lookup}
 use Rattle.std.proofs.lemmas.Bool.{leb-false, ltb-true}
@@ -18,7 +18,7 @@ use Rattle.estelle_model.specs.declared.place.ActualParameters.{ActualParameters
 use Rattle.estelle_model.specs.Core.{Instance}
 use Rattle.estelle_model.specs.States.{Logged, on_log}
 use Rattle.estelle_model.specs.Stops.{Stop, Faults, Broken}
-use Rattle.estelle_model.specs.Steps.{Running, StepResult, Step, Do, and_then, ◌>>=◌, ◌>>◌, pure, spend}
+use Rattle.estelle_model.specs.Steps.{Running, StepResult, Step, and_then, ◌>>◌, pure, spend}
 use Rattle.estelle_model.specs.Plans.{carry}
 use Rattle.estelle_model.specs.Calls.{max_depth}
 use Rattle.estelle_model.specs.Subject.{Subject, child_of}
@@ -27,12 +27,12 @@ use Rattle.estelle_model.specs.Operators.{bool_of}
 use Rattle.body_actions.specs.Children as children
 use Rattle.estelle_model.proofs.LoopLaws.{AtMost, NeverRaises}
 use Rattle.estelle_model.proofs.Units.{seq_never, pure_never}
-use Rattle.body_machine.specs.Machine.{Item, Datum, Spot, Return, ToNone, ToCaller, ToParent, Activation, Machine, Next, Goes, Ends, Stops}
+use Rattle.body_machine.specs.Machine.{Item, Datum, Spot, Return, ToNone, ToCaller, ToParent, Activation, Machine, Next, Goes, Stops}
 use Rattle.body_numbers.specs.declared.numbers.Numbers.{Numbers}
 use Rattle.body_machine.specs.Frames.{frame_with, push_frame, pop_frame, deeper_than}
 use Rattle.body_machine.specs.Ends.{makes_child}
 use Rattle.body_machine.specs.Rows.{Row, Nullary, OfValue, OfPlace, OfValues, OfBoth, OfMany, Jumps, JumpsWhere, Turns, Calls, Begins, Returns, row}
-use Rattle.body_machine.specs.Steps.{goes_on, taken_from, values_from, with_values, jump_back, jump, decide, turn, given_to, nothing_given, behind, begun, enter, call_given, call_with, call_unit, initialize, init_unit, init_with, resume, held, return_to, by_row, act, next}
+use Rattle.body_machine.specs.Steps.{goes_on, taken_from, values_from, with_values, jump_back, jump, decide, turn, given_to, nothing_given, begun, enter, call_given, call_with, call_unit, initialize, init_with, resume, held, return_to, by_row, act, next}
 use Rattle.body_machine.proofs.Sparing.{Spares, carry_never, row_spares}
 
 -- ---- the lengths of units

@@ -7,13 +7,13 @@ use Rattle.estelle_model.specs.Subject.{Subject}
 use Rattle.body_values.specs.declared.stop.Stop.{Stop}
 use Rattle.body_values.specs.declared.stop.Stop.TheVariants as stop
 use Rattle.body_numbers.specs.declared.numbers.Numbers.{Numbers}
-use Rattle.body_machine.specs.Machine.{Item, Activation, Machine, Next, Goes, Ends, Stops}
+use Rattle.body_machine.specs.Machine.{Activation, Machine, Next, Goes, Ends, Stops}
 use Rattle.body_machine.specs.Steps.{next, run, Comes}
 use Rattle.body_machine.specs.Seen.{IsStep}
 use Rattle.body_machine.specs.Ahead.{HasStepped}
 use Rattle.body_machine.specs.Runs.{HasRun}
 use Rattle.body_machine.proofs.Holding.{still_ended, still_stopped, comes_then}
-use Rattle.body_machine.proofs.Measure.{instructions_of, IsBound, measure, IsWithin, AreWithin, AllWithin, Nearer, next_nearer}
+use Rattle.body_machine.proofs.Measure.{instructions_of, measure, AreWithin, AllWithin, Nearer, next_nearer}
 
 -- ---- one instruction
 

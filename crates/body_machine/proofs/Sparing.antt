@@ -1,8 +1,7 @@
 -- No instruction gives units back.
-use Rattle.std.proofs.Common.{ℕ, ℤ, Bool, true, false, cond, List, [], ◌∷◌, Option, Some, None, Result, Ok, Err, arith}
-use Rattle.std.specs.Prelude.{slice_get, nat_lt}
+use Rattle.std.proofs.Common.{ℕ, ℤ, List, [], ◌∷◌, Option, Some, None, Result}
+use Rattle.std.specs.Prelude.{slice_get}
 use Rattle.pascal_values.specs.declared.fault.Fault.{Fault}
-use Rattle.pascal_values.specs.declared.fault.Fault.TheVariants.{CallDepth}
 use Rattle.pascal_values.specs.declared.value.Value.{Value}
 use Rattle.pascal_values.specs.declared.value.Shape.{Shape}
 use Rattle.pascal_values.specs.Shapes.{place_of}
@@ -20,17 +19,16 @@ use Rattle.estelle_model.specs.declared.place.Place.{Place}
 use Rattle.estelle_model.specs.declared.place.Place.TheVariants.{Of, In}
 use Rattle.estelle_model.specs.States.{Logged, on_log}
 use Rattle.estelle_model.specs.Stops.{Stop, Faults, Broken, stopping}
-use Rattle.estelle_model.specs.Steps.{Running, StepResult, Step, Do, ◌>>=◌, ◌>>◌, pure, checked, spend}
+use Rattle.estelle_model.specs.Steps.{Do, ◌>>=◌, ◌>>◌, pure, checked, spend}
 use Rattle.estelle_model.specs.Plans.{Plan, Done, Fails, Reads, Spends, Makes, Keeps, read, carry}
 use Rattle.estelle_model.specs.Types.{assignable}
 use Rattle.estelle_model.specs.Operators.{int_of}
 use Rattle.estelle_model.specs.Places.{deeper, held_step, held, load, put, blank_at, child_step}
 use Rattle.estelle_model.specs.Expressions.{reference_at}
-use Rattle.estelle_model.specs.Calls.{max_depth}
 use Rattle.estelle_model.specs.Subject.{Subject}
 use Rattle.estelle_model.specs.Actions.{at, connect_points, disconnect_point, disconnect_child, attach_points, detach_point, output_at, release_child}
-use Rattle.estelle_model.proofs.LoopLaws.{AtMost, NeverRaises}
-use Rattle.estelle_model.proofs.Units.{NoMoreUnits, and_then_never, then_never, pure_never, stop_never, checked_never, seq_never, spend_never, units_closed}
+use Rattle.estelle_model.proofs.LoopLaws.{NeverRaises}
+use Rattle.estelle_model.proofs.Units.{NoMoreUnits, then_never, pure_never, stop_never, checked_never, seq_never, spend_never, units_closed}
 use Rattle.estelle_model.proofs.Kept.{load_kept, put_kept, blank_kept, child_kept, read_kept}
 use Rattle.body_machine.specs.Machine.{Item, Datum, Spot, Activation}
 use Rattle.estelle_tree.specs.declared.tree.expression.Relation.TheVariants as relation
@@ -44,7 +42,7 @@ use Rattle.body_machine.specs.declared.operators.Unary.TheVariants as unary
 use Rattle.body_machine.specs.declared.operators.Binary.TheVariants as binary
 use Rattle.body_machine.specs.Operations.{unary_value, binary_value}
 use Rattle.body_machine.specs.Ends.{end_at, connect_ends, disconnect_ends, attach_end, detach_end, release_in, output_of, output_with}
-use Rattle.body_machine.specs.Rows.{Row, Nullary, OfValue, OfPlace, OfValues, OfBoth, OfMany, Jumps, JumpsWhere, Turns, Calls, Begins, Returns, leaves, gives, nothing, by_export, fit_as, store_as, pushing, computing, combining, loading, extending, indexing, storing, fitting, blanking, referring, exporting, failing, acting, sending, row}
+use Rattle.body_machine.specs.Rows.{Row, Nullary, OfValue, OfPlace, OfValues, OfBoth, OfMany, leaves, gives, nothing, by_export, fit_as, store_as, pushing, computing, combining, loading, extending, indexing, storing, fitting, blanking, referring, exporting, failing, acting, sending, row}
 
 abbrev Items : Type 0
 Items = List Item

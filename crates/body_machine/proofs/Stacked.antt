@@ -1,6 +1,5 @@
 -- The topmost items of a stack that is kept with the topmost last.
-use Rattle.std.proofs.Common.{◌≡◌, ◌∙◌, refl, sym, ap, ap₂, ℕ, ◌+◌, ◌-◌, ◌≤◌, ◌<◌, Bool, true, false, cond, List, [], ◌∷◌, ◌++◌, length, take, drop, reverse, Option, Some, None, arith}
-use Rattle.std.specs.Prelude.{nat_le}
+use Rattle.std.proofs.Common.{◌≡◌, ◌∙◌, sym, ap, ap₂, ℕ, ◌-◌, ◌≤◌, ◌<◌, Bool, cond, List, ◌++◌, length, take, drop, reverse, Option, Some, None, arith}
 use Rattle.std.proofs.lemmas.Bool.{le-leb, lt-leb}
 use Rattle.std.proofs.lemmas.List.{reverse-append, reverse-reverse, take-append-drop, take_at, drop_at, length-reverse, length-drop}
 use Rattle.body_machine.specs.Machine.{Item}

@@ -1,5 +1,5 @@
 -- What the instructions of Estelle do: by numbers what the statements do by names (ISO/IEC 9074).
-use Rattle.std.specs.Prelude.{ℕ, List, Option, Some, None}
+use Rattle.std.specs.Prelude.{ℕ, List, Option, Some}
 use Rattle.pascal_values.specs.declared.value.Value.{Value}
 use Rattle.estelle_tree.specs.declared.link.IpAddr.{IpAddr}
 use Rattle.estelle_tree.specs.Paths.{Path}

@@ -1,25 +1,19 @@
 -- The table of instructions: what each takes from the stack, and what it does with that. It is made of the steps of which the meanings of bodies are made.
-use Rattle.std.specs.Prelude.{ℕ, ◌^◌, ◌-◌, Bool, true, false, List, [], ◌∷◌, map as each, slice_get, option_map, Option, Some, None, ℤ, Result, Ok, Err}
+use Rattle.std.specs.Prelude.{ℕ, Bool, true, false, List, [], ◌∷◌, slice_get, Option, Some, None, ℤ, Result, Err}
 use Rattle.pascal_values.specs.declared.fault.Fault.{Fault}
-use Rattle.pascal_values.specs.declared.value.Value.{Value, out-Value}
+use Rattle.pascal_values.specs.declared.value.Value.{Value}
 use Rattle.pascal_values.specs.declared.value.Value.TheVariants as pascal
-use Rattle.pascal_values.specs.declared.value.Value.TheOpen.{Value-F}
-use Rattle.pascal_values.specs.declared.value.Value.TheFolds.{fold-Value}
 use Rattle.pascal_values.specs.declared.value.Shape.{Shape}
 use Rattle.pascal_values.specs.Shapes.{place_of}
-use Rattle.estelle_tree.specs.declared.tree.type_expr.Sign.TheVariants as sign
 use Rattle.estelle_tree.specs.declared.tree.expression.Relation.TheVariants as relation
-use Rattle.estelle_tree.specs.declared.required.Required.TheVariants as required
 use Rattle.estelle_tree.specs.Paths.{Path}
 use Rattle.body_code.specs.declared.instr.Instr.{Instr}
 use Rattle.body_code.specs.declared.instr.Instr.TheVariants as op
-use Rattle.estelle_model.specs.declared.denoter.Host.{Host}
-use Rattle.estelle_model.specs.declared.denoter.Host.TheVariants as host
 use Rattle.estelle_model.specs.declared.place.Place.{Place}
 use Rattle.estelle_model.specs.declared.place.Place.TheVariants.{Of, In}
 use Rattle.estelle_model.specs.Stops.{Stop, Broken, stopping}
 use Rattle.estelle_model.specs.Types.{assignable}
-use Rattle.estelle_model.specs.Operators.{◌>>>◌, int_of, plus, minus, times, divided, modulo, signed, negation, related, one_member, members_from, required_value}
+use Rattle.estelle_model.specs.Operators.{int_of}
 use Rattle.estelle_model.specs.States.{Logged, on_log}
 use Rattle.estelle_model.specs.Steps.{Step, Do, ◌>>=◌, ◌>>◌, pure, fail, breaks, checked}
 use Rattle.estelle_model.specs.Places.{deeper, held_step, load, put, blank_at, child_step}

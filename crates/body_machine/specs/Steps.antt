@@ -8,7 +8,6 @@ use Rattle.body_code.specs.declared.unit.Local.{Local}
 use Rattle.body_code.specs.declared.unit.CodeUnit.{CodeUnit}
 use Rattle.body_code.specs.Units.{unit_of}
 use Rattle.estelle_model.specs.declared.place.Place.{Place}
-use Rattle.estelle_model.specs.declared.place.Environment.{Environment}
 use Rattle.estelle_model.specs.declared.place.ActualParameters.{ActualParameters}
 use Rattle.estelle_model.specs.Operators.{bool_of}
 use Rattle.estelle_model.specs.States.{Logged, on_log}

@@ -1,4 +1,4 @@
-use Rattle.std.proofs.Common.{◌≡◌, ◌≤◌, length, take}
+use Rattle.std.proofs.Common.{◌≡◌, ◌≤◌, take}
 use Rattle.body_machine.specs.Slots.{references_in}
 use Rattle.body_machine.proofs.places.count_references.Given as goal
 

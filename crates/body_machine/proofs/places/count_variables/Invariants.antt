@@ -1,4 +1,4 @@
-use Rattle.std.proofs.Common.{◌≡◌, ◌≤◌, length, take}
+use Rattle.std.proofs.Common.{◌≡◌, ◌≤◌, take}
 use Rattle.body_machine.specs.Slots.{variables_in}
 use Rattle.body_machine.proofs.places.count_variables.Given as goal
 
