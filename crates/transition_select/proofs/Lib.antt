@@ -1,6 +1,7 @@
 pub mod Rising
 pub mod Blocks
 pub mod Apart
+pub mod Reaches
 pub mod Walks
 pub mod Downwards
 pub mod Priorities

@@ -9,9 +9,11 @@ ghost use Rattle.estelle_model.specs.Choosers as choosers;
 ghost use Rattle.estelle_model.specs.Schedule.{is_able, Chosen};
 ghost use Rattle.estelle_model_legality.specs.Choices.{AreTree};
 ghost use Rattle.transition_select.specs.Offers.{AreOffers, AreOffersOfEach};
+ghost use Rattle.transition_select.specs.Spans.{AreSpans};
 ghost use Rattle.transition_select.specs.Choosing.{HasChosen, HasChosenOfEach, HasChosenOfOne, IsAbleOne, HasTaken};
 
-use crate::offers::{Offer, first_len, offers_some};
+use crate::offers::Offer;
+use crate::spans::{Span, behind, first_len, offers_some, spans_of};
 use estelle_tree::Pair;
 use outside::Chooser;
 use std::alloc::{AllocError, Global};
@@ -46,39 +48,54 @@ fn take_own<H: Chooser>(
 }
 
 /// How many of the instances whose offers stand side by side are able.
-fn count_able(offers: &[Offer]) -> usize
+fn count_able(offers: &[Offer], spans: &[Span]) -> usize
+    requires { AreSpans offers.now spans.now }
     ensures { (s : Subject) (budget : ℕ) (g : Situation) (ms : List Seen) → AreTree s g.core.instances → AreOffersOfEach s budget g ms offers.now → result ≡ length (filter (is_able s budget g) ms) }
 {
     let mut count = 0;
     let mut rest = offers;
+    let mut ahead = spans;
     while !rest.is_empty() {
-        let (block, others) = rest.split_at(first_len(rest));
-        if offers_some(block) {
+        let len = first_len(rest, ahead);
+        let (block, others) = rest.split_at(len);
+        let after = behind(ahead, len);
+        if offers_some(block, ahead) {
             count += 1;
         }
         rest = others;
+        ahead = after;
     }
     count
 }
 
 /// The offers at and below the able one of these instances with a number.
-fn able_block(offers: &[Offer], number: usize) -> &[Offer]
-    ensures able { (s : Subject) (budget : ℕ) (g : Situation) (ms : List Seen) → AreTree s g.core.instances → AreOffersOfEach s budget g ms offers.now → number < length (filter (is_able s budget g) ms) → IsAbleOne s budget g ms number result.now }
-    ensures within { length result.now ≤ length offers.now }
+fn able_block<'a>(
+    offers: &'a [Offer],
+    spans: &'a [Span],
+    number: usize,
+) -> (&'a [Offer], &'a [Span])
+    requires { AreSpans offers.now spans.now }
+    ensures able { (s : Subject) (budget : ℕ) (g : Situation) (ms : List Seen) → AreTree s g.core.instances → AreOffersOfEach s budget g ms offers.now → number < length (filter (is_able s budget g) ms) → IsAbleOne s budget g ms number result.0.now }
+    ensures within { length result.0.now ≤ length offers.now }
+    ensures spans { AreSpans result.0.now result.1.now }
 {
     let mut left = number;
     let mut rest = offers;
+    let mut ahead = spans;
     while !rest.is_empty() {
-        let (block, others) = rest.split_at(first_len(rest));
-        if offers_some(block) {
+        let len = first_len(rest, ahead);
+        let (block, others) = rest.split_at(len);
+        let after = behind(ahead, len);
+        if offers_some(block, ahead) {
             if left == 0 {
-                return block;
+                return (block, ahead);
             }
             left -= 1;
         }
         rest = others;
+        ahead = after;
     }
-    rest
+    (rest, ahead)
 }
 
 /// Chooses of each of the instances whose offers stand side by side.
@@ -86,16 +103,22 @@ fn able_block(offers: &[Offer], number: usize) -> &[Offer]
 fn choose_of_each<H: Chooser>(
     alloc: Global,
     offers: &[Offer],
+    spans: &[Span],
     chooser: &mut H,
     takes: &mut Vec<Pair>,
 ) -> Result<(), AllocError>
+    requires { AreSpans offers.now spans.now }
     ensures { (s : Subject) (budget : ℕ) (g : Situation) (ms : List Seen) → AreTree s g.core.instances → AreOffersOfEach s budget g ms offers.now → OnOk result (HasChosenOfEach H.draw s budget g ms chooser.old takes.old.items takes.new.items chooser.new) }
 {
     let mut rest = offers;
+    let mut ahead = spans;
     while !rest.is_empty() {
-        let (block, others) = rest.split_at(first_len(rest));
-        choose_in(alloc, block, chooser, takes)?;
+        let len = first_len(rest, ahead);
+        let (block, others) = rest.split_at(len);
+        let after = behind(ahead, len);
+        choose_in(alloc, block, ahead, chooser, takes)?;
         rest = others;
+        ahead = after;
     }
     Ok(())
 }
@@ -105,17 +128,20 @@ fn choose_of_each<H: Chooser>(
 fn choose_of_one<H: Chooser>(
     alloc: Global,
     offers: &[Offer],
+    spans: &[Span],
     chooser: &mut H,
     takes: &mut Vec<Pair>,
 ) -> Result<(), AllocError>
+    requires { AreSpans offers.now spans.now }
     ensures { (s : Subject) (budget : ℕ) (g : Situation) (ms : List Seen) → AreTree s g.core.instances → AreOffersOfEach s budget g ms offers.now → OnOk result (HasChosenOfOne H.draw s budget g ms chooser.old takes.old.items takes.new.items chooser.new) }
 {
-    let count = count_able(offers);
+    let count = count_able(offers, spans);
     if count == 0 {
         return Ok(());
     }
     let number = pick(chooser, count);
-    choose_in(alloc, able_block(offers, number), chooser, takes)
+    let (block, ahead) = able_block(offers, spans, number);
+    choose_in(alloc, block, ahead, chooser, takes)
 }
 
 /// Chooses from the first instance downwards.
@@ -123,9 +149,11 @@ fn choose_of_one<H: Chooser>(
 fn choose_in<H: Chooser>(
     alloc: Global,
     offers: &[Offer],
+    spans: &[Span],
     chooser: &mut H,
     takes: &mut Vec<Pair>,
 ) -> Result<(), AllocError>
+    requires { AreSpans offers.now spans.now }
     ensures { (s : Subject) (budget : ℕ) (g : Situation) (m : Seen) → AreTree s g.core.instances → AreOffers s budget g m offers.now → OnOk result (HasChosen H.draw s budget g m chooser.old takes.old.items takes.new.items chooser.new) }
 {
     let Some((first, below)) = offers.split_first() else {
@@ -135,9 +163,9 @@ fn choose_in<H: Chooser>(
         return take_own(alloc, first, chooser, takes);
     }
     if first.of_process {
-        return choose_of_each(alloc, below, chooser, takes);
+        return choose_of_each(alloc, below, behind(spans, 1), chooser, takes);
     }
-    choose_of_one(alloc, below, chooser, takes)
+    choose_of_one(alloc, below, behind(spans, 1), chooser, takes)
 }
 
 /// What the chooser picks of what an instance and all below it offer, in path order. Where it is refused, the chooser may have
@@ -150,6 +178,7 @@ pub fn choose<H: Chooser>(
     ensures { (s : Subject) (budget : ℕ) (g : Situation) (m : Seen) → AreTree s g.core.instances → AreOffers s budget g m offers.now → IfOk result (λ takes. Chosen H.draw s budget g m chooser.old takes.items chooser.new) }
 {
     let mut takes = Vec::new(alloc);
-    choose_in(alloc, offers, chooser, &mut takes)?;
+    let spans = spans_of(alloc, offers)?;
+    choose_in(alloc, offers, &spans, chooser, &mut takes)?;
     Ok(takes)
 }
