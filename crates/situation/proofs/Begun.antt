@@ -3,10 +3,11 @@ use Rattle.std.proofs.Common.{◌≡◌, ℕ, ◌+◌, ◌*◌, ◌^◌, ◌<◌
 use Rattle.std.specs.Prelude.{map as each}
 use Rattle.std.specs.FinMap as map
 use Rattle.pascal_values.specs.declared.fault.Fault as fault
+use Rattle.estelle_tree.specs.declared.transition.Pair.{Pair}
+use Rattle.estelle_tree.specs.Timers.{Timers, pair}
 use Rattle.estelle_model.specs.declared.event.Event.TheVariants.{Start, Fault}
 use Rattle.estelle_model.specs.declared.event.End.{End}
 use Rattle.estelle_model.specs.declared.event.End.TheVariants.{Clock, Faulted}
-use Rattle.estelle_model.specs.declared.image.Interaction.{Interaction}
 use Rattle.estelle_model.specs.declared.job.Job.{Job}
 use Rattle.estelle_model.specs.declared.job.Done.{Done}
 use Rattle.estelle_model.specs.declared.job.Outcome.{Outcome}
@@ -20,11 +21,11 @@ use Rattle.estelle_model.specs.Runs.{situation}
 use Rattle.estelle_model_legality.specs.Instances.{LeadsToStates}
 use Rattle.estelle_model_legality.specs.Situations.{IsLegal}
 use Rattle.estelle_model.specs.Choosers.{Draw}
-use Rattle.queue_store.specs.Queues.{Queue}
-use Rattle.effect_log.specs.declared.shared.Shared.{Shared}
-use Rattle.effect_log.specs.Standing.{Stands, AreQueuesOf}
+use Rattle.effect_log.specs.Standing.{Stands}
 use Rattle.effect_log.specs.Putting.{IsRan, AnswersIn, log_of, after_put}
-use Rattle.effect_log.specs.Rooms.{outputs_in, HasRoomFor, SeesTheSame, NotesTheSame}
+use Rattle.effect_log.specs.Rooms.{outputs_in, HasRoomFor}
+use Rattle.situation_state.specs.declared.state.State.{State}
+use Rattle.situation_state.specs.At.{IsAt}
 use Rattle.run_history.specs.declared.entry.Entry.{Entry}
 use Rattle.run_history.specs.Histories.{project, fires}
 use Rattle.run_history.specs.Tickets.{tickets}
@@ -35,18 +36,11 @@ use Rattle.situation_steps.specs.Laws.{first_time}
 use Rattle.situation.specs.declared.limits.Limits.{Limits}
 use Rattle.situation.specs.declared.course.Course.{Course}
 use Rattle.situation.specs.Runs.{noted, ending, IsGoing, IsClosed, AreReached}
-use Rattle.situation.specs.Worlds.{Holds, HasOnlyStarted, IsOpenCourse, IsEndedCourse, IsKept}
+use Rattle.situation.specs.Worlds.{HasOnlyStarted, IsOpenCourse, IsEndedCourse, IsKept, limits_of}
 use Rattle.situation.specs.Steps.{IsFresh, MaySettle, HasBeenPut, HasFailed, StartedSo, HasStarted, FindsSystems, HasAllSystems, IsBegun}
+use Rattle.estelle_model.proofs.PrivateParts.{remove_empty}
+use Rattle.situation.proofs.Computed.{own}
 use Rattle.situation.proofs.Starts.{start_answers_in, start_numbers, start_situation, start_legal, start_going, start_pending, start_timers, start_reached, start_stays, start_closes, start_failed_reached, only_started, only_failed}
-
--- what sees the same stands for the same situation
-pub stands_same : (s : Subject) (old new : Shared) (g : Situation) → SeesTheSame old new → Stands s old g → Stands s new g
-stands_same s old new g same h = record {
-  instances = λ p. (λ i. map.get (same.instances i) p) ∙ h.instances p;
-  links = same.links ∙ h.links;
-  queues = subst (λ (qs : List (Queue Interaction)). AreQueuesOf s g qs) (sym same.queues) h.queues;
-  outputs = same.outputs ∙ h.outputs;
-}
 
 -- the job of the initialization
 pub record IsStart (budget : ℕ) (job : Job) : Type 0 where
@@ -62,41 +56,41 @@ not_clocked : (o : Option End) (kind : fault.Fault) → o ≡ Some (Faulted kind
 not_clocked o kind faulted clocked = let wrong : Some (Faulted kind) ≡ Some Clock = sym faulted ∙ clocked in cc
 
 -- the systems that were found are those of the situation for which the shared state stands
-all_found : {H : Type 0} (n x : Course H) (s : Subject) → n.program.now ≡ s → (g : Situation) → ((g : Situation) → Stands n.program.now n.shared g → IsLegal n.program.now g → x.systems.items ≡ each first_kept (systems_of n.program.now g))
-    → Stands s n.shared g → IsLegal s g → x.systems.items ≡ each first_kept (systems_of s g)
-all_found {H} n x s is g found stands legal = by n.program.now is found
+all_found : {H : Type 0} (n x : Course H) (s : Subject) → n.state.program.now ≡ s → (g : Situation) → ((g : Situation) → Stands n.state.program.now n.state.shared g → IsLegal n.state.program.now g → x.systems.items ≡ each first_kept (systems_of n.state.program.now g))
+    → Stands s n.state.shared g → IsLegal s g → x.systems.items ≡ each first_kept (systems_of s g)
+all_found {H} n x s is g found stands legal = by n.state.program.now is found
   where
-    by : (y : Subject) → y ≡ s → ((g : Situation) → Stands y n.shared g → IsLegal y g → x.systems.items ≡ each first_kept (systems_of y g)) → x.systems.items ≡ each first_kept (systems_of s g)
+    by : (y : Subject) → y ≡ s → ((g : Situation) → Stands y n.state.shared g → IsLegal y g → x.systems.items ≡ each first_kept (systems_of y g)) → x.systems.items ≡ each first_kept (systems_of s g)
     by y e f = subst (λ (z : Subject). x.systems.items ≡ each first_kept (systems_of z g)) e
-        (f g (subst (λ (z : Subject). Stands z n.shared g) (sym e) stands) (subst (λ (z : Subject). IsLegal z g) (sym e) legal))
+        (f g (subst (λ (z : Subject). Stands z n.state.shared g) (sym e) stands) (subst (λ (z : Subject). IsLegal z g) (sym e) legal))
 
 module _ {H : Type 0} (s : Subject) (limits : Limits) (chooser : H) where
   -- it is still fresh with more memory
-  pub fresh_still : (f m c : Course H) → IsFresh s limits chooser f → m.history.entries ≡ f.history.entries → SeesTheSame f.shared c.shared → NotesTheSame f.notes c.notes
-      → c ≡ record f { history = m.history; shared = c.shared; notes = c.notes } → IsFresh s limits chooser c
-  fresh_still f m c h entries shared notes is = record {
-    program = ap (λ (x : Course H). x.program.now) is ∙ h.program;
-    limits_are = ap (λ (x : Course H). x.limits) is ∙ h.limits_are;
-    delays = ap (λ (x : Course H). x.delays) is ∙ h.delays;
-    stands = stands_same s f.shared c.shared (bare s) shared h.stands;
-    timers = ap (λ (x : Course H). x.timers) is ∙ h.timers;
-    pending = ap (λ (x : Course H). x.pending.items) is ∙ h.pending;
-    systems = ap (λ (x : Course H). x.systems.items) is ∙ h.systems;
-    time = ap (λ (x : Course H). x.time) is ∙ h.time;
-    entries = ap (λ (x : Course H). x.history.entries) is ∙ entries ∙ h.entries;
-    tickets = ap (λ (x : Course H). x.tickets) is ∙ h.tickets;
-    unended = ap (λ (x : Course H). x.end) is ∙ h.unended;
-    empty = record { outs = notes.outs ∙ h.empty.outs; drops = notes.drops ∙ h.empty.drops; arrivals = notes.arrivals ∙ h.empty.arrivals };
-    chooser_is = ap (λ (x : Course H). x.chooser) is ∙ h.chooser_is;
+  pub fresh_still : (f m : Course H) (x : State) → IsFresh s limits chooser f → m.history.entries ≡ f.history.entries → x.program ≡ f.state.program → x.budget ≡ f.state.budget → ((g : Situation) (ps : List Pair) → IsAt g ps f.state → IsAt g ps x)
+      → IsFresh s limits chooser (record f { history = m.history; state = x })
+  fresh_still f m x h entries program budget same = record {
+    state = record {
+      program = ap (λ p. p.now) program ∙ h.state.program;
+      budget_is = budget ∙ h.state.budget_is;
+      at = subst (λ (y : Subject). IsAt (bare y) [] x) (sym (ap (λ p. p.now) program)) (same (bare f.state.program.now) [] h.state.at);
+    };
+    turns = h.turns;
+    delays = h.delays;
+    systems = h.systems;
+    time = h.time;
+    entries = entries ∙ h.entries;
+    tickets = h.tickets;
+    unended = h.unended;
+    chooser_is = h.chooser_is;
   }
 
-  pub spare_still : (f m c : Course H) → c ≡ record f { history = m.history; shared = c.shared; notes = c.notes } → 2 ≤ m.history.spare → 2 ≤ c.history.spare
-  spare_still f m c is h = let same : c.history.spare ≡ m.history.spare = ap (λ (x : Course H). x.history.spare) is in omega (arith, same, h)
+  fresh_limits : (c : Course H) → IsFresh s limits chooser c → limits_of c ≡ limits
+  fresh_limits c f = (λ i. record { turns = f.turns i; budget = f.state.budget_is i })
 
   -- what a course has that is not changed before the first selection
   record IsAsBegun (x : Course H) (its : List Entry) : Type 0 where
-    program : x.program.now ≡ s
-    limits_are : x.limits ≡ limits
+    program : x.state.program.now ≡ s
+    limits_are : limits_of x ≡ limits
     entries : x.history.entries ≡ its
     time : x.time ≡ first_time
     chooser_is : x.chooser ≡ chooser
@@ -106,20 +100,20 @@ module _ {H : Type 0} (s : Subject) (limits : Limits) (chooser : H) where
   Whole = Subject × Limits × List Entry × Time
 
   abbrev whole : Course H → Whole
-  whole x = (x.program.now, x.limits, x.history.entries, x.time)
+  whole x = (x.state.program.now, limits_of x, x.history.entries, x.time)
 
   same_whole : (x : Course H) (its : List Entry) → IsAsBegun x its → (s, limits, its, first_time) ≡ whole x
   same_whole x its a = sym (λ i. (a.program i, a.limits_are i, a.entries i, a.time i))
 
   -- what is reached, where all is as said
   reached_by : (draw : Draw H) (x : Course H) (its : List Entry) → IsAsBegun x its → (moment : Option ℕ) → AreReached draw s limits.budget limits.turns moment chooser its chooser first_time moment
-      → AreReached draw x.program.now x.limits.budget x.limits.turns moment chooser x.history.entries x.chooser x.time moment
+      → AreReached draw x.state.program.now x.state.budget x.turns moment chooser x.history.entries x.chooser x.time moment
   reached_by draw x its a moment r =
-      subst (λ (c : H). AreReached draw x.program.now x.limits.budget x.limits.turns moment chooser x.history.entries c x.time moment) (sym a.chooser_is)
+      subst (λ (c : H). AreReached draw x.state.program.now x.state.budget x.turns moment chooser x.history.entries c x.time moment) (sym a.chooser_is)
       (subst (λ (q : Whole). AreReached draw q.0 q.1.budget q.1.turns moment chooser q.2 chooser q.3 moment) (same_whole x its a) r)
 
   -- and what has happened
-  started_by : (x : Course H) (its : List Entry) → IsAsBegun x its → (e : Option End) → x.end ≡ e → HasOnlyStarted (start s limits.budget) its e → HasOnlyStarted (start x.program.now x.limits.budget) x.history.entries x.end
+  started_by : (x : Course H) (its : List Entry) → IsAsBegun x its → (e : Option End) → x.end ≡ e → HasOnlyStarted (start s limits.budget) its e → HasOnlyStarted (start x.state.program.now x.state.budget) x.history.entries x.end
   started_by x its a e is h =
       subst (λ (q : Whole). HasOnlyStarted (start q.0 q.1.budget) q.2 x.end) (same_whole x its a) (subst (HasOnlyStarted (start s limits.budget) its) (sym is) h)
 
@@ -129,15 +123,18 @@ module _ {H : Type 0} (s : Subject) (limits : Limits) (chooser : H) where
     few (outcome.Faulted kind) e ran = absurd ran
 
     -- the start may be settled
-    pub may_start : (c : Course H) → IsFresh s limits chooser c → HasRoomFor done.outcome c.shared c.notes → 2 ≤ c.history.spare → MaySettle (bare c.program.now) c done
+    pub may_start : (c : Course H) → IsFresh s limits chooser c → HasRoomFor done.outcome c.state.shared c.state.notes → 2 ≤ c.history.spare → MaySettle (bare c.state.program.now) c done
     may_start c f rooms spare = record {
       may = λ ran. record {
-        stands = subst (λ (x : Subject). Stands x c.shared (bare x)) (sym f.program) f.stands;
-        answers = subst (λ (x : Subject). AnswersIn x (bare x) done) (sym f.program) (start_answers_in s leads limits.budget limits.turns job start.trans start.path start.units done answers);
-        room = rooms;
-        numbers = let none : c.shared.outputs ≡ 0 = f.stands.outputs in let little = few done.outcome refl ran in omega (arith, none, little);
+        may = record {
+          ran = ran;
+          stands = f.state.at.stands;
+          answers = subst (λ (x : Subject). AnswersIn x (bare x) done) (sym f.state.program) (start_answers_in s leads limits.budget limits.turns job start.trans start.path start.units done answers);
+          room = rooms;
+          numbers = let none : c.state.shared.outputs ≡ 0 = f.state.at.stands.outputs in let little = few done.outcome refl ran in omega (arith, none, little);
+        };
+        empty = f.state.at.empty;
       };
-      empty = f.empty;
       spare = spare;
     }
 
@@ -150,13 +147,15 @@ module _ {H : Type 0} (s : Subject) (limits : Limits) (chooser : H) where
         let a : Acting = after_put s (bare s) done in
         let its : List Entry = noted (Start a.outs a.drops) ∷ [] in
         let situation_is = start_situation s leads b t job start.trans start.path start.units done answers image effects is in
-        let same : x ≡ record c { shared = n.shared; history = n.history; notes = n.notes; systems = x.systems } = found.1 ∙ ap (λ (y : Course H). record y { systems = x.systems }) h.rest in
-        let program_is : x.program.now ≡ s = ap (λ (y : Course H). y.program.now) same ∙ f.program in
-        let program_then : n.program.now ≡ s = ap (λ (y : Course H). y.program.now) h.rest ∙ f.program in
-        let entries_are : x.history.entries ≡ its = ap (λ (y : Course H). y.history.entries) same ∙ h.noted ∙ (λ i. f.entries i ++ noted (Start (after_put (f.program i) (bare (f.program i)) done).outs (after_put (f.program i) (bare (f.program i)) done).drops) ∷ []) in
+        let z : State = own c n.state in
+        let same : x ≡ record c { state = z; history = n.history; systems = x.systems } = found.1 ∙ ap (λ (y : Course H). record y { systems = x.systems }) h.rest in
+        let state_is : n.state ≡ z = ap (λ (y : Course H). y.state) h.rest in
+        let program_is : x.state.program.now ≡ s = ap (λ (y : Course H). y.state.program.now) same ∙ f.state.program in
+        let program_then : n.state.program.now ≡ s = ap (λ (y : Course H). y.state.program.now) h.rest ∙ f.state.program in
+        let entries_are : x.history.entries ≡ its = ap (λ (y : Course H). y.history.entries) same ∙ h.noted ∙ (λ i. f.entries i ++ noted (Start (after_put (f.state.program i) (bare (f.state.program i)) done).outs (after_put (f.state.program i) (bare (f.state.program i)) done).drops) ∷ []) in
         let as_begun : IsAsBegun x its = record {
           program = program_is;
-          limits_are = ap (λ (y : Course H). y.limits) same ∙ f.limits_are;
+          limits_are = ap (λ (y : Course H). limits_of y) same ∙ fresh_limits c f;
           entries = entries_are;
           time = ap (λ (y : Course H). y.time) same ∙ f.time;
           chooser_is = ap (λ (y : Course H). y.chooser) same ∙ f.chooser_is;
@@ -164,27 +163,26 @@ module _ {H : Type 0} (s : Subject) (limits : Limits) (chooser : H) where
         let all = same_whole x its as_begun in
         let unended : x.end ≡ None = ap (λ (y : Course H). y.end) same ∙ f.unended in
         let tickets_are : x.tickets ≡ 0 = ap (λ (y : Course H). y.tickets) same ∙ f.tickets in
-        let stands_then : Stands s n.shared a.situation = subst (λ (y : Subject). Stands y n.shared (after_put y (bare y) done).situation) f.program h.stands in
-        let stands : Stands s x.shared a.situation = subst (λ (y : Shared). Stands s y a.situation) (sym (ap (λ (y : Course H). y.shared) same)) stands_then in
+        let put = h.put a.situation.pending f.state.at in
+        let at_n : IsAt (record a.situation { timers = map.remove map.empty (pair done.path done.trans); pending = a.situation.pending }) [] n.state =
+        subst (λ (y : Subject). IsAt (record (after_put y (bare y) done).situation { timers = map.remove map.empty (pair done.path done.trans); pending = a.situation.pending }) [] n.state) f.state.program put in
+        let no_timers : map.remove map.empty (pair done.path done.trans) ≡ a.situation.timers = remove_empty (pair done.path done.trans) ∙ sym (start_timers s leads b t job start.trans start.path start.units done answers image effects is) in
+        let at_a : IsAt a.situation a.situation.pending n.state = subst (λ (ps : List Pair). IsAt a.situation ps n.state) (sym (start_pending s leads b t job start.trans start.path start.units done answers image effects is))
+        (subst (λ (ts : Timers). IsAt (record a.situation { timers = ts; pending = a.situation.pending }) [] n.state) no_timers at_n) in
+        let stands_then : Stands s n.state.shared a.situation = subst (λ (y : Subject). Stands y n.state.shared a.situation) program_then at_a.stands in
         let legal = start_legal s leads b t job start.trans start.path start.units done answers image effects is in
         let systems_are : x.systems.items ≡ each first_kept (systems_of s a.situation) = all_found n x s program_then a.situation found.0 stands_then legal in
-        let none_pending : x.pending.items ≡ a.situation.pending = ap (λ (y : Course H). y.pending.items) same ∙ f.pending ∙ sym (start_pending s leads b t job start.trans start.path start.units done answers image effects is) in
-        let none_timed : x.timers ≡ a.situation.timers = ap (λ (y : Course H). y.timers) same ∙ f.timers ∙ sym (start_timers s leads b t job start.trans start.path start.units done answers image effects is) in
-        let holds : Holds s b its x.shared x.timers x.pending.items = record {
-          stands = subst (Stands s x.shared) (sym situation_is) stands;
-          timers = none_timed ∙ sym (ap (λ (g : Situation). g.timers) situation_is);
-          pending = none_pending ∙ sym (ap (λ (g : Situation). g.pending) situation_is);
-        } in
+        let at_x : IsAt (situation s b (project its)) (situation s b (project its)).pending x.state = subst (λ (g : Situation). IsAt g g.pending x.state) (sym situation_is)
+        (subst (IsAt a.situation a.situation.pending) (state_is ∙ sym (ap (λ (y : Course H). y.state) same)) at_a) in
         let going : IsGoing s b t its first_time x.systems.items = start_going s leads b t job start.trans start.path start.units done answers image effects is x.systems.items systems_are in
         let opened : IsOpenCourse x = record {
           leads = subst LeadsToStates (sym program_is) leads;
           room = subst (λ (l : Limits). l.budget * (l.turns + 1) < 2 ^ 63) (sym as_begun.limits_are) room;
           delays = ap (λ (y : Course H). y.delays) same ∙ f.delays ∙ ap has_delays (sym program_is);
           going = subst (λ (q : Whole). IsGoing q.0 q.1.budget q.1.turns q.2 q.3 x.systems.items) all going;
-          holds = subst (λ (q : Whole). Holds q.0 q.1.budget q.2 x.shared x.timers x.pending.items) all holds;
+          at = subst (λ (q : Whole). IsAt (situation q.0 q.1.budget (project q.2)) (situation q.0 q.1.budget (project q.2)).pending x.state) all at_x;
           taken = ap (λ (es : List Entry). length (tickets es)) entries_are ∙ sym tickets_are;
           fired = ap fires entries_are ∙ sym tickets_are;
-          empty = record { outs = ap (λ (y : Course H). y.notes.outs.items) same ∙ h.empty.outs; drops = ap (λ (y : Course H). y.notes.drops.items) same ∙ h.empty.drops; arrivals = ap (λ (y : Course H). y.notes.arrivals.items) same ∙ h.empty.arrivals };
         } in
         record {
           keeps = subst (IsKept x) (sym unended) opened;
@@ -202,34 +200,30 @@ module _ {H : Type 0} (s : Subject) (limits : Limits) (chooser : H) where
         let t = limits.turns in
         let its : List Entry = (noted (Fault [] 0 kind) ∷ []) ++ ending (Faulted kind) ∷ [] in
         let same : x ≡ record c { history = n.history; end = Some (Faulted kind) } = found ∙ h.rest in
-        let program_is : x.program.now ≡ s = ap (λ (y : Course H). y.program.now) same ∙ f.program in
+        let program_is : x.state.program.now ≡ s = ap (λ (y : Course H). y.state.program.now) same ∙ f.state.program in
         let as_begun : IsAsBegun x its = record {
           program = program_is;
-          limits_are = ap (λ (y : Course H). y.limits) same ∙ f.limits_are;
+          limits_are = ap (λ (y : Course H). limits_of y) same ∙ fresh_limits c f;
           entries = ap (λ (y : Course H). y.history.entries) same ∙ h.noted ∙ ap (λ (es : List Entry). (es ++ noted (Fault [] 0 kind) ∷ []) ++ ending (Faulted kind) ∷ []) f.entries;
           time = ap (λ (y : Course H). y.time) same ∙ f.time;
           chooser_is = ap (λ (y : Course H). y.chooser) same ∙ f.chooser_is;
         } in
         let ended : x.end ≡ Some (Faulted kind) = ap (λ (y : Course H). y.end) same in
         let closed : IsClosed s b t its 0 (Faulted kind) = start_closes s leads b t job start.trans start.path start.units done answers kind is in
-        let there : IsClosed x.program.now x.limits.budget x.limits.turns x.history.entries x.time.waited (Faulted kind) =
+        let there : IsClosed x.state.program.now x.state.budget x.turns x.history.entries x.time.waited (Faulted kind) =
         subst (λ (q : Whole). IsClosed q.0 q.1.budget q.1.turns q.2 q.3.waited (Faulted kind)) (same_whole x its as_begun) closed in
         let situation_is = start_stays s leads b t job start.trans start.path start.units done answers kind is in
-        let holds : Holds s b its x.shared x.timers x.pending.items = record {
-          stands = subst (Stands s x.shared) (sym situation_is) (subst (λ (y : Shared). Stands s y (bare s)) (sym (ap (λ (y : Course H). y.shared) same)) f.stands);
-          timers = ap (λ (y : Course H). y.timers) same ∙ f.timers ∙ sym (ap (λ (g : Situation). g.timers) situation_is);
-          pending = ap (λ (y : Course H). y.pending.items) same ∙ f.pending ∙ sym (ap (λ (g : Situation). g.pending) situation_is);
-        } in
+        let at_x : IsAt (situation s b (project its)) (situation s b (project its)).pending x.state = subst (λ (g : Situation). IsAt g g.pending x.state) (sym situation_is)
+        (subst (IsAt (bare s) []) (sym (ap (λ (y : Course H). y.state) same)) (subst (λ (y : Subject). IsAt (bare y) [] c.state) f.state.program f.state.at)) in
         let tickets_are : x.tickets ≡ 0 = ap (λ (y : Course H). y.tickets) same ∙ f.tickets in
         let closes : IsEndedCourse x (Faulted kind) = record {
           leads = subst LeadsToStates (sym program_is) leads;
           room = subst (λ (l : Limits). l.budget * (l.turns + 1) < 2 ^ 63) (sym as_begun.limits_are) room;
           delays = ap (λ (y : Course H). y.delays) same ∙ f.delays ∙ ap has_delays (sym program_is);
           closed = there;
-          holds = subst (λ (q : Whole). Holds q.0 q.1.budget q.2 x.shared x.timers x.pending.items) (same_whole x its as_begun) holds;
+          at = subst (λ (q : Whole). IsAt (situation q.0 q.1.budget (project q.2)) (situation q.0 q.1.budget (project q.2)).pending x.state) (same_whole x its as_begun) at_x;
           taken = ap (λ (es : List Entry). length (tickets es)) as_begun.entries ∙ sym tickets_are;
           fired = inl (tickets_are ∙ sym (ap fires as_begun.entries));
-          empty = record { outs = ap (λ (y : Course H). y.notes.outs.items) same ∙ f.empty.outs; drops = ap (λ (y : Course H). y.notes.drops.items) same ∙ f.empty.drops; arrivals = ap (λ (y : Course H). y.notes.arrivals.items) same ∙ f.empty.arrivals };
         } in
         record {
           keeps = subst (IsKept x) (sym ended) closes;

@@ -1,9 +1,9 @@
 -- What the end of a run comes to, and a refusal.
 use Rattle.std.proofs.Common.{◌≡◌, ◌≢◌, ℕ, ◌+◌, ◌<◌, ◌≤◌, Bool, true, false, List, [], ◌∷◌, ◌++◌, length, Option, Some, None, refl, sym, ap, subst, ◌∙◌, inr}
-use Rattle.std.specs.Prelude.{unwrap_or, Result, Ok, Err, OnErr, slice_get}
+use Rattle.std.specs.Prelude.{unwrap_or}
 use Rattle.pascal_values.specs.declared.fault.Fault as fault
 use Rattle.estelle_tree.specs.Paths.{Path}
-use Rattle.estelle_tree.specs.Timers.{Timers, next_due}
+use Rattle.estelle_tree.specs.Timers.{next_due}
 use Rattle.estelle_model.specs.declared.event.Event.TheVariants.{Fault}
 use Rattle.estelle_model.specs.declared.event.End.{End}
 use Rattle.estelle_model.specs.declared.event.End.TheVariants.{Dead, Turns, Clock, Faulted}
@@ -13,9 +13,7 @@ use Rattle.estelle_model.specs.Delays.{has_delays}
 use Rattle.estelle_model.specs.Choosers.{Draw}
 use Rattle.run_history.specs.declared.entry.Entry.{Entry}
 use Rattle.estelle_model.specs.Runs.{situation}
-use Rattle.effect_log.specs.declared.shared.Shared.{Shared}
-use Rattle.effect_log.specs.Standing.{Stands}
-use Rattle.estelle_tree.specs.declared.transition.Pair.{Pair}
+use Rattle.situation_state.specs.At.{IsAt}
 use Rattle.run_history.specs.Histories.{project, fires}
 use Rattle.run_history.specs.Tickets.{tickets}
 use Rattle.situation_steps.specs.declared.systems.System.{System}
@@ -28,25 +26,11 @@ use Rattle.situation.specs.declared.limits.Stepped.{Stepped}
 use Rattle.situation.specs.declared.limits.Stepped.TheVariants as did
 use Rattle.situation.specs.declared.course.Course.{Course}
 use Rattle.situation.specs.Runs.{noted, ending, IsClosed, AreReached}
-use Rattle.situation.specs.Worlds.{Holds, AddsEnd, IsOpenCourse, IsEndedCourse, IsKept, HasStepped, IsUnchanged, now}
+use Rattle.situation.specs.Worlds.{AddsEnd, IsOpenCourse, IsEndedCourse, HasStepped, now}
 use Rattle.situation.specs.Steps.{GoesOn, IsDueAt, IsIdle, MayWaitFor, IsFaultAt}
 use Rattle.situation.proofs.Adding.{adds_on, all_taken}
 use Rattle.situation.proofs.Steps.{project_end, fires_same, reached_end, ended_closes, guard_faults_now}
 use Rattle.run_history.proofs.OpenTickets.{tickets_same}
-
--- what holds anyway holds at an error
-pub on_err : {A E : Type 0} (r : Result A E) (P : Type 0) → P → OnErr r P
-on_err (Ok a) P h = tt
-on_err (Err e) P h = h
-
--- what holds of a situation holds where other entries lead to it
-pub holds_same : (s : Subject) (budget : ℕ) (es fs : List Entry) (shared : Shared) (running : Timers) (waiting : List Pair) → situation s budget (project fs) ≡ situation s budget (project es)
-    → Holds s budget es shared running waiting → Holds s budget fs shared running waiting
-holds_same s budget es fs shared running waiting same h = record {
-  stands = subst (Stands s shared) (sym same) h.stands;
-  timers = h.timers ∙ sym (ap (λ (g : Situation). g.timers) same);
-  pending = h.pending ∙ sym (ap (λ (g : Situation). g.pending) same);
-}
 
 -- the step that says an end
 abbrev pub says : End → Option End → Stepped
@@ -59,33 +43,32 @@ module _ {H : Type 0} where
   with_end c n e = record c { history = n.history; end = Some e }
 
   -- a history that ends, and leads to the same situation, ends the course
-  ends_so : (c n : Course H) (e : End) → IsOpenCourse c → IsClosed c.program.now c.limits.budget c.limits.turns n.history.entries c.time.waited e
-      → situation c.program.now c.limits.budget (project n.history.entries) ≡ now c → fires n.history.entries ≡ fires c.history.entries
+  ends_so : (c n : Course H) (e : End) → IsOpenCourse c → IsClosed c.state.program.now c.state.budget c.turns n.history.entries c.time.waited e
+      → situation c.state.program.now c.state.budget (project n.history.entries) ≡ now c → fires n.history.entries ≡ fires c.history.entries
       → length (tickets n.history.entries) ≡ length (tickets c.history.entries) → IsEndedCourse (with_end c n e) e
   ends_so c n e o closed same count given = record {
     leads = o.leads;
     room = o.room;
     delays = o.delays;
     closed = closed;
-    holds = holds_same c.program.now c.limits.budget c.history.entries n.history.entries c.shared c.timers c.pending.items same o.holds;
+    at = subst (λ (g : Situation). IsAt g g.pending c.state) (sym same) o.at;
     taken = given ∙ o.taken;
     fired = all_taken e (fires n.history.entries) c.tickets (sym o.fired ∙ sym count);
-    empty = o.empty;
   }
 
   -- an end that a step says is the end
-  pub ended_step : (draw : Draw H) (moment : Option ℕ) (c n : Course H) (e : End) (k : ℕ) → GoesOn k c → IsClosed c.program.now c.limits.budget c.limits.turns (c.history.entries ++ ending e ∷ []) c.time.waited e
+  pub ended_step : (draw : Draw H) (moment : Option ℕ) (c n : Course H) (e : End) (k : ℕ) → GoesOn k c → IsClosed c.state.program.now c.state.budget c.turns (c.history.entries ++ ending e ∷ []) c.time.waited e
       → n.history.entries ≡ c.history.entries ++ ending e ∷ [] → AddsEnd c.history.entries n.history.entries e → HasStepped draw moment moment c (with_end c n e) (did.Ended e)
   ended_step draw moment c n e k opened closed entries_are adds = record {
-    keeps = ends_so c n e opened.is_open (subst (λ (xs : List Entry). IsClosed c.program.now c.limits.budget c.limits.turns xs c.time.waited e) (sym entries_are) closed)
-        (ap (λ (xs : List Entry). situation c.program.now c.limits.budget (project xs)) entries_are ∙ ap (situation c.program.now c.limits.budget) (project_end c.history.entries e))
+    keeps = ends_so c n e opened.is_open (subst (λ (xs : List Entry). IsClosed c.state.program.now c.state.budget c.turns xs c.time.waited e) (sym entries_are) closed)
+        (ap (λ (xs : List Entry). situation c.state.program.now c.state.budget (project xs)) entries_are ∙ ap (situation c.state.program.now c.state.budget) (project_end c.history.entries e))
         (ap fires entries_are ∙ fires_same c.history.entries (ending e) refl)
         (ap (λ (xs : List Entry). length (tickets xs)) entries_are ∙ ap length (tickets_same c.history.entries (ending e) refl));
     goes_on = record {
       program = refl;
       limits = refl;
-      reached = λ clock first r. subst (λ (xs : List Entry). AreReached draw c.program.now c.limits.budget c.limits.turns clock first xs c.chooser c.time moment) (sym entries_are)
-          (reached_end draw c.program.now c.limits.budget c.limits.turns clock first c.history.entries c.chooser c.time moment e r);
+      reached = λ clock first r. subst (λ (xs : List Entry). AreReached draw c.state.program.now c.state.budget c.turns clock first xs c.chooser c.time moment) (sym entries_are)
+          (reached_end draw c.state.program.now c.state.budget c.turns clock first c.history.entries c.chooser c.time moment e r);
     };
     leaves = refl;
     adds = adds_on c.end c.history.entries n.history.entries (did.Ended e) opened.unended adds;
@@ -94,18 +77,18 @@ module _ {H : Type 0} where
   }
 
   -- so is one of the events
-  ended_so : (draw : Draw H) (moment : Option ℕ) (c n : Course H) (e : End) (k : ℕ) → GoesOn k c → HasEnded c.program.now c.limits.budget c.limits.turns (project c.history.entries) c.time.waited e
+  ended_so : (draw : Draw H) (moment : Option ℕ) (c n : Course H) (e : End) (k : ℕ) → GoesOn k c → HasEnded c.state.program.now c.state.budget c.turns (project c.history.entries) c.time.waited e
       → n.history.entries ≡ c.history.entries ++ ending e ∷ [] → AddsEnd c.history.entries n.history.entries e → HasStepped draw moment moment c (with_end c n e) (did.Ended e)
   ended_so draw moment c n e k opened h entries_are adds =
-      ended_step draw moment c n e k opened (ended_closes c.program.now c.limits.budget c.limits.turns c.history.entries c.time c.systems.items opened.is_open.going e h) entries_are adds
+      ended_step draw moment c n e k opened (ended_closes c.state.program.now c.state.budget c.turns c.history.entries c.time c.systems.items opened.is_open.going e h) entries_are adds
 
   -- the first guard that faults ends the run
   pub faulted_step : (draw : Draw H) (moment : Option ℕ) (c n : Course H) (at : ℕ) → GoesOn 2 c → IsDueAt at c → (m : Path) (k : ℕ) (kind : fault.Fault) → IsFaultAt at c m k kind
       → n.history.entries ≡ (c.history.entries ++ noted (Fault m k kind) ∷ []) ++ ending (Faulted kind) ∷ [] → HasStepped draw moment moment c (with_end c n (Faulted kind)) (did.Ended (Faulted kind))
   faulted_step draw moment c n at opened due m k kind first entries_are =
-      let s = c.program.now in
-      let b = c.limits.budget in
-      let t = c.limits.turns in
+      let s = c.state.program.now in
+      let b = c.state.budget in
+      let t = c.turns in
       let h = guard_faults_now draw s b t c.history.entries c.time c.systems.items opened.is_open.going due.below at due.first.0 due.first.1 m k kind (first due.first.0 due.first.1.there) in
       record {
         keeps = ends_so c n (Faulted kind) opened.is_open (subst (λ (xs : List Entry). IsClosed s b t xs c.time.waited (Faulted kind)) (sym entries_are) h.closed)
@@ -122,18 +105,18 @@ module _ {H : Type 0} where
       }
 
   -- so does the limit of firings
-  pub turns_step : (draw : Draw H) (moment : Option ℕ) (c n : Course H) (k : ℕ) → GoesOn k c → fires c.history.entries ≡ c.limits.turns → n.history.entries ≡ c.history.entries ++ ending Turns ∷ []
+  pub turns_step : (draw : Draw H) (moment : Option ℕ) (c n : Course H) (k : ℕ) → GoesOn k c → fires c.history.entries ≡ c.turns → n.history.entries ≡ c.history.entries ++ ending Turns ∷ []
       → HasStepped draw moment moment c (with_end c n Turns) (did.Ended Turns)
   turns_step draw moment c n k opened full entries_are =
-      ended_so draw moment c n Turns k opened (turns_end c.program.now c.limits.budget c.limits.turns (project c.history.entries) c.time c.systems.items opened.is_open.going.under_way full) entries_are entries_are
+      ended_so draw moment c n Turns k opened (turns_end c.state.program.now c.state.budget c.turns (project c.history.entries) c.time c.systems.items opened.is_open.going.under_way full) entries_are entries_are
 
   -- a deadlock
-  pub dead_step : (draw : Draw H) (moment : Option ℕ) (c n : Course H) (k : ℕ) → GoesOn k c → IsIdle c → next_due c.timers ≡ None → n.history.entries ≡ c.history.entries ++ ending Dead ∷ []
+  pub dead_step : (draw : Draw H) (moment : Option ℕ) (c n : Course H) (k : ℕ) → GoesOn k c → IsIdle c → next_due c.state.timers ≡ None → n.history.entries ≡ c.history.entries ++ ending Dead ∷ []
       → HasStepped draw moment moment c (with_end c n Dead) (did.Ended Dead)
   dead_step draw moment c n k opened idle none entries_are =
       let o = opened.is_open in
       ended_so draw moment c n Dead k opened
-      (dead_ends c.program.now c.limits.budget c.limits.turns (project c.history.entries) c.time c.systems.items o.going.under_way idle.none_due (sym o.holds.pending ∙ idle.none) (ap next_due (sym o.holds.timers) ∙ none) idle.below)
+      (dead_ends c.state.program.now c.state.budget c.turns (project c.history.entries) c.time c.systems.items o.going.under_way idle.none_due (sym o.at.left ∙ idle.none) (ap next_due (sym o.at.timers) ∙ none) idle.below)
       entries_are entries_are
 
   -- and a clock that fails, where it is asked for a selection
@@ -142,7 +125,7 @@ module _ {H : Type 0} where
   clock_step draw moment c n at k opened due delays entries_are =
       let o = opened.is_open in
       ended_so draw moment c n Clock k opened
-      (clocks_end_selections c.program.now c.limits.budget c.limits.turns (project c.history.entries) c.time c.systems.items o.going.under_way (sym o.delays ∙ delays) at due.first.0 due.first.1 due.below)
+      (clocks_end_selections c.state.program.now c.state.budget c.turns (project c.history.entries) c.time c.systems.items o.going.under_way (sym o.delays ∙ delays) at due.first.0 due.first.1 due.below)
       entries_are entries_are
 
   -- or is waited for
@@ -150,34 +133,9 @@ module _ {H : Type 0} where
       → HasStepped draw moment moment c (with_end c n Clock) (did.Ended Clock)
   wait_fails draw moment c n due k opened may entries_are =
       let o = opened.is_open in
-      let none : (now c).pending ≡ [] = sym o.holds.pending ∙ may.idle.none in
-      let runs : next_due (now c).timers ≡ Some due = ap next_due (sym o.holds.timers) ∙ may.due in
-      let w = timers_are_waited_for c.program.now o.leads c.limits.budget (project c.history.entries) c.time c.systems.items o.going.under_way may.idle.none_due none due runs in
+      let none : (now c).pending ≡ [] = sym o.at.left ∙ may.idle.none in
+      let runs : next_due (now c).timers ≡ Some due = ap next_due (sym o.at.timers) ∙ may.due in
+      let w = timers_are_waited_for c.state.program.now o.leads c.state.budget (project c.history.entries) c.time c.systems.items o.going.under_way may.idle.none_due none due runs in
       ended_so draw moment c n Clock k opened
-      (clocks_end_waits c.program.now c.limits.budget c.limits.turns (project c.history.entries) c.time c.systems.items o.going.under_way w.delays w.waiting may.idle.below)
+      (clocks_end_waits c.state.program.now c.state.budget c.turns (project c.history.entries) c.time c.systems.items o.going.under_way w.delays w.waiting may.idle.below)
       entries_are entries_are
-
-  -- ---- refusals
-
-  -- where only the chooser was drawn from, and memory was made, the run is as before
-  pub unchanged : (c n : Course H) (k : ℕ) → GoesOn k c → n.pending.items ≡ c.pending.items → n.timers ≡ c.timers → IsUnchanged c (record c { chooser = n.chooser; pending = n.pending; timers = n.timers })
-  unchanged c n k opened pending timers =
-      let o = opened.is_open in
-      let after = record c { chooser = n.chooser; pending = n.pending; timers = n.timers } in
-      record {
-        keeps = subst (IsKept after) (sym opened.unended) (record {
-          leads = o.leads;
-          room = o.room;
-          delays = o.delays;
-          going = o.going;
-          holds = record { stands = o.holds.stands; timers = timers ∙ o.holds.timers; pending = pending ∙ o.holds.pending };
-          taken = o.taken;
-          fired = o.fired;
-          empty = o.empty;
-        });
-        program = refl;
-        limits = refl;
-        entries = refl;
-        time = refl;
-        systems = refl;
-      }

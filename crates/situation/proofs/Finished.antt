@@ -8,9 +8,9 @@ use Rattle.situation.specs.declared.course.Course.{Course}
 use Rattle.situation.specs.Worlds.{IsCourse, IsKept}
 
 -- its events are a run
-pub ended_run : {H : Type 0} (c : Course H) → IsCourse c → (e : End) → c.end ≡ Some e → IsRun c.program.now c.limits.budget (project c.history.entries)
+pub ended_run : {H : Type 0} (c : Course H) → IsCourse c → (e : End) → c.end ≡ Some e → IsRun c.state.program.now c.state.budget (project c.history.entries)
 ended_run c keeps e is = (subst (IsKept c) is keeps).closed.run
 
 -- and its bodies lead to states of their own
-pub ended_leads : {H : Type 0} (c : Course H) → IsCourse c → (e : End) → c.end ≡ Some e → LeadsToStates c.program.now
+pub ended_leads : {H : Type 0} (c : Course H) → IsCourse c → (e : End) → c.end ≡ Some e → LeadsToStates c.state.program.now
 ended_leads c keeps e is = (subst (IsKept c) is keeps).leads

@@ -5,7 +5,6 @@ use Rattle.std.specs.Str.{bytes_eq}
 use Rattle.std.specs.FinMap as map
 use Rattle.std.proofs.Math.Nat.{mul-suc, mul-le-mul_left}
 use Rattle.std.proofs.lemmas.List.{append-nil}
-use Rattle.std.proofs.lemmas.List.Sums.{sum_by-cons}
 use Rattle.pascal_values.specs.declared.fault.Fault as fault
 use Rattle.estelle_tree.specs.declared.transition.Pair.{Pair}
 use Rattle.estelle_tree.specs.Paths.{Path}
@@ -21,7 +20,6 @@ use Rattle.estelle_model.specs.declared.job.Done.{Done}
 use Rattle.estelle_model.specs.declared.job.Outcome.{Outcome}
 use Rattle.estelle_model.specs.declared.job.Outcome.TheVariants as outcome
 use Rattle.estelle_model.specs.Core.{Instance}
-use Rattle.estelle_model.specs.Effects.{StatementEffect, Output, Connect, Disconnect, Attach, Detach, Create, Remove}
 use Rattle.estelle_model.specs.Transitions.{Transition, When}
 use Rattle.estelle_model.specs.Subject.{Subject}
 use Rattle.estelle_model.specs.Situation.{Situation, Acting, acting_after, made_after}
@@ -33,7 +31,8 @@ use Rattle.estelle_model.specs.Schedule.{Kept, kept_after, known_after, Reaches,
 use Rattle.estelle_model_legality.specs.Instances.{LeadsToStates}
 use Rattle.estelle_model_legality.specs.Situations.{IsLegal}
 use Rattle.effect_log.specs.Putting.{log_of, parts_of, effects_of, IsJobAt, AnswersIn, begun_by, after_put, arrivals}
-use Rattle.effect_log.specs.Rooms.{outputs_of, outputs_in}
+use Rattle.effect_log.specs.Rooms.{outputs_in}
+use Rattle.situation_state.proofs.Counted.{made_all, taken_made}
 use Rattle.effect_log.proofs.Answered.{log-is}
 use Rattle.effect_log.proofs.Lawful.{no-initial}
 use Rattle.run_history.specs.declared.entry.Entry.{Entry}
@@ -62,33 +61,6 @@ use Rattle.situation.proofs.Steps.{project_push, project_end, reached_end, withi
 
 pub once_more : (b f : ℕ) → b * (f + 1) ≡ b * f + b
 once_more b f = let e : f + 1 ≡ suc f = omega arith in ap (λ n. b * n) e ∙ mul-suc b f
-
--- outputs are counted
-pub made_all : (s : Subject) (es : List StatementEffect) (a : Acting) → (after_all es a).situation.made ≡ a.situation.made + outputs_in (all_logged s es)
-unfolding made_after
-made_all s [] a = omega arith
-made_all s (e ∷ es) a = one e (made_all s es (acting_after e a)) (sum_by-cons outputs_of (logged_as s e) (all_logged s es))
-  where
-    one : (e : StatementEffect) → (after_all es (acting_after e a)).situation.made ≡ (acting_after e a).situation.made + outputs_in (all_logged s es) → outputs_in (all_logged s (e ∷ es)) ≡ outputs_of (logged_as s e) + outputs_in (all_logged s es)
-        → (after_all es (acting_after e a)).situation.made ≡ a.situation.made + outputs_in (all_logged s (e ∷ es))
-    one (Output from ip name values) h sum = omega (arith, h, sum)
-    one (Connect x y) h sum = omega (arith, h, sum)
-    one (Disconnect x) h sum = omega (arith, h, sum)
-    one (Attach upper lower) h sum = omega (arith, h, sum)
-    one (Detach upper) h sum = omega (arith, h, sum)
-    one (Create p k i) h sum = omega (arith, h, sum)
-    one (Remove p k) h sum = omega (arith, h, sum)
-
-taken_made : (s : Subject) (g : Situation) (m : Path) (o : Option Transition) → (taken_by s g m o).made ≡ g.made
-taken_made s g m None = refl
-taken_made s g m (Some t) = by t
-  where
-    by : (t : Transition) → (taken s g m t.when).made ≡ g.made
-    by t = other t.when
-      where
-        other : (w : Option When) → (taken s g m w).made ≡ g.made
-        other None = refl
-        other (Some w) = refl
 
 -- ---- what is computed of a pending firing
 

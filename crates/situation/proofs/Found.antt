@@ -17,7 +17,8 @@ use Rattle.situation_images.specs.Instances.{IsTreeOf, IsPartOf}
 use Rattle.situation_images.proofs.Parts.{parts_lie_below, parts_are_of_instances}
 use Rattle.situation_steps.specs.declared.systems.System.{System}
 use Rattle.situation_steps.specs.Systems.{systems_of, first_kept}
-use Rattle.situation.specs.Systems.{is_system_body, kept_part}
+use Rattle.situation_state.specs.Systems.{is_system_body}
+use Rattle.situation.specs.Systems.{kept_part}
 
 -- a part is a system just where its instance is
 part_is : (s : Subject) (g : Situation) → IsLegal s g → (p : Part) → IsPartOf g p → is_system_body s p.body ≡ is_system (attribute_at s g p.path)

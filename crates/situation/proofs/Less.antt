@@ -49,8 +49,8 @@ fewer_await systems at x count there waits =
 -- ---- courses
 
 module _ {H : Type 0} where
-  pub left_open : (c : Course H) → c.end ≡ None → left_to_do c ≡ work c.limits.turns (fires c.history.entries) c.systems.items c.time.may_wait None
-  left_open c e = ap (work c.limits.turns (fires c.history.entries) c.systems.items c.time.may_wait) e
+  pub left_open : (c : Course H) → c.end ≡ None → left_to_do c ≡ work c.turns (fires c.history.entries) c.systems.items c.time.may_wait None
+  left_open c e = ap (work c.turns (fires c.history.entries) c.systems.items c.time.may_wait) e
 
 -- a selection leaves less to do
 pub less_selected : (f g t : ℕ) (may : Bool) (systems after : List System) (at : ℕ) (s : System) (count x y : ℕ) → f ≡ g → slice_get systems at ≡ Some s → s.awaits ≡ true → after ≡ after_selection at s count systems

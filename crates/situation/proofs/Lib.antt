@@ -1,5 +1,3 @@
-pub mod Standing
-pub mod Taking
 pub mod Tickets
 pub mod Steps
 pub mod Less

@@ -14,7 +14,7 @@ use Rattle.situation.specs.declared.course.Course.{Course}
 use Rattle.situation.specs.declared.limits.Stepped.{Stepped}
 use Rattle.situation.specs.declared.limits.Stepped.TheVariants as did
 use Rattle.situation.specs.Runs.{ending, AreCounted}
-use Rattle.situation.specs.Worlds.{IsKept, IsCourse, IsUnchanged, HasStepped, Leaves}
+use Rattle.situation.specs.Worlds.{IsKept, IsCourse, IsUnchanged, HasStepped, Leaves, limits_of}
 use Rattle.situation.specs.Known.{Known, IsAsBefore, IsPlannedStep, LeavesLess}
 
 -- ---- an end among the entries
@@ -67,7 +67,7 @@ module _ {H : Type 0} where
 
   -- what a caller knows of a run
   abbrev seen : {C : Type 0} → Course H → C → Known C H
-  seen c clock = record { subject = c.program.now; limits = c.limits; history = c.history; end = c.end; time = c.time; systems = c.systems.items; chooser = c.chooser; clock = clock }
+  seen c clock = record { subject = c.state.program.now; limits = limits_of c; history = c.history; end = c.end; time = c.time; systems = c.systems.items; chooser = c.chooser; clock = clock }
 
   pub as_before : {A E C : Type 0} (r : Result A E) (c n : Course H) (clock clock' : C) → IsCourse c → OnErr r (IsUnchanged c n) → OnErr r (IsAsBefore (seen c clock) (seen n clock'))
   as_before (Ok a) c n clock clock' k u = tt

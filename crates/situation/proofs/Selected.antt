@@ -4,18 +4,17 @@ use Rattle.std.specs.Prelude.{◌&&◌, nat_eq, IsTrue}
 use Rattle.estelle_tree.specs.declared.transition.Pair.{Pair}
 use Rattle.estelle_tree.specs.declared.transition.Wanted.{Wanted}
 use Rattle.estelle_tree.specs.Paths.{Path}
-use Rattle.estelle_tree.specs.Timers.{Timers, renewed}
 use Rattle.estelle_model.specs.declared.event.Event.{Event}
 use Rattle.estelle_model.specs.declared.event.Event.TheVariants.{Select}
 use Rattle.estelle_model.specs.declared.event.End.{End}
 use Rattle.estelle_model.specs.declared.event.End.TheVariants.{Clock}
 use Rattle.estelle_model.specs.Subject.{Subject}
 use Rattle.estelle_model.specs.Situation.{Situation}
-use Rattle.estelle_model.specs.Delays.{has_delays, wanted}
+use Rattle.estelle_model.specs.Delays.{has_delays}
 use Rattle.estelle_model.specs.Runs.{selected, situation}
 use Rattle.estelle_model.specs.Choosers.{Draw}
-use Rattle.effect_log.specs.declared.shared.Shared.{Shared}
-use Rattle.effect_log.specs.Standing.{Stands}
+use Rattle.situation_state.specs.declared.state.State.{State}
+use Rattle.situation_state.specs.At.{IsAt}
 use Rattle.situation_offers.specs.Selections.{IsSelection}
 use Rattle.run_history.specs.declared.entry.Entry.{Entry}
 use Rattle.run_history.specs.Histories.{project, fires}
@@ -28,23 +27,14 @@ use Rattle.situation_steps.proofs.Selections.{selections_go_on}
 use Rattle.situation.specs.declared.limits.Stepped.TheVariants as did
 use Rattle.situation.specs.declared.course.Course.{Course}
 use Rattle.situation.specs.Runs.{noted, IsWithin, IsGoing, AreReached}
-use Rattle.situation.specs.Worlds.{Holds, IsOpenCourse, IsKept, HasStepped, IsUnchanged, now, work, left_to_do}
+use Rattle.situation.specs.Worlds.{IsKept, HasStepped, IsUnchanged, now, work, left_to_do}
 use Rattle.situation.specs.Steps.{GoesOn, IsDueAt, MayBeNow}
 use Rattle.run_history.proofs.OpenTickets.{tickets_same}
 use Rattle.situation.proofs.Tickets.{still_settled, still_tickets}
 use Rattle.situation.proofs.Steps.{project_push, fires_same, counted_event, reached_on, moment_by}
 use Rattle.situation.proofs.Adding.{adds_on}
 use Rattle.situation.proofs.Less.{less_selected, left_open}
-use Rattle.situation.proofs.Computed.{still_drawn}
-
--- the shared state stands for a situation whatever is pending in it, whatever timers run, and at any moment
-stands_later : (s : Subject) (shared : Shared) (g : Situation) (moment : ℕ) (timers : Timers) (pending : List Pair) → Stands s shared g → Stands s shared (record g { now = moment; timers = timers; pending = pending })
-stands_later s shared g moment timers pending h = record {
-  instances = h.instances;
-  links = h.links;
-  queues = record { declared = h.queues.declared; together = h.queues.together; apart = h.queues.apart; waiting = h.queues.waiting };
-  outputs = h.outputs;
-}
+use Rattle.situation.proofs.Computed.{own, own_is, still_drawn}
 
 -- what is due awaits a selection
 and_left : (a b : Bool) → IsTrue (a && b) → a ≡ true
@@ -53,23 +43,23 @@ and_left false b h = h
 
 module _ {H : Type 0} where
   -- the course with what was selected
-  abbrev pub with_selection : Course H → Course H → ℕ → Course H
-  with_selection c n moment = record c { pending = n.pending; timers = n.timers; systems = n.systems; time = record c.time { known = moment }; history = n.history; chooser = n.chooser }
+  abbrev pub with_selection : Course H → State → Course H → ℕ → Course H
+  with_selection c y n moment = record c { state = y; systems = n.systems; time = record c.time { known = moment }; history = n.history; chooser = n.chooser }
 
   -- a system selects
   pub selected_step : (draw : Draw H) (told : Option ℕ) (c n : Course H) (at moment : ℕ) (takes : List Pair) (wants : List Wanted)
       → GoesOn 2 c → (due : IsDueAt at c) → MayBeNow told moment c
-      → IsSelection draw c.program.now c.limits.budget (now c) due.first.0.path moment c.chooser n.chooser takes wants
-      → n.pending.items ≡ c.pending.items ++ takes
-      → n.timers ≡ renewed due.first.0.path moment wants c.timers
+      → IsSelection draw c.state.program.now c.state.budget (now c) due.first.0.path moment c.chooser n.chooser takes wants
+      → (y : State) → y.program ≡ c.state.program → y.budget ≡ c.state.budget
+      → IsAt (selected c.state.program.now c.state.budget (now c) due.first.0.path moment takes) ((now c).pending ++ takes) y
       → n.systems.items ≡ after_selection at due.first.0 (length takes) c.systems.items
       → n.history.entries ≡ c.history.entries ++ noted (Select due.first.0.path moment takes) ∷ []
-      → HasStepped draw told told c (with_selection c n moment) did.Selected
-  selected_step draw told c n at moment takes wants opened due may it pending_is timers_are systems_are entries_are =
+      → HasStepped draw told told c (with_selection c y n moment) did.Selected
+  selected_step draw told c n at moment takes wants opened due may it y program budget there systems_are entries_are =
       let o = opened.is_open in
-      let s = c.program.now in
-      let b = c.limits.budget in
-      let t = c.limits.turns in
+      let s = c.state.program.now in
+      let b = c.state.budget in
+      let t = c.turns in
       let es = c.history.entries in
       let x : System = due.first.0 in
       let undelayed : has_delays s ≡ false → moment ≡ 0 = λ none. may.undelayed (o.delays ∙ none) in
@@ -79,8 +69,6 @@ module _ {H : Type 0} where
       let is : project (es ++ e ∷ []) ≡ project es ++ Select x.path moment takes ∷ [] = project_push es e in
       let count : fires (es ++ e ∷ []) ≡ fires es = fires_same es e refl in
       let now_is : situation s b (project (es ++ e ∷ [])) ≡ selected s b (now c) x.path moment takes = ap (situation s b) is ∙ h.situation_is in
-      let running : n.timers ≡ renewed x.path moment (wanted s b (now c) x.path) (now c).timers =
-      timers_are ∙ ap (λ (ws : List Wanted). renewed x.path moment ws c.timers) it.wanted ∙ ap (renewed x.path moment (wanted s b (now c) x.path)) o.holds.timers in
       let going : IsGoing s b t (es ++ e ∷ []) after (after_selection at x (length takes) c.systems.items) = record {
         under_way = subst (λ (events : List Event). IsUnderWay s b events after (after_selection at x (length takes) c.systems.items)) (sym is) h.under_way;
         below = omega (arith, count, o.going.below);
@@ -90,23 +78,19 @@ module _ {H : Type 0} where
         settled = still_settled es e refl o.going.settled;
         counted = counted_event es (Select x.path moment takes) o.going.counted;
       } in
-      let holds : Holds s b (es ++ e ∷ []) c.shared n.timers n.pending.items = record {
-        stands = subst (Stands s c.shared) (sym now_is) (stands_later s c.shared (now c) moment (renewed x.path moment (wanted s b (now c) x.path) (now c).timers) ((now c).pending ++ takes) o.holds.stands);
-        timers = running ∙ sym (ap (λ (g : Situation). g.timers) now_is);
-        pending = pending_is ∙ ap (λ (ps : List Pair). ps ++ takes) o.holds.pending ∙ sym (ap (λ (g : Situation). g.pending) now_is);
-      } in
-      let new = with_selection c n moment in
+      let same = own_is c y program budget in
+      let there_now : IsAt (situation s b (project (es ++ e ∷ []))) (situation s b (project (es ++ e ∷ []))).pending (own c y) = subst (λ (g : Situation). IsAt g g.pending (own c y)) (sym now_is) (subst (IsAt (selected s b (now c) x.path moment takes) ((now c).pending ++ takes)) same there) in
+      let new = with_selection c (own c y) n moment in
       let fired : fires n.history.entries ≡ fires es = ap fires entries_are ∙ count in
-      record {
+      subst (λ (z : State). HasStepped draw told told c (with_selection c z n moment) did.Selected) (sym same) (record {
         keeps = subst (IsKept new) (sym opened.unended) (record {
           leads = o.leads;
           room = o.room;
           delays = o.delays;
           going = subst (λ (xs : List Entry). IsGoing s b t xs after n.systems.items) (sym entries_are) (subst (λ (ys : List System). IsGoing s b t (es ++ e ∷ []) after ys) (sym systems_are) going);
-          holds = subst (λ (xs : List Entry). Holds s b xs c.shared n.timers n.pending.items) (sym entries_are) holds;
+          at = subst (λ (xs : List Entry). IsAt (situation s b (project xs)) (situation s b (project xs)).pending (own c y)) (sym entries_are) there_now;
           taken = ap (λ (xs : List Entry). length (tickets xs)) entries_are ∙ ap length (tickets_same es e refl) ∙ o.taken;
           fired = fired ∙ o.fired;
-          empty = o.empty;
         });
         goes_on = record {
           program = refl;
@@ -121,21 +105,21 @@ module _ {H : Type 0} where
         adds = adds_on c.end es n.history.entries did.Selected opened.unended (x.path, moment, takes, entries_are);
         waits = refl;
         ends = λ clocked. let wrong : None ≡ Some Clock = sym opened.unended ∙ clocked in absurd (cc);
-      }
+      })
 
   -- it has selected, by a chooser that is left as it is now
   pub selected_by : (draw : Draw H) (told : Option ℕ) (first : H) (c n : Course H) → n.chooser ≡ c.chooser → (at moment : ℕ) (takes : List Pair) (wants : List Wanted)
       → GoesOn 2 c → (due : IsDueAt at c) → MayBeNow told moment c
-      → IsSelection draw c.program.now c.limits.budget (now c) due.first.0.path moment first c.chooser takes wants
-      → n.pending.items ≡ c.pending.items ++ takes
-      → n.timers ≡ renewed due.first.0.path moment wants c.timers
+      → IsSelection draw c.state.program.now c.state.budget (now c) due.first.0.path moment first c.chooser takes wants
+      → (y : State) → y.program ≡ c.state.program → y.budget ≡ c.state.budget
+      → IsAt (selected c.state.program.now c.state.budget (now c) due.first.0.path moment takes) ((now c).pending ++ takes) y
       → n.systems.items ≡ after_selection at due.first.0 (length takes) c.systems.items
       → n.history.entries ≡ c.history.entries ++ noted (Select due.first.0.path moment takes) ∷ []
-      → HasStepped draw told told (record c { chooser = first }) (with_selection c n moment) did.Selected
+      → HasStepped draw told told (record c { chooser = first }) (with_selection c y n moment) did.Selected
   selected_by draw told first c n same at moment takes wants opened due may it =
       selected_step draw told (record c { chooser = first }) n at moment takes wants (still_drawn c first 2 opened) (record { first = due.first; below = due.below })
       (record { no_earlier = may.no_earlier; last = may.last; undelayed = may.undelayed; told = may.told })
-      (subst (λ (h : H). IsSelection draw c.program.now c.limits.budget (now c) due.first.0.path moment first h takes wants) (sym same) it)
+      (subst (λ (h : H). IsSelection draw c.state.program.now c.state.budget (now c) due.first.0.path moment first h takes wants) (sym same) it)
 
   -- ---- refusals
 

@@ -1,46 +1,38 @@
--- What was put is settled, whether it ran or faulted.
-use Rattle.std.proofs.Common.{◌≡◌, ℕ, Bool, true, List, [], ◌∷◌, ◌++◌, Option, Some, None, refl, sym, ap, subst, ◌∙◌}
+-- What was put of the start is settled, whether it ran or faulted.
+use Rattle.std.proofs.Common.{◌≡◌, ℕ, List, [], ◌∷◌, ◌++◌, Option, Some, None, refl, sym, ap, subst, ◌∙◌}
 use Rattle.pascal_values.specs.declared.fault.Fault as fault
-use Rattle.estelle_model.specs.declared.event.Event.TheVariants.{Start, Fault}
-use Rattle.estelle_model.specs.declared.event.End.TheVariants.{Faulted}
+use Rattle.estelle_tree.specs.declared.transition.Pair.{Pair}
+use Rattle.estelle_model.specs.declared.event.Event.TheVariants.{Start}
 use Rattle.estelle_model.specs.declared.job.Done.{Done}
 use Rattle.estelle_model.specs.declared.job.Outcome.{Outcome}
 use Rattle.estelle_model.specs.declared.job.Outcome.TheVariants as outcome
 use Rattle.estelle_model.specs.Subject.{Subject}
-use Rattle.estelle_model.specs.Situation.{Situation}
 use Rattle.estelle_model.specs.Firing.{bare}
-use Rattle.effect_log.specs.declared.shared.Shared.{Shared}
-use Rattle.effect_log.specs.Standing.{Stands}
-use Rattle.effect_log.specs.Putting.{IsRan, after_put}
+use Rattle.effect_log.specs.Putting.{after_put}
+use Rattle.situation_state.specs.declared.state.State.{State}
+use Rattle.situation_state.specs.At.{NothingNoted}
+use Rattle.situation_state.specs.Firings.{failure_of, MayFire, IsFired}
+use Rattle.situation_state.proofs.Fired.{at_fired}
 use Rattle.situation.specs.declared.course.Course.{Course}
-use Rattle.situation.specs.Runs.{noted, ending}
-use Rattle.situation.specs.Worlds.{AreEmpty}
-use Rattle.situation.specs.Steps.{failure_of, HasPut, HasBeenPut, HasFailed, StartedSo}
-
--- what did not fault ran
-pub ran_of : (o : Outcome) → failure_of o ≡ None → IsRan o
-ran_of (outcome.Ran image effects) e = tt
-ran_of (outcome.Faulted kind) e = absurd (cc)
+use Rattle.situation.specs.Runs.{noted}
+use Rattle.situation.specs.Steps.{HasBeenPut, HasFailed, StartedSo}
+use Rattle.situation.proofs.Computed.{own_is}
 
 module _ {H : Type 0} (old : Course H) (done : Done) where
   abbrev s : Subject
-  s = old.program.now
+  s = old.state.program.now
 
-  pub been_put : (m n : Course H) → AreEmpty old.notes → HasPut (bare s) old.notes m done → m ≡ record old { shared = m.shared; notes = m.notes }
-      → n.history.entries ≡ m.history.entries ++ noted (Start m.notes.outs.items m.notes.drops.items) ∷ [] → AreEmpty n.notes → n ≡ record m { history = n.history; notes = n.notes } → HasBeenPut old n done
-  been_put m n empty h is entries_are cleared rest =
-      let program_is : m.program.now ≡ s = ap (λ (x : Course H). x.program.now) is in
+  pub been_put : (m n : Course H) → MayFire (bare s) old.state done → IsFired (bare s) old.state m.state done → m ≡ record old { state = m.state }
+      → n.history.entries ≡ m.history.entries ++ noted (Start m.state.notes.outs.items m.state.notes.drops.items) ∷ [] → NothingNoted n.state.notes → n.state ≡ record m.state { notes = n.state.notes } → n ≡ record m { history = n.history; state = n.state }
+      → HasBeenPut old n done
+  been_put m n may fired is entries_are empty told rest =
       let before_is : m.history.entries ≡ old.history.entries = ap (λ (x : Course H). x.history.entries) is in
-      let shared_is : n.shared ≡ m.shared = ap (λ (x : Course H). x.shared) rest in
-      let outs : m.notes.outs.items ≡ (after_put s (bare s) done).outs = h.outs ∙ (λ i. empty.outs i ++ (after_put (program_is i) (bare s) done).outs) in
-      let drops : m.notes.drops.items ≡ (after_put s (bare s) done).drops = h.drops ∙ (λ i. empty.drops i ++ (after_put (program_is i) (bare s) done).drops) in
+      let program : n.state.program ≡ old.state.program = ap (λ (x : State). x.program) told ∙ ap (λ (x : State). x.program) fired.rest in
+      let budget : n.state.budget ≡ old.state.budget = ap (λ (x : State). x.budget) told ∙ ap (λ (x : State). x.budget) fired.rest in
       record {
-        stands = subst (λ (x : Shared). Stands s x (after_put s (bare s) done).situation) (sym shared_is) (subst (λ (x : Subject). Stands x m.shared (after_put x (bare s) done).situation) program_is h.stands);
-        noted = entries_are ∙ (λ i. before_is i ++ noted (Start (outs i) (drops i)) ∷ []);
-        empty = cleared;
-        rest = rest
-            ∙ ap (λ (x : Course H). record x { history = n.history; notes = n.notes }) is
-            ∙ ap (λ (x : Shared). record old { shared = x; history = n.history; notes = n.notes }) (sym shared_is);
+        put = λ pending at. at_fired (bare s) [] pending old.state m.state n.state done may at fired empty told;
+        noted = entries_are ∙ (λ i. before_is i ++ noted (Start (fired.outs i) (fired.drops i)) ∷ []);
+        rest = rest ∙ ap (λ (x : Course H). record x { history = n.history; state = n.state }) is ∙ (λ i. record old { state = own_is old n.state program budget i; history = n.history });
       }
 
   -- the start ran

@@ -46,7 +46,8 @@ use Rattle.situation.specs.Worlds.{HasOnlyStarted}
 use Rattle.run_history.proofs.Lists.{too_short}
 use Rattle.situation.proofs.Tickets.{still_settled, still_tickets}
 use Rattle.situation.proofs.Steps.{counted_event}
-use Rattle.situation.proofs.Firings.{once_more, made_all}
+use Rattle.situation_state.proofs.Counted.{made_all}
+use Rattle.situation.proofs.Firings.{once_more}
 
 -- a clock tells what it tells
 told_itself : (moment : Option ℕ) → IsTold moment moment

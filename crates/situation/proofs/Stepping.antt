@@ -6,11 +6,13 @@ use Rattle.estelle_model.specs.Choosers.{Draw}
 use Rattle.run_history.specs.declared.entry.Entry.{Entry}
 use Rattle.run_history.specs.Histories.{History, project, fires}
 use Rattle.run_history.specs.Tickets.{tickets}
+use Rattle.estelle_model.specs.Runs.{situation}
+use Rattle.situation_state.specs.At.{IsAt}
 use Rattle.situation.specs.declared.limits.Stepped.{Stepped}
 use Rattle.situation.specs.declared.limits.Stepped.TheVariants as did
 use Rattle.situation.specs.declared.course.Course.{Course}
 use Rattle.situation.specs.Runs.{IsGoing, IsClosed, AreAllTaken, AreReached}
-use Rattle.situation.specs.Worlds.{Holds, IsOpenCourse, IsKept, IsCourse, HasStepped, IsUnchanged, Adds, Waits, Leaves, work, left_to_do}
+use Rattle.situation.specs.Worlds.{IsOpenCourse, IsKept, IsCourse, HasStepped, IsUnchanged, Adds, Waits, Leaves, work, left_to_do}
 use Rattle.situation.specs.Steps.{GoesOn}
 use Rattle.situation.proofs.Ended.{says}
 
@@ -34,21 +36,19 @@ module _ {H : Type 0} where
     leads = k.leads;
     room = k.room;
     delays = k.delays;
-    going = subst (λ (es : List Entry). IsGoing c.program.now c.limits.budget c.limits.turns es c.time c.systems.items) (sym same) k.going;
-    holds = subst (λ (es : List Entry). Holds c.program.now c.limits.budget es c.shared c.timers c.pending.items) (sym same) k.holds;
+    going = subst (λ (es : List Entry). IsGoing c.state.program.now c.state.budget c.turns es c.time c.systems.items) (sym same) k.going;
+    at = subst (λ (es : List Entry). IsAt (situation c.state.program.now c.state.budget (project es)) (situation c.state.program.now c.state.budget (project es)).pending c.state) (sym same) k.at;
     taken = ap (λ (es : List Entry). length (tickets es)) same ∙ k.taken;
     fired = ap fires same ∙ k.fired;
-    empty = k.empty;
   }
   kept_so c h same (Some e) k = record {
     leads = k.leads;
     room = k.room;
     delays = k.delays;
-    closed = subst (λ (es : List Entry). IsClosed c.program.now c.limits.budget c.limits.turns es c.time.waited e) (sym same) k.closed;
-    holds = subst (λ (es : List Entry). Holds c.program.now c.limits.budget es c.shared c.timers c.pending.items) (sym same) k.holds;
+    closed = subst (λ (es : List Entry). IsClosed c.state.program.now c.state.budget c.turns es c.time.waited e) (sym same) k.closed;
+    at = subst (λ (es : List Entry). IsAt (situation c.state.program.now c.state.budget (project es)) (situation c.state.program.now c.state.budget (project es)).pending c.state) (sym same) k.at;
     taken = ap (λ (es : List Entry). length (tickets es)) same ∙ k.taken;
     fired = subst (λ (es : List Entry). AreAllTaken e (fires es) c.tickets) (sym same) k.fired;
-    empty = k.empty;
   }
 
   -- it is the same run
@@ -72,11 +72,11 @@ module _ {H : Type 0} where
     goes_on = record {
       program = s.goes_on.program;
       limits = s.goes_on.limits;
-      reached = λ clock first r. s.goes_on.reached clock first (subst (λ (es : List Entry). AreReached draw c.program.now c.limits.budget c.limits.turns clock first es c.chooser c.time moment) (sym same) r);
+      reached = λ clock first r. s.goes_on.reached clock first (subst (λ (es : List Entry). AreReached draw c.state.program.now c.state.budget c.turns clock first es c.chooser c.time moment) (sym same) r);
     };
-    leaves = leaves_so (with_history c h) c n d (ap (λ (es : List Entry). work c.limits.turns (fires es) c.systems.items c.time.may_wait c.end) same) s.leaves;
+    leaves = leaves_so (with_history c h) c n d (ap (λ (es : List Entry). work c.turns (fires es) c.systems.items c.time.may_wait c.end) same) s.leaves;
     adds = subst (λ (es : List Entry). Adds c.end es n.history.entries d) same s.adds;
-    waits = subst (λ (es : List Entry). Waits c.program.now c.limits.budget es c.time n.time d) same s.waits;
+    waits = subst (λ (es : List Entry). Waits c.state.program.now c.state.budget es c.time n.time d) same s.waits;
     ends = s.ends;
   }
 

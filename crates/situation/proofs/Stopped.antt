@@ -24,5 +24,5 @@ closed_stops draw s budget turns clock moment first c entries time e closed reac
 
 -- a course that has ended so
 pub course_stops : {H : Type 0} (draw : Draw H) (c : Course H) → IsCourse c → (clock moment : Option ℕ) (first : H) → IsReached draw clock first c moment → (e : End) → c.end ≡ Some e
-    → IsStopped draw first clock c.program.now c.limits.budget c.limits.turns (project c.history.entries) e
-course_stops draw c keeps clock moment first reached e is = closed_stops draw c.program.now c.limits.budget c.limits.turns clock moment first c.chooser c.history.entries c.time e (subst (IsKept c) is keeps).closed reached
+    → IsStopped draw first clock c.state.program.now c.state.budget c.turns (project c.history.entries) e
+course_stops draw c keeps clock moment first reached e is = closed_stops draw c.state.program.now c.state.budget c.turns clock moment first c.chooser c.history.entries c.time e (subst (IsKept c) is keeps).closed reached

@@ -27,9 +27,9 @@ use Rattle.situation.proofs.Less.{less_waited, left_open}
 
 module _ {H : Type 0} where
   -- the clock is waited for
-  pub may_wait : (c : Course H) (due : ℕ) → IsOpenCourse c → MayWaitFor due c → MayWait c.program.now c.limits.budget (project c.history.entries) c.time due
+  pub may_wait : (c : Course H) (due : ℕ) → IsOpenCourse c → MayWaitFor due c → MayWait c.state.program.now c.state.budget (project c.history.entries) c.time due
   may_wait c due o may =
-      timers_are_waited_for c.program.now o.leads c.limits.budget (project c.history.entries) c.time c.systems.items o.going.under_way may.idle.none_due (sym o.holds.pending ∙ may.idle.none) due (ap next_due (sym o.holds.timers) ∙ may.due)
+      timers_are_waited_for c.state.program.now o.leads c.state.budget (project c.history.entries) c.time c.systems.items o.going.under_way may.idle.none_due (sym o.at.left ∙ may.idle.none) due (ap next_due (sym o.at.timers) ∙ may.due)
 
   -- so some transition has a delay
   pub waits_delayed : (c : Course H) (due : ℕ) → IsOpenCourse c → MayWaitFor due c → c.delays ≡ true
@@ -44,13 +44,13 @@ module _ {H : Type 0} where
       → n.systems.items ≡ map after_wait c.systems.items → HasStepped draw told after c (with_wait c n moment) did.Waited
   waited_step draw told after c n due moment opened may no_earlier is moved systems_are =
       let o = opened.is_open in
-      let s = c.program.now in
-      let b = c.limits.budget in
-      let t = c.limits.turns in
+      let s = c.state.program.now in
+      let b = c.state.budget in
+      let t = c.turns in
       let es = c.history.entries in
       let w = may_wait c due o may in
       let time : Time = record { known = moment; waited = length (project es); may_wait = false } in
-      let under_way = waits_go_on s o.leads b (project es) c.time c.systems.items o.going.under_way may.idle.none_due (sym o.holds.pending ∙ may.idle.none) due (ap next_due (sym o.holds.timers) ∙ may.due) moment no_earlier in
+      let under_way = waits_go_on s o.leads b (project es) c.time c.systems.items o.going.under_way may.idle.none_due (sym o.at.left ∙ may.idle.none) due (ap next_due (sym o.at.timers) ∙ may.due) moment no_earlier in
       let going : IsGoing s b t es time (map after_wait c.systems.items) = record {
         under_way = under_way;
         below = o.going.below;
@@ -67,10 +67,9 @@ module _ {H : Type 0} where
           room = o.room;
           delays = o.delays;
           going = subst (IsGoing s b t es time) (sym systems_are) going;
-          holds = o.holds;
+          at = o.at;
           taken = o.taken;
           fired = o.fired;
-          empty = o.empty;
         });
         goes_on = record {
           program = refl;

@@ -5,7 +5,6 @@ pub mod Known
 -- ---- what a world keeps
 pub mod Worlds
 -- ---- what the functions of this crate tell each other
-pub mod Systems
 pub mod Putting
+pub mod Systems
 pub mod Steps
-pub mod Taking

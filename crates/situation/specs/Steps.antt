@@ -1,6 +1,7 @@
 -- What the functions that make a step tell each other.
-use Rattle.std.specs.Prelude.{◌≡◌, ◌≢◌, ◌⊎◌, ◌≤◌, ◌<◌, ◌+◌, ◌^◌, ℕ, max, true, false, List, [], ◌∷◌, ◌++◌, map as each, slice_get, Option, Some, None, IfSome, Contains}
+use Rattle.std.specs.Prelude.{◌≡◌, ◌≢◌, ◌⊎◌, ◌≤◌, ◌<◌, ◌^◌, ℕ, max, true, false, List, [], ◌∷◌, ◌++◌, map as each, slice_get, Option, Some, None, IfSome, Contains}
 use Rattle.std.specs.FinMap as map
+use Rattle.std.specs.List.{remove}
 use Rattle.outside.specs.Counts.{Rose}
 use Rattle.pascal_values.specs.declared.fault.Fault.{Fault}
 use Rattle.estelle_tree.specs.Paths.{Path}
@@ -18,16 +19,17 @@ use Rattle.estelle_model.specs.Subject.{Subject}
 use Rattle.estelle_model.specs.Situation.{Situation}
 use Rattle.estelle_model.specs.Firing.{start, bare}
 use Rattle.estelle_model.specs.Delays.{has_delays}
-use Rattle.estelle_model.specs.Runs.{IsFirstFault, without}
+use Rattle.estelle_model.specs.Runs.{IsFirstFault}
 use Rattle.estelle_model.specs.Choosers.{Draw, Picks}
 use Rattle.estelle_model.specs.Jobs.{Answers}
 use Rattle.estelle_model_legality.specs.Situations.{IsLegal}
-use Rattle.effect_log.specs.declared.notes.Notes.{Notes}
 use Rattle.effect_log.specs.Standing.{Stands}
-use Rattle.effect_log.specs.Putting.{IsRan, log_of, AnswersIn, after_put}
-use Rattle.effect_log.specs.Rooms.{outputs_in, HasRoomFor}
+use Rattle.effect_log.specs.Putting.{IsRan, after_put}
+use Rattle.effect_log.specs.Rooms.{HasRoomFor}
 use Rattle.run_history.specs.Histories.{fires}
 use Rattle.situation_offers.specs.Selections.{IsSelection}
+use Rattle.situation_state.specs.At.{IsAt, IsBare}
+use Rattle.situation_state.specs.Firings.{MayFire}
 use Rattle.situation_steps.specs.declared.systems.System.{System}
 use Rattle.situation_steps.specs.Systems.{systems_of, first_kept, after_firing, NoneIsDue}
 use Rattle.situation_steps.specs.Laws.{first_time}
@@ -38,12 +40,7 @@ use Rattle.situation.specs.declared.limits.Stepped.TheVariants as stepped
 use Rattle.situation.specs.Runs.{noted, ending, IsJobFor}
 use Rattle.situation_images.specs.Putting.{arrivals_of}
 use Rattle.situation.specs.Systems.{IsFirstOne}
-use Rattle.situation.specs.Worlds.{IsOpenCourse, IsCourse, AreEmpty, HasStepped, IsOfProgram, HasBegun, HasOnlyStarted, now}
-
--- the fault, if it is one
-abbrev pub failure_of : Outcome → Option Fault
-failure_of (outcome.Ran image effects) = None
-failure_of (outcome.Faulted kind) = Some kind
+use Rattle.situation.specs.Worlds.{IsOpenCourse, IsCourse, HasStepped, IsOfProgram, HasBegun, HasOnlyStarted, now}
 
 -- a run ends by the clock only where the clock's count of faults rose, or where it had ended so
 abbrev pub IsCause : Option End → ℕ → ℕ → Stepped → Type 0
@@ -59,24 +56,24 @@ module _ {H : Type 0} where
   -- the system with this number is the first that is due
   pub record IsDueAt (at : ℕ) (c : Course H) : Type 0 where
     pub first : IsFirstOne c.systems.items at
-    pub below : fires c.history.entries < c.limits.turns
+    pub below : fires c.history.entries < c.turns
 
   -- no system is due, and a pending firing is next
   pub record IsReady (c : Course H) : Type 0 where
     pub none_due : NoneIsDue c.systems.items
-    pub some : c.pending.items ≢ []
-    pub below : fires c.history.entries < c.limits.turns
+    pub some : c.state.untaken.items ≢ []
+    pub below : fires c.history.entries < c.turns
 
   -- no system is due, and nothing is pending
   pub record IsIdle (c : Course H) : Type 0 where
     pub none_due : NoneIsDue c.systems.items
-    pub none : c.pending.items ≡ []
-    pub below : fires c.history.entries < c.limits.turns
+    pub none : c.state.untaken.items ≡ []
+    pub below : fires c.history.entries < c.turns
 
   -- and this is the next moment that is due
   pub record MayWaitFor (next : ℕ) (c : Course H) : Type 0 where
     pub idle : IsIdle c
-    pub due : next_due c.timers ≡ Some next
+    pub due : next_due c.state.timers ≡ Some next
 
   -- ---- selections
 
@@ -89,7 +86,7 @@ module _ {H : Type 0} where
 
   -- the system with this number selects so in the situation that the run has come to, by this chooser, which is left as it is now
   abbrev pub IsSelectedAt : Draw H → ℕ → ℕ → H → Course H → List Pair → List Wanted → Type 0
-  IsSelectedAt draw at moment first c takes wants = (x : System) → slice_get c.systems.items at ≡ Some x → IsSelection draw c.program.now c.limits.budget (now c) x.path moment first c.chooser takes wants
+  IsSelectedAt draw at moment first c takes wants = (x : System) → slice_get c.systems.items at ≡ Some x → IsSelection draw c.state.program.now c.state.budget (now c) x.path moment first c.chooser takes wants
 
   -- what a selection comes to, where this chooser was asked for it
   abbrev pub HasSelected : Draw H → ℕ → ℕ → List Pair → List Wanted → Course H → Course H → Stepped → Type 0
@@ -97,94 +94,71 @@ module _ {H : Type 0} where
 
   -- of its guards this is the first that faults
   abbrev pub IsFaultAt : ℕ → Course H → Path → ℕ → Fault → Type 0
-  IsFaultAt at c m n kind = (x : System) → slice_get c.systems.items at ≡ Some x → IsFirstFault c.program.now c.limits.budget (now c) x.path m n kind
-
-  -- ---- what is put
-
-  -- what was done answers in this situation, for which the shared state stands, and there is room for it
-  pub record MayPut (g : Situation) (c : Course H) (done : Done) : Type 0 where
-    pub stands : Stands c.program.now c.shared g
-    pub answers : AnswersIn c.program.now g done
-    pub room : HasRoomFor done.outcome c.shared c.notes
-    pub numbers : c.shared.outputs + outputs_in (log_of done.outcome) < 2 ^ 64
-
-  -- the shared state stands for the situation after it, and its outputs and drops are noted
-  pub record HasPut (g : Situation) (before : Notes) (c : Course H) (done : Done) : Type 0 where
-    pub stands : Stands c.program.now c.shared (after_put c.program.now g done).situation
-    pub outs : c.notes.outs.items ≡ before.outs.items ++ (after_put c.program.now g done).outs
-    pub drops : c.notes.drops.items ≡ before.drops.items ++ (after_put c.program.now g done).drops
-    pub arrivals : c.notes.arrivals.items ≡ before.arrivals.items ++ arrivals_of c.program.now g done
+  IsFaultAt at c m n kind = (x : System) → slice_get c.systems.items at ≡ Some x → IsFirstFault c.state.program.now c.state.budget (now c) x.path m n kind
 
   -- ---- what is computed
 
   -- it is what was computed of a pending firing, and there is memory for it
   pub record IsComputed (c : Course H) (p : Pair) (done : Done) : Type 0 where
-    pub pending : Contains c.pending.items p
+    pub pending : Contains c.state.untaken.items p
     pub job : Job
-    pub is_for : IsJobFor c.program.now (now c) c.limits.budget p job
-    pub answers : Answers c.program.now job done
-    pub room : HasRoomFor done.outcome c.shared c.notes
+    pub is_for : IsJobFor c.state.program.now (now c) c.state.budget p job
+    pub answers : Answers c.state.program.now job done
+    pub room : HasRoomFor done.outcome c.state.shared c.state.notes
 
   -- of the pending firing with this number
   abbrev pub IsComputedAt : ℕ → Course H → Done → Type 0
-  IsComputedAt at c done = (p : Pair) × (slice_get c.pending.items at ≡ Some p) × IsComputed c p done
+  IsComputedAt at c done = (p : Pair) × (slice_get c.state.untaken.items at ≡ Some p) × IsComputed c p done
 
   -- what was computed may be put, if it ran, and there is memory for its entries
   pub record MaySettle (g : Situation) (c : Course H) (done : Done) : Type 0 where
-    pub may : IsRan done.outcome → MayPut g c done
-    pub empty : AreEmpty c.notes
+    pub may : IsRan done.outcome → MayFire g c.state done
     pub spare : 2 ≤ c.history.spare
 
-  -- the firing was put and noted, and is no longer pending
-  pub record HasFired (g : Situation) (old new : Course H) (path : Path) (trans : ℕ) (done : Done) : Type 0 where
-    pub stands : Stands old.program.now new.shared (after_put old.program.now g done).situation
-    pub noted : new.history.entries ≡ old.history.entries ++ noted (event.Fire path trans (after_put old.program.now g done).outs (after_put old.program.now g done).drops) ∷ []
-    pub empty : AreEmpty new.notes
-    pub systems : new.systems.items ≡ each (after_firing path (arrivals_of old.program.now g done)) old.systems.items
-    pub timers : new.timers ≡ map.remove old.timers (pair path trans)
-    pub pending : new.pending.items ≡ without (pair path trans) old.pending.items
-    pub rest : new ≡ record old { shared = new.shared; history = new.history; notes = new.notes; timers = new.timers; pending = new.pending; systems = new.systems; time = record old.time { may_wait = true } }
+  -- the firing at a place was put and noted, and is no longer pending
+  pub record HasFired (g : Situation) (old new : Course H) (at : ℕ) (done : Done) : Type 0 where
+    pub fired : (ps pending : List Pair) → IsAt g ps old.state
+        → IsAt (record (after_put old.state.program.now g done).situation { timers = map.remove g.timers (pair done.path done.trans); pending = pending }) (remove ps at) new.state
+    pub noted : new.history.entries ≡ old.history.entries ++ noted (event.Fire done.path done.trans (after_put old.state.program.now g done).outs (after_put old.state.program.now g done).drops) ∷ []
+    pub systems : new.systems.items ≡ each (after_firing done.path (arrivals_of old.state.program.now g done)) old.systems.items
+    pub rest : new ≡ record old { state = record new.state { program = old.state.program; budget = old.state.budget }; history = new.history; systems = new.systems; time = record old.time { may_wait = true } }
 
   -- its fault was noted, which ends the run
   pub record HasFailed (old new : Course H) (path : Path) (trans : ℕ) (kind : Fault) : Type 0 where
     pub noted : new.history.entries ≡ (old.history.entries ++ noted (event.Fault path trans kind) ∷ []) ++ ending (Faulted kind) ∷ []
     pub rest : new ≡ record old { history = new.history; end = Some (Faulted kind) }
 
-  abbrev pub SettledSo : Situation → Course H → Course H → Path → ℕ → Done → Outcome → Stepped → Type 0
-  SettledSo g old new path trans done (outcome.Ran image effects) did = HasFired g old new path trans done × (did ≡ stepped.Fired)
-  SettledSo g old new path trans done (outcome.Faulted kind) did = HasFailed old new path trans kind × (did ≡ stepped.Faulted)
+  abbrev pub SettledSo : Situation → Course H → Course H → ℕ → Done → Outcome → Stepped → Type 0
+  SettledSo g old new at done (outcome.Ran image effects) did = HasFired g old new at done × (did ≡ stepped.Fired)
+  SettledSo g old new at done (outcome.Faulted kind) did = HasFailed old new done.path done.trans kind × (did ≡ stepped.Faulted)
 
-  abbrev pub HasSettled : Situation → Course H → Course H → Path → ℕ → Done → Stepped → Type 0
-  HasSettled g old new path trans done did = SettledSo g old new path trans done done.outcome did
+  abbrev pub HasSettled : Situation → Course H → Course H → ℕ → Done → Stepped → Type 0
+  HasSettled g old new at done did = SettledSo g old new at done done.outcome did
 
   -- what a firing that was picked comes to, where this chooser was asked for it
   abbrev pub HasCommitted : Draw H → Course H → Course H → Path → ℕ → Stepped → Type 0
-  HasCommitted draw old new path trans did = (first : H) (moment : Option ℕ) → Picks draw first old.pending.items (pair path trans) old.chooser → HasStepped draw moment moment (record old { chooser = first }) new did
+  HasCommitted draw old new path trans did = (first : H) (moment : Option ℕ) → Picks draw first old.state.untaken.items (pair path trans) old.chooser → HasStepped draw moment moment (record old { chooser = first }) new did
 
   -- ---- the start
 
   -- nothing has happened yet, and the shared state stands for the situation before the initialization
   pub record IsFresh (s : Subject) (limits : Limits) (chooser : H) (c : Course H) : Type 0 where
-    pub program : c.program.now ≡ s
-    pub limits_are : c.limits ≡ limits
+    pub state : IsBare s limits.budget c.state
+    pub turns : c.turns ≡ limits.turns
     pub delays : c.delays ≡ has_delays s
-    pub stands : Stands s c.shared (bare s)
-    pub timers : c.timers ≡ map.empty
-    pub pending : c.pending.items ≡ []
     pub systems : c.systems.items ≡ []
     pub time : c.time ≡ first_time
     pub entries : c.history.entries ≡ []
     pub tickets : c.tickets ≡ 0
     pub unended : c.end ≡ None
-    pub empty : AreEmpty c.notes
     pub chooser_is : c.chooser ≡ chooser
 
   -- the start was put and noted
   pub record HasBeenPut (old new : Course H) (done : Done) : Type 0 where
-    pub stands : Stands old.program.now new.shared (after_put old.program.now (bare old.program.now) done).situation
-    pub noted : new.history.entries ≡ old.history.entries ++ noted (event.Start (after_put old.program.now (bare old.program.now) done).outs (after_put old.program.now (bare old.program.now) done).drops) ∷ []
-    pub empty : AreEmpty new.notes
-    pub rest : new ≡ record old { shared = new.shared; history = new.history; notes = new.notes }
+    pub put : (pending : List Pair) → IsAt (bare old.state.program.now) [] old.state
+        → IsAt (record (after_put old.state.program.now (bare old.state.program.now) done).situation { timers = map.remove map.empty (pair done.path done.trans); pending = pending }) [] new.state
+    pub noted : new.history.entries ≡ old.history.entries ++ noted (event.Start (after_put old.state.program.now (bare old.state.program.now) done).outs (after_put old.state.program.now (bare old.state.program.now) done).drops) ∷ []
+    pub rest : new ≡ record old { state = record new.state { program = old.state.program; budget = old.state.budget }; history = new.history }
 
   abbrev pub StartedSo : Course H → Course H → Done → Outcome → Type 0
   StartedSo old new done (outcome.Ran image effects) = HasBeenPut old new done
@@ -195,7 +169,7 @@ module _ {H : Type 0} where
 
   -- all systems are known, where there is no end yet
   abbrev pub FindsSystems : Option End → Course H → Course H → Type 0
-  FindsSystems None old new = ((g : Situation) → Stands old.program.now old.shared g → IsLegal old.program.now g → new.systems.items ≡ each first_kept (systems_of old.program.now g)) × (new ≡ record old { systems = new.systems })
+  FindsSystems None old new = ((g : Situation) → Stands old.state.program.now old.state.shared g → IsLegal old.state.program.now g → new.systems.items ≡ each first_kept (systems_of old.state.program.now g)) × (new ≡ record old { systems = new.systems })
   FindsSystems (Some e) old new = new ≡ old
 
   abbrev pub HasAllSystems : Course H → Course H → Type 0
@@ -206,6 +180,6 @@ module _ {H : Type 0} where
     pub keeps : IsCourse c
     pub of : IsOfProgram s limits c
     pub begun : (moment : Option ℕ) → HasBegun draw moment chooser c
-    pub starts : HasOnlyStarted (start c.program.now c.limits.budget) c.history.entries c.end
+    pub starts : HasOnlyStarted (start c.state.program.now c.state.budget) c.history.entries c.end
     pub time : c.time ≡ first_time
     pub unclocked : c.end ≢ Some Clock

@@ -2,7 +2,6 @@
 use Rattle.std.specs.Prelude.{◌≡◌, ◌≤◌, ◌<◌, ℕ, ◌+◌, ◌-◌, ◌*◌, ◌^◌, ◌++◌, ◌∷◌, Bool, if◌then◌else◌, List, [], length, count_by, Option, Some, None}
 use Rattle.estelle_tree.specs.declared.transition.Pair.{Pair}
 use Rattle.estelle_tree.specs.Paths.{Path}
-use Rattle.estelle_tree.specs.Timers.{Timers}
 use Rattle.pascal_values.specs.declared.fault.Fault.{Fault}
 use Rattle.estelle_model.specs.declared.effect.Out.{Out}
 use Rattle.estelle_model.specs.declared.event.Event.{Event}
@@ -17,12 +16,10 @@ use Rattle.estelle_model.specs.Runs.{situation}
 use Rattle.estelle_model.specs.Choosers.{Draw}
 use Rattle.estelle_model.specs.Schedule.{IsWaiting, wait_until}
 use Rattle.estelle_model_legality.specs.Instances.{LeadsToStates}
-use Rattle.effect_log.specs.declared.shared.Shared.{Shared}
-use Rattle.effect_log.specs.declared.notes.Notes.{Notes}
-use Rattle.effect_log.specs.Standing.{Stands}
 use Rattle.run_history.specs.declared.entry.Entry.{Entry}
 use Rattle.run_history.specs.Histories.{project, fires}
 use Rattle.run_history.specs.Tickets.{tickets}
+use Rattle.situation_state.specs.At.{IsAt}
 use Rattle.situation_steps.specs.declared.systems.System.{System}
 use Rattle.situation_steps.specs.declared.systems.Time.{Time}
 use Rattle.situation.specs.declared.limits.Limits.{Limits}
@@ -30,18 +27,6 @@ use Rattle.situation.specs.declared.limits.Stepped.{Stepped}
 use Rattle.situation.specs.declared.limits.Stepped.TheVariants as stepped
 use Rattle.situation.specs.declared.course.Course.{Course}
 use Rattle.situation.specs.Runs.{noted, ending, take_of, IsGoing, IsClosed, AreAllTaken, AreReached}
-
--- the shared state, the timers and what is pending are those of the situation that the events of a history lead to
-pub record Holds (s : Subject) (budget : ℕ) (entries : List Entry) (shared : Shared) (running : Timers) (waiting : List Pair) : Type 0 where
-  pub stands : Stands s shared (situation s budget (project entries))
-  pub timers : running ≡ (situation s budget (project entries)).timers
-  pub pending : waiting ≡ (situation s budget (project entries)).pending
-
--- nothing is noted
-pub record AreEmpty (notes : Notes) : Type 0 where
-  pub outs : notes.outs.items ≡ []
-  pub drops : notes.drops.items ≡ []
-  pub arrivals : notes.arrivals.items ≡ []
 
 -- how many steps there can be before a run ends: between two waits for the clock something fires, and between two firings each system selects at most once, and once more after a wait
 abbrev pub work : ℕ → ℕ → List System → Bool → Option End → ℕ
@@ -88,34 +73,35 @@ module _ {H : Type 0} where
   abbrev pub entries_of : Course H → List Entry
   entries_of c = c.history.entries
 
+  abbrev pub limits_of : Course H → Limits
+  limits_of c = record { turns = c.turns; budget = c.state.budget }
+
   -- the situation that the run has come to
   abbrev pub now : Course H → Situation
-  now c = situation c.program.now c.limits.budget (project c.history.entries)
+  now c = situation c.state.program.now c.state.budget (project c.history.entries)
 
   -- what is kept of a run that goes on
   pub record IsOpenCourse (c : Course H) : Type 0 where
     -- bodies lead to states of their own, and no count comes to its end
-    pub leads : LeadsToStates c.program.now
-    pub room : c.limits.budget * (c.limits.turns + 1) < 2 ^ 63
-    pub delays : c.delays ≡ has_delays c.program.now
-    pub going : IsGoing c.program.now c.limits.budget c.limits.turns c.history.entries c.time c.systems.items
-    pub holds : Holds c.program.now c.limits.budget c.history.entries c.shared c.timers c.pending.items
+    pub leads : LeadsToStates c.state.program.now
+    pub room : c.state.budget * (c.turns + 1) < 2 ^ 63
+    pub delays : c.delays ≡ has_delays c.state.program.now
+    pub going : IsGoing c.state.program.now c.state.budget c.turns c.history.entries c.time c.systems.items
+    pub at : IsAt (now c) (now c).pending c.state
     -- so many firings were taken, and there have been as many
     pub taken : length (tickets c.history.entries) ≡ c.tickets
     pub fired : fires c.history.entries ≡ c.tickets
-    pub empty : AreEmpty c.notes
 
   -- what is kept of one that has ended so
   pub record IsEndedCourse (c : Course H) (e : End) : Type 0 where
-    pub leads : LeadsToStates c.program.now
-    pub room : c.limits.budget * (c.limits.turns + 1) < 2 ^ 63
-    pub delays : c.delays ≡ has_delays c.program.now
-    pub closed : IsClosed c.program.now c.limits.budget c.limits.turns c.history.entries c.time.waited e
+    pub leads : LeadsToStates c.state.program.now
+    pub room : c.state.budget * (c.turns + 1) < 2 ^ 63
+    pub delays : c.delays ≡ has_delays c.state.program.now
+    pub closed : IsClosed c.state.program.now c.state.budget c.turns c.history.entries c.time.waited e
     -- a fault leaves all as it was, so that the firing that faulted is pending
-    pub holds : Holds c.program.now c.limits.budget c.history.entries c.shared c.timers c.pending.items
+    pub at : IsAt (now c) (now c).pending c.state
     pub taken : length (tickets c.history.entries) ≡ c.tickets
     pub fired : AreAllTaken e (fires c.history.entries) c.tickets
-    pub empty : AreEmpty c.notes
 
   abbrev pub IsKept : Course H → Option End → Type 0
   IsKept c None = IsOpenCourse c
@@ -125,12 +111,12 @@ module _ {H : Type 0} where
   IsCourse c = IsKept c c.end
 
   pub record IsOfProgram (s : Subject) (limits : Limits) (c : Course H) : Type 0 where
-    pub subject : c.program.now ≡ s
-    pub same : c.limits ≡ limits
+    pub subject : c.state.program.now ≡ s
+    pub same : limits_of c ≡ limits
 
   -- from this chooser and a clock that tells the first moment, or none, the planned steps lead to the course, and to a clock that tells this
   abbrev pub IsReached : Draw H → Option ℕ → H → Course H → Option ℕ → Type 0
-  IsReached draw clock first c moment = AreReached draw c.program.now c.limits.budget c.limits.turns clock first c.history.entries c.chooser c.time moment
+  IsReached draw clock first c moment = AreReached draw c.state.program.now c.state.budget c.turns clock first c.history.entries c.chooser c.time moment
 
   -- before its first step, with a clock that tells this
   abbrev pub HasBegun : Draw H → Option ℕ → H → Course H → Type 0
@@ -138,12 +124,12 @@ module _ {H : Type 0} where
 
   -- a step, in which the clock came from telling one moment to telling another, is the planned one
   pub record HasGoneOn (draw : Draw H) (moment moment' : Option ℕ) (before after : Course H) : Type 0 where
-    pub program : after.program ≡ before.program
-    pub limits : after.limits ≡ before.limits
+    pub program : after.state.program ≡ before.state.program
+    pub limits : limits_of after ≡ limits_of before
     pub reached : (clock : Option ℕ) (first : H) → IsReached draw clock first before moment → IsReached draw clock first after moment'
 
   abbrev pub left_to_do : Course H → ℕ
-  left_to_do c = work c.limits.turns (fires c.history.entries) c.systems.items c.time.may_wait c.end
+  left_to_do c = work c.turns (fires c.history.entries) c.systems.items c.time.may_wait c.end
 
   -- a step that is not the end leaves less to do
   abbrev pub Leaves : Course H → Course H → Stepped → Type 0
@@ -156,15 +142,15 @@ module _ {H : Type 0} where
     pub goes_on : HasGoneOn draw moment moment' before after
     pub leaves : Leaves before after did
     pub adds : Adds before.end before.history.entries after.history.entries did
-    pub waits : Waits before.program.now before.limits.budget before.history.entries before.time after.time did
+    pub waits : Waits before.state.program.now before.state.budget before.history.entries before.time after.time did
     -- it has ended by the clock only if it says so
     pub ends : after.end ≡ Some Clock → did ≡ stepped.Ended Clock
 
   -- after a refusal the run is as before
   pub record IsUnchanged (before after : Course H) : Type 0 where
     pub keeps : IsCourse after
-    pub program : after.program ≡ before.program
-    pub limits : after.limits ≡ before.limits
+    pub program : after.state.program ≡ before.state.program
+    pub limits : limits_of after ≡ limits_of before
     pub entries : entries_of after ≡ entries_of before
     pub time : after.time ≡ before.time
     pub systems : after.systems.items ≡ before.systems.items

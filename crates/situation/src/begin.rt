@@ -6,52 +6,50 @@ ghost use Rattle.estelle_model_legality.specs.Instances.{LeadsToStates};
 ghost use Rattle.situation.specs.Runs.{noted};
 ghost use Rattle.situation.specs.Steps.{IsFresh, IsBegun};
 
-use crate::course::{Course, event, fault_in};
+use crate::course::{Course, event};
 use crate::delays::has_delays;
 use crate::limits::Limits;
 use crate::systems::all_systems;
 use body_program::Program;
 use compiled_program::CompiledProgram;
-use delay_timers::Timers;
-use effect_log::Notes;
 use estelle_model::{Done, Event};
 use estelle_tree::Path;
 use outside::Chooser;
 use run_history::History;
-use situation_images::{bare_shared, put_start, start_job};
+use situation_state::{State, fault_in};
 use situation_steps::Time;
 use std::alloc::{AllocError, Global};
 
 impl<H: Chooser + Drop> Course<'_, H> {
-    ghost use Rattle.effect_log.specs.Putting.{IsRan};
     ghost use Rattle.estelle_model.specs.Firing.{bare};
-    ghost use Rattle.situation.specs.Worlds.{AreEmpty};
-    ghost use Rattle.situation.specs.Steps.{MayPut, HasPut, MaySettle, HasStarted, HasAllSystems};
+    ghost use Rattle.situation_state.specs.At.{NothingNoted};
+    ghost use Rattle.situation_state.specs.Firings.{MayFire, IsFired};
+    ghost use Rattle.situation.specs.Steps.{MaySettle, HasStarted, HasAllSystems};
 
     /// Notes the start that was put.
     fn note_start(&mut self, alloc: Global)
         requires { 1 ≤ self.old.history.spare }
-        ensures noted { self.new.history.entries ≡ self.old.history.entries ++ noted (events.Start self.old.notes.outs.items self.old.notes.drops.items) ∷ [] }
-        ensures empty { AreEmpty self.new.notes }
-        ensures rest { self.new ≡ record self.old { history = self.new.history; notes = self.new.notes } }
+        ensures noted { self.new.history.entries ≡ self.old.history.entries ++ noted (events.Start self.old.state.notes.outs.items self.old.state.notes.drops.items) ∷ [] }
+        ensures empty { NothingNoted self.new.state.notes }
+        ensures told { self.new.state ≡ record self.old.state { notes = self.new.state.notes } }
+        ensures rest { self.new ≡ record self.old { history = self.new.history; state = self.new.state } }
     {
-        let (outs, drops) = self.take_notes(alloc);
+        let (outs, drops) = self.state.take_told(alloc);
         self.history.add(event(Event::Start { outs, drops }));
     }
 
-    /// Puts what the initialization did into the situation before it.
+    /// Puts what the initialization did.
     fn put_first(&mut self, done: Done)
-        requires ran { IsRan done.outcome }
-        requires may { MayPut (bare self.old.program.now) self.old done }
-        ensures put { HasPut (bare self.old.program.now) self.old.notes self.new done }
-        ensures rest { self.new ≡ record self.old { shared = self.new.shared; notes = self.new.notes } }
+        requires { MayFire (bare self.old.state.program.now) self.old.state done }
+        ensures put { IsFired (bare self.old.state.program.now) self.old.state self.new.state done }
+        ensures rest { self.new ≡ record self.old { state = self.new.state } }
     {
-        put_start(self.program, &mut self.shared, done, &mut self.notes);
+        self.state.fire_start(done);
     }
 
     /// Puts what the initialization did into the situation, and notes it, or its fault.
     fn start(&mut self, alloc: Global, done: Done)
-        requires { MaySettle (bare self.old.program.now) self.old done }
+        requires { MaySettle (bare self.old.state.program.now) self.old done }
         ensures { HasStarted self.old self.new done }
     {
         match fault_in(&done.outcome) {
@@ -68,7 +66,7 @@ impl<H: Chooser + Drop> Course<'_, H> {
         ensures { OnOk result (HasAllSystems self.old self.new) }
     {
         if self.end.is_none() {
-            self.systems = all_systems(alloc, self.program, &self.shared)?;
+            self.systems = all_systems(alloc, &self.state)?;
         }
         Ok(())
     }
@@ -84,12 +82,9 @@ fn fresh<'a, H: Chooser + Drop>(
     ensures { IfOk result (IsFresh program.now limits chooser) }
 {
     Ok(Course {
-        program,
-        limits,
+        state: State::bare(alloc, program, limits.budget)?,
+        turns: limits.turns,
         delays: has_delays(program)?,
-        shared: bare_shared(alloc, program)?,
-        timers: Timers::none(alloc),
-        pending: Vec::new(alloc),
         systems: Vec::new(alloc),
         time: Time {
             known: 0,
@@ -99,7 +94,6 @@ fn fresh<'a, H: Chooser + Drop>(
         history: History::none(alloc),
         tickets: 0,
         end: None,
-        notes: Notes::none(alloc),
         chooser,
     })
 }
@@ -118,10 +112,10 @@ pub(crate) fn begin<'a, H: Chooser + Drop>(
     ensures { IfOk result (IsBegun H.draw program.now limits chooser) }
 {
     let mut course = fresh(alloc, program, limits, chooser)?;
-    let job = start_job(alloc, program, limits.budget)?;
+    let job = course.state.start_job(alloc)?;
     let done = code.fire(alloc, job)?;
     course.history.reserve(2)?;
-    course.reserve(alloc, &done)?;
+    course.state.reserve(alloc, &done)?;
     course.start(alloc, done);
     course.find_systems(alloc)?;
     Ok(course)

@@ -1,45 +1,37 @@
 //! What a world keeps, and how it goes on by one step.
 
-ghost use Rattle.std.specs.Prelude.{◌≡◌, ◌≢◌, ◌≤◌, ◌<◌, ◌+◌, ◌^◌, ℕ, true, false, [], ◌∷◌, ◌++◌, Option, Some, length, vec_capacity, max, slice_get, map as each, IfOk, IfSome, OnOk, OnErr, Contains};
-ghost use Rattle.std.specs.FinMap as map;
+ghost use Rattle.std.specs.Prelude.{◌≡◌, ◌≢◌, ◌≤◌, ◌<◌, ◌+◌, ◌^◌, ℕ, true, false, [], ◌∷◌, ◌++◌, Option, Some, length, max, slice_get, map as each, IfOk, IfSome, OnErr};
 ghost use Rattle.outside.specs.Counts.{Rose, HasCause};
 ghost use Rattle.estelle_model.specs.declared.event.End.TheVariants.{Clock as ByClock, Faulted};
 ghost use Rattle.estelle_model.specs.declared.event.Event.TheVariants as events;
 ghost use Rattle.estelle_model.specs.Delays.{has_delays};
 ghost use Rattle.situation.specs.declared.limits.Stepped.TheVariants as did;
 ghost use Rattle.situation.specs.Runs.{noted, ending, take_of};
-ghost use Rattle.situation.specs.Steps.{failure_of};
 
-use crate::limits::{Limits, Stepped};
-use crate::pending;
+use crate::limits::Stepped;
 use crate::putting::put_firing;
 use crate::systems::{first_due, note_in_all, wake_all};
-use body_program::Program;
 use compiled_program::CompiledProgram;
-use delay_timers::Timers;
-use effect_log::{Notes, Shared, reserve_for};
-use estelle_model::{Done, End, Event, Out, Outcome, Pair};
+use estelle_model::{Done, End, Event, Pair};
 use estelle_tree::{Items, Path, Wanted};
 use outside::{Chooser, Clock, Failed};
 use pascal_values::Fault;
 use run_history::{Entry, History, What};
-use situation_images::job_of;
-use situation_offers::{Chosen, SelectFault, View, select};
+use situation_offers::{Chosen, SelectFault};
+use situation_state::{State, fault_in};
 use situation_steps::{System, Time};
 use std::alloc::{AllocError, Global};
 use transition_select::pick;
 
-/// A run so far, and the situation that it has come to.
+/// A run so far.
 #[derive(Drop)]
 pub(crate) struct Course<'a, H> {
-    pub(crate) program: &'a Program<'a>,
-    pub(crate) limits: Limits,
+    /// The situation that it has come to.
+    pub(crate) state: State<'a>,
+    /// The limit of firings.
+    pub(crate) turns: u32,
     /// Whether some transition has a delay. Without one the clock is never asked.
     pub(crate) delays: bool,
-    pub(crate) shared: Shared,
-    pub(crate) timers: Timers,
-    /// The selected firings in the order of their selections.
-    pub(crate) pending: Vec<Pair>,
     /// All systems, in path order.
     pub(crate) systems: Vec<System>,
     pub(crate) time: Time,
@@ -47,8 +39,6 @@ pub(crate) struct Course<'a, H> {
     /// How many firings were taken.
     pub(crate) tickets: u64,
     pub(crate) end: Option<End>,
-    /// Empty between steps.
-    pub(crate) notes: Notes,
     pub(crate) chooser: H,
 }
 
@@ -61,27 +51,16 @@ pub(crate) fn event(event: Event) -> Entry
     }
 }
 
-/// The fault that a job came to, if it faulted.
-pub(crate) fn fault_in(outcome: &Outcome) -> Option<Fault>
-    ensures { result ≡ failure_of outcome.now }
-{
-    match outcome {
-        Outcome::Ran { .. } => None,
-        Outcome::Faulted(kind) => Some(*kind),
-    }
-}
-
 impl<H: Chooser + Drop> Course<'_, H> {
-    ghost use Rattle.effect_log.specs.Rooms.{HasRoomFor, SeesTheSame, NotesTheSame};
-    ghost use Rattle.effect_log.specs.Putting.{IsRan};
+    ghost use Rattle.situation_state.specs.At.{NothingNoted};
+    ghost use Rattle.situation_state.specs.Firings.{MayFire, IsFired};
     ghost use Rattle.estelle_tree.specs.Timers.{pair};
     ghost use Rattle.delay_timers.specs.Moments.{AreDifferent};
-    ghost use Rattle.estelle_model.specs.Runs.{without};
     ghost use Rattle.run_history.specs.Histories.{project, fires};
     ghost use Rattle.situation_steps.specs.declared.systems.System.{System as Kept};
     ghost use Rattle.situation_steps.specs.Systems.{NoneIsDue, after_selection, after_firing, after_wait};
-    ghost use Rattle.situation.specs.Worlds.{IsOpenCourse, IsCourse, HasStepped, IsUnchanged, AreEmpty, now};
-    ghost use Rattle.situation.specs.Steps.{GoesOn, IsDueAt, IsReady, IsIdle, MayBeNow, HasSelected, IsFaultAt, MayWaitFor, IsCause, MayPut, HasPut, IsComputed, IsComputedAt, MaySettle, HasSettled, HasCommitted};
+    ghost use Rattle.situation.specs.Worlds.{IsOpenCourse, IsCourse, HasStepped, IsUnchanged, now};
+    ghost use Rattle.situation.specs.Steps.{GoesOn, IsDueAt, IsReady, IsIdle, MayBeNow, HasSelected, IsFaultAt, MayWaitFor, IsCause, IsComputed, IsComputedAt, MaySettle, HasSettled, HasCommitted};
 
     /// Notes the end of the run.
     pub(crate) fn stop(&mut self, end: End)
@@ -106,65 +85,33 @@ impl<H: Chooser + Drop> Course<'_, H> {
         self.stop(End::Faulted(kind));
     }
 
-    /// What the notes have of a firing, which leaves them empty.
-    pub(crate) fn take_notes(&mut self, alloc: Global) -> (Items<Out>, Items<u64>)
-        ensures outs { result.0 ≡ self.old.notes.outs.items }
-        ensures drops { result.1 ≡ self.old.notes.drops.items }
-        ensures empty { AreEmpty self.new.notes }
-        ensures rest { self.new ≡ record self.old { notes = self.new.notes } }
-    {
-        let outs = std::mem::replace(&mut self.notes.outs, Vec::new(alloc));
-        let drops = std::mem::replace(&mut self.notes.drops, Vec::new(alloc));
-        self.notes.arrivals.clear();
-        (Items::from_vec(outs), Items::from_vec(drops))
-    }
-
     /// Puts what a firing did into the situation that the run has come to.
-    fn put_shared(&mut self, done: Done)
-        requires ran { IsRan done.outcome }
-        requires may { MayPut (now self.old) self.old done }
-        ensures put { HasPut (now self.old) self.old.notes self.new done }
-        ensures rest { self.new ≡ record self.old { shared = self.new.shared; notes = self.new.notes } }
+    fn put(&mut self, done: Done)
+        requires { MayFire (now self.old) self.old.state done }
+        ensures put { IsFired (now self.old) self.old.state self.new.state done }
+        ensures rest { self.new ≡ record self.old { state = self.new.state } }
     {
-        put_firing(
-            self.program,
-            &self.history,
-            self.limits.budget,
-            &mut self.shared,
-            done,
-            &mut self.notes,
-        );
+        put_firing(&mut self.state, &self.history, done);
     }
 
-    /// The timer of what fired goes, and its system awaits a selection, as do those at which outputs arrived.
-    fn put_others(&mut self, path: &Path, trans: u32)
-        ensures systems { self.new.systems.items ≡ each (after_firing path.now self.old.notes.arrivals.items) self.old.systems.items }
-        ensures timers { self.new.timers ≡ map.remove self.old.timers (pair path.now trans) }
-        ensures rest { self.new ≡ record self.old { timers = self.new.timers; systems = self.new.systems; time = record self.old.time { may_wait = true } } }
+    /// The system of what fired awaits a selection, as do those at which outputs arrived.
+    fn put_others(&mut self, path: &Path)
+        ensures systems { self.new.systems.items ≡ each (after_firing path.now self.old.state.notes.arrivals.items) self.old.systems.items }
+        ensures rest { self.new ≡ record self.old { systems = self.new.systems; time = record self.old.time { may_wait = true } } }
     {
-        self.timers.drop_one(path, trans);
-        note_in_all(&mut self.systems, path, &self.notes.arrivals);
+        note_in_all(&mut self.systems, path, &self.state.notes.arrivals);
         self.time.may_wait = true;
-    }
-
-    /// Makes the room for what was done.
-    pub(crate) fn reserve(&mut self, alloc: Global, done: &Done) -> Result<(), AllocError>
-        ensures same { SeesTheSame self.old.shared self.new.shared }
-        ensures notes { NotesTheSame self.old.notes self.new.notes }
-        ensures room { OnOk result (HasRoomFor done.now.outcome self.new.shared self.new.notes) }
-        ensures rest { self.new ≡ record self.old { shared = self.new.shared; notes = self.new.notes } }
-    {
-        reserve_for(alloc, &mut self.shared, done, &mut self.notes)
     }
 
     /// Notes a firing that was put.
     fn note_firing(&mut self, alloc: Global, path: Path, trans: u32)
         requires { 1 ≤ self.old.history.spare }
-        ensures noted { self.new.history.entries ≡ self.old.history.entries ++ noted (events.Fire path trans self.old.notes.outs.items self.old.notes.drops.items) ∷ [] }
-        ensures empty { AreEmpty self.new.notes }
-        ensures rest { self.new ≡ record self.old { history = self.new.history; notes = self.new.notes } }
+        ensures noted { self.new.history.entries ≡ self.old.history.entries ++ noted (events.Fire path trans self.old.state.notes.outs.items self.old.state.notes.drops.items) ∷ [] }
+        ensures empty { NothingNoted self.new.state.notes }
+        ensures told { self.new.state ≡ record self.old.state { notes = self.new.state.notes } }
+        ensures rest { self.new ≡ record self.old { history = self.new.history; state = self.new.state } }
     {
-        let (outs, drops) = self.take_notes(alloc);
+        let (outs, drops) = self.state.take_told(alloc);
         self.history.add(event(Event::Fire {
             path,
             trans,
@@ -202,19 +149,16 @@ impl<H: Chooser + Drop> Course<'_, H> {
         });
     }
 
-    /// The firings that were selected are pending behind the others, and their system awaits no selection.
-    fn put_selection(&mut self, at: usize, now: u64, takes: Vec<Pair>)
-        requires there { at < length self.old.systems.items }
-        requires room { length self.old.pending.items + length takes.items ≤ vec_capacity self.old.pending }
-        ensures pending { self.new.pending.items ≡ self.old.pending.items ++ takes.items }
-        ensures systems { (x : Kept) → slice_get self.old.systems.items at ≡ Some x → self.new.systems.items ≡ after_selection at x (length takes.items) self.old.systems.items }
-        ensures rest { self.new ≡ record self.old { pending = self.new.pending; systems = self.new.systems; time = record self.old.time { known = now } } }
+    /// A system has selected so many firings, and awaits no selection.
+    fn note_selected(&mut self, at: usize, now: u64, count: usize)
+        requires { at < length self.old.systems.items }
+        ensures systems { (x : Kept) → slice_get self.old.systems.items at ≡ Some x → self.new.systems.items ≡ after_selection at x count self.old.systems.items }
+        ensures rest { self.new ≡ record self.old { systems = self.new.systems; time = record self.old.time { known = now } } }
     {
         let system = &mut self.systems[at];
         system.awaits = false;
-        system.pending = takes.len();
+        system.pending = count;
         self.time.known = now;
-        pending::append(&mut self.pending, takes);
     }
 
     /// Puts and notes what a system has selected, and renews its timers.
@@ -233,12 +177,10 @@ impl<H: Chooser + Drop> Course<'_, H> {
         ensures refused { OnErr result (IsUnchanged self.old self.new) }
         ensures selected { IfOk result (λ done. done ≡ did.Selected) }
     {
-        let copies = pending::copies(alloc, &takes)?;
         let system = self.systems[at].path.copy(alloc)?;
-        self.pending.reserve(takes.len())?;
-        self.timers.renew(alloc, &system, now, wanted)?;
-        self.put_selection(at, now, takes);
-        self.note_selection(system, now, copies);
+        self.state.select(alloc, &system, now, &takes, wanted)?;
+        self.note_selected(at, now, takes.len());
+        self.note_selection(system, now, Items::from_vec(takes));
         Ok(Stepped::Selected)
     }
 
@@ -262,21 +204,18 @@ impl<H: Chooser + Drop> Course<'_, H> {
         at: usize,
         now: u64,
     ) -> Result<Stepped, AllocError>
-        requires code { code.now ≡ self.old.program.now }
+        requires code { code.now ≡ self.old.state.program.now }
         requires open { GoesOn 2 self.old }
         requires due { IsDueAt at self.old }
         ensures stepped { IfOk result (λ done. (moment : Option ℕ) → MayBeNow moment now self.old → HasStepped H.draw moment moment self.old self.new done) }
         ensures refused { OnErr result (IsUnchanged self.old self.new) }
         ensures unclocked { IfOk result (λ done. done ≢ did.Ended ByClock) }
     {
-        let view = View {
-            program: &*self.program,
-            guards: code,
-            shared: &self.shared,
-            timers: &self.timers,
-            budget: self.limits.budget,
-        };
-        match select(alloc, &view, &self.systems[at].path, now, &mut self.chooser) {
+        let system = &self.systems[at].path;
+        match self
+            .state
+            .choose(alloc, code, system, now, &mut self.chooser)
+        {
             Ok(Chosen { takes, wanted }) => self.put_selected(alloc, at, now, takes, &wanted),
             Err(SelectFault::Guard { path, trans, fault }) => {
                 Ok(self.fault(at, path, trans, fault))
@@ -309,7 +248,7 @@ impl<H: Chooser + Drop> Course<'_, H> {
         clock: &mut C,
         at: usize,
     ) -> Result<Stepped, AllocError>
-        requires code { code.now ≡ self.old.program.now }
+        requires code { code.now ≡ self.old.state.program.now }
         requires open { GoesOn 2 self.old }
         requires due { IsDueAt at self.old }
         ensures stepped { IfOk result (HasStepped H.draw (C.moment clock.old) (C.moment clock.new) self.old self.new) }
@@ -332,51 +271,32 @@ impl<H: Chooser + Drop> Course<'_, H> {
         code: &CompiledProgram,
         at: usize,
     ) -> Result<Done, AllocError>
-        requires code { code.now ≡ self.old.program.now }
+        requires code { code.now ≡ self.old.state.program.now }
         requires open { GoesOn 3 self.old }
-        requires below { fires self.old.history.entries < self.old.limits.turns }
-        requires there { at < length self.old.pending.items }
+        requires below { fires self.old.history.entries < self.old.turns }
+        requires there { at < length self.old.state.untaken.items }
         ensures computed { IfOk result (IsComputedAt at self.new) }
         ensures open { GoesOn 3 self.new }
-        ensures rest { self.new ≡ record self.old { shared = self.new.shared; notes = self.new.notes } }
+        ensures room { self.new.state ≡ record self.old.state { shared = self.new.state.shared; notes = self.new.state.notes } }
+        ensures rest { self.new ≡ record self.old { state = self.new.state } }
     {
-        let job = job_of(
-            alloc,
-            self.program,
-            &self.shared,
-            &self.pending[at],
-            self.tickets,
-            self.limits.budget,
-        )?;
+        let job = self.state.job(alloc, at, self.tickets)?;
         let done = code.fire(alloc, job)?;
-        self.reserve(alloc, &done)?;
+        self.state.reserve(alloc, &done)?;
         Ok(done)
     }
 
-    /// The pending firing of which this was computed is no longer pending.
-    fn take_pending(&mut self, done: &Done) -> Pair
-        requires { Contains self.old.pending.items (pair done.now.path done.now.trans) }
-        ensures its { result ≡ pair done.now.path done.now.trans }
-        ensures pending { self.new.pending.items ≡ without (pair done.now.path done.now.trans) self.old.pending.items }
-        ensures rest { self.new ≡ record self.old { pending = self.new.pending } }
-    {
-        match pending::take(&mut self.pending, &done.path, done.trans) {
-            Some(pair) => pair,
-            None => unreachable!(),
-        }
-    }
-
     /// Puts what was computed of a pending firing into the situation, and notes it, or its fault.
-    fn settle(&mut self, alloc: Global, done: Done) -> Stepped
+    fn settle(&mut self, alloc: Global, at: usize, done: Done) -> Stepped
         requires may { MaySettle (now self.old) self.old done }
-        requires pending { Contains self.old.pending.items (pair done.path done.trans) }
-        ensures { HasSettled (now self.old) self.old self.new done.path done.trans done result }
+        requires there { slice_get self.old.state.untaken.items at ≡ Some (pair done.path done.trans) }
+        ensures { HasSettled (now self.old) self.old self.new at done result }
     {
         match fault_in(&done.outcome) {
             None => {
-                let Pair { path, trans } = self.take_pending(&done);
-                self.put_shared(done);
-                self.put_others(&path, trans);
+                let Pair { path, trans } = self.state.take(at);
+                self.put(done);
+                self.put_others(&path);
                 self.note_firing(alloc, path, trans);
                 Stepped::Fired
             }
@@ -389,32 +309,33 @@ impl<H: Chooser + Drop> Course<'_, H> {
     }
 
     /// Notes that a pending firing that was computed is taken, and settles it. It takes no memory.
-    fn commit(&mut self, alloc: Global, path: Path, done: Done) -> Stepped
+    fn commit(&mut self, alloc: Global, at: usize, path: Path, done: Done) -> Stepped
         requires open { GoesOn 3 self.old }
-        requires below { fires self.old.history.entries < self.old.limits.turns }
+        requires below { fires self.old.history.entries < self.old.turns }
         requires none_due { NoneIsDue self.old.systems.items }
+        requires there { slice_get self.old.state.untaken.items at ≡ Some (pair path done.trans) }
         requires computed { IsComputed self.old (pair path done.trans) done }
         ensures committed { HasCommitted H.draw self.old self.new path done.trans result }
         ensures unclocked { result ≢ did.Ended ByClock }
     {
-        prove!(self.tickets < u64::from(self.limits.turns));
+        prove!(self.tickets < u64::from(self.turns));
         self.note_take(path, done.trans);
-        self.settle(alloc, done)
+        self.settle(alloc, at, done)
     }
 
     /// One pending firing, which the chooser picks, is taken, computed and put.
     fn fire(&mut self, alloc: Global, code: &CompiledProgram) -> Result<Stepped, AllocError>
-        requires code { code.now ≡ self.old.program.now }
+        requires code { code.now ≡ self.old.state.program.now }
         requires open { GoesOn 3 self.old }
         requires ready { IsReady self.old }
         ensures stepped { IfOk result (λ done. (moment : Option ℕ) → HasStepped H.draw moment moment self.old self.new done) }
         ensures refused { OnErr result (IsUnchanged self.old self.new) }
         ensures unclocked { IfOk result (λ done. done ≢ did.Ended ByClock) }
     {
-        let at = pick(&mut self.chooser, self.pending.len());
-        let path = self.pending[at].path.copy(alloc)?;
+        let at = pick(&mut self.chooser, self.state.untaken.len());
+        let path = self.state.untaken[at].path.copy(alloc)?;
         let done = self.compute(alloc, code, at)?;
-        Ok(self.commit(alloc, path, done))
+        Ok(self.commit(alloc, at, path, done))
     }
 
     /// The run ends, by the limit of firings, in a deadlock, or by the clock.
@@ -477,7 +398,7 @@ impl<H: Chooser + Drop> Course<'_, H> {
         ensures cause { IsCause self.old.end (C.faults clock.old) (C.faults clock.new) result }
         ensures unasked { self.old.delays ≡ false → clock.new ≡ clock.old }
     {
-        match self.timers.next_due() {
+        match self.state.timers.next_due() {
             None => self.ended(End::Dead),
             Some(due) => self.wait(clock, due),
         }
@@ -490,9 +411,9 @@ impl<H: Chooser + Drop> Course<'_, H> {
         code: &CompiledProgram,
         clock: &mut C,
     ) -> Result<Stepped, AllocError>
-        requires code { code.now ≡ self.old.program.now }
+        requires code { code.now ≡ self.old.state.program.now }
         requires open { GoesOn 3 self.old }
-        requires below { fires self.old.history.entries < self.old.limits.turns }
+        requires below { fires self.old.history.entries < self.old.turns }
         ensures stepped { IfOk result (HasStepped H.draw (C.moment clock.old) (C.moment clock.new) self.old self.new) }
         ensures refused { OnErr result (IsUnchanged self.old self.new) }
         ensures told { OnErr result (C.moment clock.new ≡ C.moment clock.old) }
@@ -503,7 +424,7 @@ impl<H: Chooser + Drop> Course<'_, H> {
         if let Some(at) = first_due(&self.systems) {
             return self.select(alloc, code, clock, at);
         }
-        if !self.pending.is_empty() {
+        if !self.state.untaken.is_empty() {
             return self.fire(alloc, code);
         }
         Ok(self.wait_or_end(clock))
@@ -516,20 +437,20 @@ impl<H: Chooser + Drop> Course<'_, H> {
         code: &CompiledProgram,
         clock: &mut C,
     ) -> Result<Stepped, AllocError>
-        requires code { code.now ≡ self.old.program.now }
+        requires code { code.now ≡ self.old.state.program.now }
         requires keeps { IsCourse self.old }
         ensures stepped { IfOk result (HasStepped H.draw (C.moment clock.old) (C.moment clock.new) self.old self.new) }
         ensures refused { OnErr result (IsUnchanged self.old self.new) }
         ensures told { OnErr result (C.moment clock.new ≡ C.moment clock.old) }
         ensures later { C.faults clock.old ≤ C.faults clock.new }
         ensures cause { IfOk result (IsCause self.old.end (C.faults clock.old) (C.faults clock.new)) }
-        ensures unasked { has_delays self.old.program.now ≡ false → clock.new ≡ clock.old }
+        ensures unasked { has_delays self.old.state.program.now ≡ false → clock.new ≡ clock.old }
     {
         if let Some(end) = self.end {
             return Ok(Stepped::Ended(end));
         }
         self.history.reserve(3)?;
-        if self.tickets == u64::from(self.limits.turns) {
+        if self.tickets == u64::from(self.turns) {
             return Ok(self.ended(End::Turns));
         }
         self.go_on(alloc, code, clock)

@@ -27,7 +27,7 @@ impl<H: Chooser + Drop> Course<'_, H> {
         requires keeps { IsCourse self }
         ensures end { IfOk result (λ r. self.entry.end ≡ Some r.1) }
         ensures stopped { (clock moment : Option ℕ) (first : H) → IsReached H.draw clock first self.entry moment
-            → IfOk result (λ r. IsStopped H.draw first clock self.entry.program.now self.entry.limits.budget self.entry.limits.turns r.0.events r.1) }
+            → IfOk result (λ r. IsStopped H.draw first clock self.entry.state.program.now self.entry.state.budget self.entry.turns r.0.events r.1) }
     {
         let Course { history, end, .. } = self;
         let Some(end) = end else { unreachable!() };

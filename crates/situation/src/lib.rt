@@ -1,9 +1,8 @@
 //! The run of a specification as it goes on: the situation that it has come to, what is pending, and its history
 //! (ISO/IEC 9074: global situations, selection, firing).
 //!
-//! It stands on `transition_select` for what a system selects, on `body_walker` for guards and firings, on `effect_log` for what
-//! a firing does to the shared state, on `situation_images` for what is read of that state, on `delay_timers` and `run_history`,
-//! and on the laws of `situation_steps`.
+//! It stands on `situation_state` for the situation, on `compiled_program` for guards and firings, on `run_history`, and on the
+//! laws of `situation_steps`.
 //!
 //! A step looks at each system for the first that is due. A selection asks each guard of its system anew, and copies nothing for
 //! that: where something has to be evaluated, the instances at and below the guard's own are looked up, and all links looked
@@ -15,7 +14,6 @@ mod course;
 mod delays;
 mod executor;
 mod limits;
-mod pending;
 mod putting;
 mod systems;
 mod world;

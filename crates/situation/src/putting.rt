@@ -1,13 +1,12 @@
-//! What a firing did, put into the shared state in the situation that the run has come to.
+//! What a firing did, put into the situation that the run has come to.
 
-ghost use Rattle.situation_images.specs.Putting.{MayBePut, IsPutIn};
+ghost use Rattle.situation_state.specs.Firings.{MayFire, IsFired};
 ghost use Rattle.situation.specs.Putting.{led_to};
 
-use body_program::Program;
-use effect_log::{Notes, Shared};
 use estelle_model::Done;
 use run_history::History;
-use situation_images::{RunSoFar, put_firing as put_firing_in};
+use situation_images::RunSoFar;
+use situation_state::State;
 
 /// The history of a run.
 #[derive(Drop)]
@@ -21,20 +20,13 @@ impl RunSoFar for Past<'_> {
 }
 
 /// Puts what a firing did in the situation that the history leads to.
-pub(crate) fn put_firing(
-    program: &Program,
-    history: &History,
-    budget: u32,
-    shared: &mut Shared,
-    done: Done,
-    notes: &mut Notes,
-)
-    requires { MayBePut program.now shared.old notes.old done (led_to program.now budget history.now.entries) }
-    ensures { IsPutIn program.now (led_to program.now budget history.now.entries) shared.new notes.old notes.new done }
+pub(crate) fn put_firing(state: &mut State, history: &History, done: Done)
+    requires { MayFire (led_to state.old.program.now state.old.budget history.now.entries) state.old done }
+    ensures { IsFired (led_to state.old.program.now state.old.budget history.now.entries) state.old state.new done }
 {
     let past = Past {
         history: &*history,
-        budget,
+        budget: state.budget,
     };
-    put_firing_in(program, &past, shared, done, notes)
+    state.fire(&past, done)
 }

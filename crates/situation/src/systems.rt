@@ -7,25 +7,14 @@ ghost use Rattle.estelle_model.specs.Situation.{Situation};
 ghost use Rattle.estelle_model_legality.specs.Situations.{IsLegal};
 ghost use Rattle.effect_log.specs.Standing.{Stands};
 ghost use Rattle.situation_steps.specs.Systems.{systems_of, first_kept, after_firing, after_wait, NoneIsDue};
-ghost use Rattle.situation.specs.Systems.{is_system_body, kept_part, IsFirstOne};
+ghost use Rattle.situation.specs.Systems.{kept_part, IsFirstOne};
 
 use body_program::Program;
-use effect_log::Shared;
-use estelle_model::{Attribute, Part};
+use estelle_model::Part;
 use estelle_tree::Path;
+use situation_state::{State, is_system_body};
 use situation_steps::System;
 use std::alloc::{AllocError, Global};
-
-/// Whether an instance of a body is a system.
-fn is_system(program: &Program, body: u32) -> bool
-    ensures { result ≡ is_system_body program.now body }
-{
-    match program.attribute(body) {
-        Some(Attribute::Systemprocess) => true,
-        Some(Attribute::Systemactivity) => true,
-        _ => false,
-    }
-}
 
 /// Adds the system that an instance is, if it is one.
 fn add_system(
@@ -36,7 +25,7 @@ fn add_system(
 ) -> Result<(), AllocError>
     ensures { OnOk result (systems.new.items ≡ systems.old.items ++ kept_part program.now part.now) }
 {
-    if is_system(program, part.body) {
+    if is_system_body(program, part.body) {
         let path = part.path.copy(alloc)?;
         systems.push(System {
             path,
@@ -48,21 +37,17 @@ fn add_system(
 }
 
 /// All systems, before their first selection.
-pub(crate) fn all_systems(
-    alloc: Global,
-    program: &Program,
-    shared: &Shared,
-) -> Result<Vec<System>, AllocError>
-    ensures { (g : Situation) → Stands program.now shared.now g → IsLegal program.now g → IfOk result (λ systems. systems.items ≡ each first_kept (systems_of program.now g)) }
+pub(crate) fn all_systems(alloc: Global, state: &State) -> Result<Vec<System>, AllocError>
+    ensures { (g : Situation) → Stands state.now.program.now state.now.shared g → IsLegal state.now.program.now g → IfOk result (λ systems. systems.items ≡ each first_kept (systems_of state.now.program.now g)) }
 {
     let mut systems = Vec::new(alloc);
     let root = Path::root(alloc);
     // The root is always there.
-    let Ok(parts) = shared.tree.below(alloc, &root) else {
+    let Ok(parts) = state.shared.tree.below(alloc, &root) else {
         return Err(AllocError);
     };
     for part in &parts {
-        add_system(alloc, program, part, &mut systems)?;
+        add_system(alloc, state.program, part, &mut systems)?;
     }
     Ok(systems)
 }

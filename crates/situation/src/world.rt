@@ -37,11 +37,11 @@ impl<'a, C, H> Model for World<'a, C, H> {
 
     ghost coded = { Prim.hlevel (codes, of_specs.the_row.coded, of_values.the_row.coded, C.code, H.code) };
 
-    ghost use Rattle.situation.specs.Worlds.{IsCourse};
+    ghost use Rattle.situation.specs.Worlds.{IsCourse, limits_of};
 
-    ghost view = { λ w. record { subject = w.course.program.now; limits = w.course.limits; history = w.course.history; end = w.course.end; time = w.course.time; systems = w.course.systems.items; chooser = w.course.chooser; clock = w.clock } };
+    ghost view = { λ w. record { subject = w.course.state.program.now; limits = limits_of w.course; history = w.course.history; end = w.course.end; time = w.course.time; systems = w.course.systems.items; chooser = w.course.chooser; clock = w.clock } };
 
-    ghost invariant = { λ w. IsCourse w.course × (w.program.now ≡ w.course.program.now) };
+    ghost invariant = { λ w. IsCourse w.course × (w.program.now ≡ w.course.state.program.now) };
 }
 
 impl<'a, C: Clock + Drop, H: Chooser + Drop> World<'a, C, H> {

@@ -3,10 +3,9 @@ pub mod Prefixes
 pub mod Computed
 pub mod Nexts
 pub mod Starting
--- ---- lists of firings
-pub mod Lists
 -- ---- selections, faults and ends
 pub mod Faulting
+pub mod Offered
 pub mod Deciding
 pub mod Off
 pub mod Counted

@@ -4,36 +4,32 @@ use Rattle.std.specs.Prelude.{slice_get, Contains}
 use Rattle.std.specs.FinMap as map
 use Rattle.std.proofs.Math.Nat.{mul-suc}
 use Rattle.pascal_values.specs.declared.fault.Fault as fault
-use Rattle.estelle_tree.specs.declared.transition.Pair.{Pair}
-use Rattle.estelle_tree.specs.declared.transition.Wanted.{Wanted}
 use Rattle.estelle_tree.specs.Paths.{Path}
-use Rattle.estelle_tree.specs.Timers.{Timers, pair, renewed}
+use Rattle.estelle_tree.specs.Timers.{pair}
 use Rattle.estelle_model.specs.declared.event.Event.{Event}
 use Rattle.estelle_model.specs.declared.job.Done.{Done}
 use Rattle.estelle_model.specs.Core.{Core}
 use Rattle.estelle_model.specs.Subject.{Subject}
 use Rattle.estelle_model.specs.Situation.{Situation, Acting}
 use Rattle.estelle_model.specs.Firing.{Firing, transition_at, fire}
-use Rattle.estelle_model.specs.Delays.{wanted}
 use Rattle.estelle_model.specs.Jobs.{Answers}
-use Rattle.estelle_model.specs.Runs.{Applies, IsRun, next, selected, fired, without, situation, situation_at}
+use Rattle.estelle_model.specs.Runs.{Applies, IsRun, next, fired, without, situation, situation_at}
 use Rattle.estelle_model.specs.Ends.{last_event, IsNoFault, IsFault}
 use Rattle.estelle_model_legality.specs.Instances.{LeadsToStates}
 use Rattle.estelle_model_legality.specs.Jobs.{job_of}
 use Rattle.estelle_model_legality.specs.Situations.{IsLegal}
 use Rattle.estelle_model_legality.proofs.Keeping.{events_keep}
-use Rattle.effect_log.specs.declared.shared.Shared.{Shared}
-use Rattle.effect_log.specs.Standing.{Stands}
 use Rattle.effect_log.specs.Putting.{IsRan, begun_by, after_put, firing_of, log_of}
 use Rattle.effect_log.specs.Rooms.{outputs_in}
 use Rattle.situation_steps.specs.UnderWay.{HasRoot}
 use Rattle.situation_units.specs.Counting.{births_at}
 use Rattle.situation_steps.proofs.Going.{IsRun-push, situation-push, last-push}
-use Rattle.estelle_model_apart.proofs.Rest.{SameRest, all_rest, taken_by_core, taken_by_rest}
+use Rattle.estelle_model_apart.proofs.Rest.{taken_by_core}
 use Rattle.situation_steps.proofs.Roots.{body_at, has_root, root_body, root_stays}
-use Rattle.trace_check.specs.Going.{IsGoing, IsFaulted, Holds}
+use Rattle.trace_check.specs.Going.{IsGoing, IsFaulted}
 use Rattle.trace_check.proofs.Prefixes.{take_more, goes_on_by}
-use Rattle.trace_check.proofs.Computed.{answers_in, ran_is, IsPutSo, put_so, after_is, made_is}
+use Rattle.situation_state.proofs.Counted.{IsPutSo, put_so, after_is, made_is, rest_same}
+use Rattle.trace_check.proofs.Computed.{answers_in, ran_is}
 
 -- ---- an event more
 
@@ -70,47 +66,20 @@ module _ (s : Subject) (leads : LeadsToStates s) (budget : ℕ) (events : List E
     pub faults : (kind : fault.Fault) → IsFault (Some e) kind → IsFaulted s budget events (suc n) kind
     faults kind is = record { run = next_run; fault = subst (λ (o : Option Event). IsFault o kind) (sym next_last) is }
 
--- ---- selections
-
--- the shared state stands for a situation whatever is pending in it, whatever timers run, and at any moment
-pub stands_later : (s : Subject) (shared : Shared) (g : Situation) (moment : ℕ) (timers : Timers) (pending : List Pair) → Stands s shared g → Stands s shared (record g { now = moment; timers = timers; pending = pending })
-stands_later s shared g moment timers pending h = record {
-  instances = h.instances;
-  links = h.links;
-  queues = record { declared = h.queues.declared; together = h.queues.together; apart = h.queues.apart; waiting = h.queues.waiting };
-  outputs = h.outputs;
-}
-
-pub selected_holds : (s : Subject) (budget : ℕ) (g : Situation) (system : Path) (now : ℕ) (takes : List Pair) (wants : List Wanted) (shared : Shared) (running timers : Timers) (waiting pending : List Pair) (moment : ℕ)
-    → Holds s g shared running waiting moment → wants ≡ wanted s budget g system → timers ≡ renewed system now wants running → pending ≡ waiting ++ takes
-    → Holds s (selected s budget g system now takes) shared timers pending now
-selected_holds s budget g system now takes wants shared running timers waiting pending moment h wants_are timers_are pending_is = record {
-  stands = stands_later s shared g now (renewed system now (wanted s budget g system) g.timers) (g.pending ++ takes) h.stands;
-  timers = timers_are ∙ (λ i. renewed system now (wants_are i) (h.timers i));
-  pending = pending_is ∙ ap (λ (ps : List Pair). ps ++ takes) h.pending;
-  now = refl;
-}
-
 -- ---- what is put
 
 module _ (s : Subject) (g : Situation) (done : Done) (f : Firing) (p : IsPutSo s g done f) where
   abbrev a : Acting
   a = after_put s g done
 
-  rest_same : SameRest g a.situation
-  rest_same =
-      let first = taken_by_rest s g done.path (transition_at s done.trans (map.get g.core.instances done.path)) in
-      let then = all_rest p.its.log (begun_by s g done) in
-      subst (λ (x : Acting). SameRest g x.situation) (sym (after_is s g done f p)) (record { timers = then.timers ∙ first.timers; now = then.now ∙ first.now; pending = then.pending ∙ first.pending })
-
   pub timers_same : a.situation.timers ≡ g.timers
-  timers_same = rest_same.timers
+  timers_same = (rest_same s g done f p).timers
 
   pub now_same : a.situation.now ≡ g.now
-  now_same = rest_same.now
+  now_same = (rest_same s g done f p).now
 
   pub pending_same : a.situation.pending ≡ g.pending
-  pending_same = rest_same.pending
+  pending_same = (rest_same s g done f p).pending
 
   pub root_same : HasRoot g → HasRoot a.situation
   root_same root = has_root a.situation (
@@ -142,15 +111,6 @@ module _ (s : Subject) (budget : ℕ) (g : Situation) (legal : IsLegal s g) (m :
 
   pub fired_root : HasRoot g → HasRoot fired_to
   fired_root root = let r = root_same s g done firing its root in (r.0, r.1, r.2)
-
-  pub fired_holds : (shared put_shared : Shared) (running timers : Timers) (waiting left : List Pair) (moment : ℕ) → Holds s g shared running waiting moment → Stands s put_shared b.situation
-      → timers ≡ map.remove running (pair m n) → left ≡ without (pair m n) waiting → Holds s fired_to put_shared timers left moment
-  fired_holds shared put_shared running timers waiting left moment h stands timers_are left_is = record {
-    stands = stands_later s put_shared b.situation b.situation.now (map.remove g.timers (pair m n)) (without (pair m n) g.pending) stands;
-    timers = timers_are ∙ ap (λ (ts : Timers). map.remove ts (pair m n)) h.timers;
-    pending = left_is ∙ ap (without (pair m n)) h.pending;
-    now = h.now ∙ sym (now_same s g done firing its);
-  }
 
   -- so many outputs there are then
   pub fired_made : b.situation.made ≡ g.made + outputs_in (log_of done.outcome)

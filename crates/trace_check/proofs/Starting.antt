@@ -23,19 +23,20 @@ use Rattle.estelle_model_legality.specs.Instances.{LeadsToStates}
 use Rattle.estelle_model_legality.specs.Keeping.{IsStarted}
 use Rattle.estelle_model_legality.specs.Situations.{IsLegal}
 use Rattle.estelle_model_legality.proofs.Started.{start_is_legal}
-use Rattle.effect_log.specs.declared.shared.Shared.{Shared}
-use Rattle.effect_log.specs.Standing.{Stands}
 use Rattle.effect_log.specs.Putting.{IsRan, AnswersIn, after_put, firing_of, log_of}
 use Rattle.effect_log.specs.Rooms.{outputs_in}
 use Rattle.effect_log.proofs.Answered.{puts-are-firings}
 use Rattle.situation_steps.specs.UnderWay.{HasRoot}
 use Rattle.situation_steps.proofs.Roots.{has_root, bare_root}
 use Rattle.situation_units.specs.Counting.{births_at}
-use Rattle.trace_check.specs.Going.{IsGoing, IsFaulted, Holds}
+use Rattle.situation_state.specs.declared.state.State.{State}
+use Rattle.situation_state.specs.At.{IsAt}
+use Rattle.situation_state.proofs.Counted.{IsPutSo, put_so, made_is}
+use Rattle.trace_check.specs.Going.{IsGoing, IsFaulted}
 use Rattle.estelle_model_legality.specs.Jobs.{start_job}
 use Rattle.trace_check.proofs.Prefixes.{take_more}
-use Rattle.trace_check.proofs.Computed.{ran_so, IsPutSo, put_so, made_is}
-use Rattle.trace_check.proofs.Nexts.{stands_later, timers_same, now_same, pending_same, root_same}
+use Rattle.trace_check.proofs.Computed.{ran_so}
+use Rattle.trace_check.proofs.Nexts.{timers_same, pending_same, root_same}
 
 -- ---- the first event
 
@@ -108,13 +109,11 @@ module _ (s : Subject) (budget : ℕ) (done : Done) (answers : Answers s (start_
       ∙ (λ i. record a.situation { timers = map.remove (timers_same s (bare s) done firing its i) (pair done.path done.trans) })
       ∙ (λ i. record a.situation { timers = remove_empty (pair done.path done.trans) i })
 
-  pub started_holds : (shared : Shared) (running : Timers) (waiting : List Pair) (moment : ℕ) → Stands s shared a.situation → running ≡ (bare s).timers → waiting ≡ [] → moment ≡ 0 → Holds s started_to shared running waiting moment
-  started_holds shared running waiting moment stands timers pending now = record {
-    stands = stands_later s shared a.situation a.situation.now (bare s).timers a.situation.pending stands;
-    timers = timers;
-    pending = pending ∙ sym (pending_same s (bare s) done firing its);
-    now = now ∙ sym (now_same s (bare s) done firing its);
-  }
+  -- a state that stands for what was put, with any timers of it, stands for that situation
+  pub started_at : (c : State) → IsAt (record a.situation { timers = map.remove (bare s).timers (pair done.path done.trans); pending = a.situation.pending }) [] c → IsAt started_to started_to.pending c
+  started_at c h =
+      let none : started_to.pending ≡ [] = pending_same s (bare s) done firing its in
+      subst (λ (ps : List Pair). IsAt started_to ps c) (sym none) (subst (λ (ts : Timers). IsAt (record a.situation { timers = ts; pending = a.situation.pending }) [] c) (remove_empty (pair done.path done.trans)) h)
 
   pub started_made : a.situation.made ≡ 0 + outputs_in (log_of done.outcome)
   started_made = made_is s (bare s) done firing its

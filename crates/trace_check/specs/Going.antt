@@ -1,10 +1,9 @@
--- What is known of the first events of a trace, and of the situation after them.
+-- What is known of the first events of a trace, and of what may come next.
 use Rattle.std.specs.Prelude.{◌≡◌, ◌≤◌, ◌*◌, ℕ, IsTrue, List, take}
 use Rattle.pascal_values.specs.declared.fault.Fault.{Fault}
 use Rattle.estelle_tree.specs.declared.transition.Pair.{Pair}
 use Rattle.estelle_tree.specs.declared.transition.Wanted.{Wanted}
 use Rattle.estelle_tree.specs.Paths.{Path, is_inside}
-use Rattle.estelle_tree.specs.Timers.{Timers}
 use Rattle.estelle_model.specs.declared.event.Event.{Event}
 use Rattle.estelle_model.specs.declared.job.Guard.TheVariants.{Off}
 use Rattle.estelle_model.specs.Subject.{Subject}
@@ -16,8 +15,6 @@ use Rattle.estelle_model.specs.Runs.{IsRun, IsIdle, IsFirstFault, MaySelect, sit
 use Rattle.estelle_model.specs.Ends.{last_event, IsNoFault, IsFault}
 use Rattle.estelle_model_legality.specs.Situations.{IsLegal}
 use Rattle.delay_timers.specs.Moments.{AreDifferent}
-use Rattle.effect_log.specs.declared.shared.Shared.{Shared}
-use Rattle.effect_log.specs.Standing.{Stands}
 use Rattle.situation_steps.specs.UnderWay.{HasRoot}
 use Rattle.situation_units.specs.Counting.{births_at}
 
@@ -37,14 +34,7 @@ pub record IsFaulted (s : Subject) (budget : ℕ) (events : List Event) (n : ℕ
   pub run : IsRun s budget (take n events)
   pub fault : IsFault (last_event (take n events)) kind
 
--- ---- the situation after them
-
--- the shared state, the timers, what is pending and the moment are those of a situation
-pub record Holds (s : Subject) (g : Situation) (shared : Shared) (running : Timers) (waiting : List Pair) (moment : ℕ) : Type 0 where
-  pub stands : Stands s shared g
-  pub timers : running ≡ g.timers
-  pub pending : waiting ≡ g.pending
-  pub now : moment ≡ g.now
+-- ---- what may come next
 
 -- the system may select so, and these transitions want timers
 pub record IsSelectable (s : Subject) (budget : ℕ) (g : Situation) (system : Path) (moment : ℕ) (takes : List Pair) (wants : List Wanted) : Type 0 where

@@ -3,5 +3,3 @@ pub mod Judging
 -- ---- what is known of the events so far, and what is kept of them
 pub mod Going
 pub mod Replays
--- ---- pending firings
-pub mod Pending

@@ -4,8 +4,6 @@ use Rattle.pascal_values.specs.declared.fault.Fault as fault
 use Rattle.estelle_tree.specs.declared.transition.Pair.{Pair}
 use Rattle.estelle_model.specs.declared.event.Event.{Event}
 use Rattle.estelle_model.specs.declared.job.Done.{Done}
-use Rattle.estelle_model.specs.declared.job.Outcome.{Outcome}
-use Rattle.estelle_model.specs.declared.job.Outcome.TheVariants as outcome
 use Rattle.estelle_model.specs.Subject.{Subject}
 use Rattle.estelle_model.specs.Situation.{Situation}
 use Rattle.estelle_model.specs.Firing.{Failed, bare, start}
@@ -13,37 +11,30 @@ use Rattle.estelle_model.specs.Jobs.{Answers}
 use Rattle.estelle_model.specs.Runs.{IsRun, situation_at}
 use Rattle.estelle_model_legality.specs.Instances.{LeadsToStates}
 use Rattle.estelle_model_legality.specs.Jobs.{job_of, start_job, IsJob}
-use Rattle.effect_log.specs.declared.notes.Notes.{Notes}
-use Rattle.effect_log.specs.Standing.{Stands}
 use Rattle.effect_log.specs.Rooms.{HasRoomFor}
 use Rattle.trace_check.specs.declared.replay.Replay.{Replay}
-use Rattle.trace_check.specs.Going.{IsGoing, IsFaulted, Holds}
+use Rattle.situation_state.specs.At.{IsAt}
+use Rattle.trace_check.specs.Going.{IsGoing, IsFaulted}
 
 -- ---- what is kept
 
--- no outputs and no drops are noted
-pub record NoneNoted (notes : Notes) : Type 0 where
-  pub outs : notes.outs.items ≡ []
-  pub drops : notes.drops.items ≡ []
-
 -- the situation after the events so far
 abbrev pub now : Replay → Situation
-now r = situation_at r.program.now r.budget r.events.now r.count
+now r = situation_at r.state.program.now r.state.budget r.events.now r.count
 
 -- so much is kept where no fault ended the run
 pub record IsOpen (r : Replay) : Type 0 where
   pub unended : r.fault ≡ None
   -- bodies lead to states of their own, and no count comes to its end
-  pub leads : LeadsToStates r.program.now
+  pub leads : LeadsToStates r.state.program.now
   pub few : length r.events.now < 2 ^ 31
-  pub room : r.budget * length r.events.now < 2 ^ 63
-  pub going : IsGoing r.program.now r.budget r.events.now r.count
-  pub holds : Holds r.program.now (now r) r.shared r.timers r.pending.items r.moment
-  pub empty : NoneNoted r.notes
+  pub room : r.state.budget * length r.events.now < 2 ^ 63
+  pub going : IsGoing r.state.program.now r.state.budget r.events.now r.count
+  pub at : IsAt (now r) (now r).pending r.state
 
 abbrev pub IsKept : Replay → Option fault.Fault → Type 0
 IsKept r None = IsOpen r
-IsKept r (Some kind) = IsFaulted r.program.now r.budget r.events.now r.count kind
+IsKept r (Some kind) = IsFaulted r.state.program.now r.state.budget r.events.now r.count kind
 
 abbrev pub IsReplay : Replay → Type 0
 IsReplay r = IsKept r r.fault
@@ -56,27 +47,22 @@ IsNext r e = slice_get r.events.now r.count ≡ Some e
 -- the events go on by one that applies
 pub record HasGoneOn (old new : Replay) : Type 0 where
   pub keeps : IsReplay new
-  pub program : new.program ≡ old.program
-  pub budget : new.budget ≡ old.budget
+  pub program : new.state.program ≡ old.state.program
+  pub budget : new.state.budget ≡ old.state.budget
   pub events : new.events ≡ old.events
   pub count : new.count ≡ old.count + 1
 
 -- or by one that does not
 abbrev pub HasJudged : Replay → Replay → Bool → Type 0
 HasJudged old new true = HasGoneOn old new
-HasJudged old new false = IsRun old.program.now old.budget (take (suc old.count) old.events.now) → ⊥
+HasJudged old new false = IsRun old.state.program.now old.state.budget (take (suc old.count) old.events.now) → ⊥
 
 -- ---- what the functions tell each other
 
 -- it is what was computed of the pending firing with this number, whose job meets the condition of a job
 abbrev pub IsComputedAt : ℕ → Replay → Done → Type 0
-IsComputedAt at r done = (p : Pair) → slice_get r.pending.items at ≡ Some p
-    → Answers r.program.now (job_of r.program.now (now r) 0 r.budget p) done × IsJob r.program.now (job_of r.program.now (now r) 0 r.budget p)
-
--- the fault, if it is one
-abbrev pub failure_of : Outcome → Option fault.Fault
-failure_of (outcome.Ran image effects) = None
-failure_of (outcome.Faulted kind) = Some kind
+IsComputedAt at r done = (p : Pair) → slice_get r.state.untaken.items at ≡ Some p
+    → Answers r.state.program.now (job_of r.state.program.now (now r) 0 r.state.budget p) done × IsJob r.state.program.now (job_of r.state.program.now (now r) 0 r.state.budget p)
 
 -- ---- the start
 
@@ -84,31 +70,27 @@ failure_of (outcome.Faulted kind) = Some kind
 pub record IsFresh (r : Replay) : Type 0 where
   pub unended : r.fault ≡ None
   pub count : r.count ≡ 0
-  pub stands : Stands r.program.now r.shared (bare r.program.now)
-  pub timers : r.timers ≡ (bare r.program.now).timers
-  pub pending : r.pending.items ≡ []
-  pub now : r.moment ≡ 0
-  pub empty : NoneNoted r.notes
+  pub at : IsAt (bare r.state.program.now) [] r.state
 
 -- it is of these events
 pub record IsOf (s : Subject) (budget : ℕ) (events : List Event) (r : Replay) : Type 0 where
-  pub program : r.program.now ≡ s
-  pub budget_is : r.budget ≡ budget
+  pub program : r.state.program.now ≡ s
+  pub budget_is : r.state.budget ≡ budget
   pub events_are : r.events.now ≡ events
 
 -- what was computed of the initialization may be put, where it ran
 pub record MayBegin (r : Replay) (done : Done) : Type 0 where
   pub fresh : IsFresh r
-  pub leads : LeadsToStates r.program.now
+  pub leads : LeadsToStates r.state.program.now
   pub few : length r.events.now < 2 ^ 31
   pub some : 1 ≤ length r.events.now
-  pub room : r.budget * length r.events.now < 2 ^ 63
-  pub answers : Answers r.program.now (start_job r.program.now r.budget) done
-  pub room_for : HasRoomFor done.outcome r.shared r.notes
+  pub room : r.state.budget * length r.events.now < 2 ^ 63
+  pub answers : Answers r.state.program.now (start_job r.state.program.now r.state.budget) done
+  pub room_for : HasRoomFor done.outcome r.state.shared r.state.notes
 
 -- the initialization comes to this fault
 abbrev pub FailsFirst : Replay → fault.Fault → Type 0
-FailsFirst r kind = (left : ℕ) × (start r.program.now r.budget ≡ Failed kind left)
+FailsFirst r kind = (left : ℕ) × (start r.state.program.now r.state.budget ≡ Failed kind left)
 
 -- the first event is the start of a run, or its fault
 pub record HasBegun (s : Subject) (budget : ℕ) (events : List Event) (r : Replay) : Type 0 where

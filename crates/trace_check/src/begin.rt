@@ -2,22 +2,18 @@
 
 ghost use Rattle.std.specs.Prelude.{◌≡◌, ◌<◌, ◌*◌, ◌^◌, length, take, Some, slice_get, IfOk, MatchOption};
 ghost use Rattle.estelle_model.specs.declared.event.Event.TheVariants as told;
-ghost use Rattle.estelle_model.specs.Firing.{bare};
 ghost use Rattle.estelle_model.specs.Runs.{IsRun};
 ghost use Rattle.estelle_model_legality.specs.Instances.{LeadsToStates};
 ghost use Rattle.effect_log.specs.Putting.{IsRan};
-ghost use Rattle.situation_images.specs.Putting.{MayBePut, IsPutIn};
 ghost use Rattle.trace_check.specs.Replays.{IsFresh, IsOf, HasBegun};
 
-use crate::replay::{Replay, fault_in};
+use crate::replay::Replay;
 use body_program::Program;
 use body_walker::fire_plain;
-use delay_timers::Timers;
-use effect_log::Notes;
 use estelle_model::{Done, Event, Out};
 use estelle_tree::Path;
 use pascal_values::Fault;
-use situation_images::{bare_shared, put_start, start_job};
+use situation_state::{State, fault_in};
 use std::alloc::{AllocError, Global};
 
 /// Before the start.
@@ -31,29 +27,25 @@ fn fresh<'a>(
     ensures of { IfOk result (IsOf program.now budget events.now) }
 {
     Ok(Replay {
-        program,
-        budget,
+        state: State::bare(alloc, program, budget)?,
         events,
         count: 0,
-        shared: bare_shared(alloc, program)?,
-        timers: Timers::none(alloc),
-        pending: Vec::new(alloc),
-        moment: 0,
         fault: None,
-        notes: Notes::none(alloc),
     })
 }
 
 impl Replay<'_> {
+    ghost use Rattle.estelle_model.specs.Firing.{bare};
+    ghost use Rattle.situation_state.specs.Firings.{MayFire, IsFired};
     ghost use Rattle.trace_check.specs.Replays.{IsNext, HasJudged, MayBegin, FailsFirst};
 
-    /// Puts what the initialization did into the situation before it.
+    /// Puts what the initialization did.
     fn put_first(&mut self, done: Done)
-        requires { MayBePut self.old.program.now self.old.shared self.old.notes done (bare self.old.program.now) }
-        ensures put { IsPutIn self.old.program.now (bare self.old.program.now) self.new.shared self.old.notes self.new.notes done }
-        ensures rest { self.new ≡ record self.old { shared = self.new.shared; notes = self.new.notes } }
+        requires { MayFire (bare self.old.state.program.now) self.old.state done }
+        ensures put { IsFired (bare self.old.state.program.now) self.old.state self.new.state done }
+        ensures rest { self.new ≡ record self.old { state = self.new.state } }
     {
-        put_start(self.program, &mut self.shared, done, &mut self.notes);
+        self.state.fire_start(done);
     }
 
     /// Whether the initialization gives these outputs and drops; then it is made.
@@ -67,7 +59,7 @@ impl Replay<'_> {
         if !self.has_noted(outs, drops) {
             return false;
         }
-        self.clear_notes();
+        self.state.forget_told();
         self.count = 1;
         true
     }
@@ -125,9 +117,9 @@ pub(crate) fn begin<'a>(
     ensures { IfOk result (λ begun. MatchOption begun (IsRun program.now budget (take 1 events.now) → ⊥) (HasBegun program.now budget events.now)) }
 {
     let mut replay = fresh(alloc, program, budget, events)?;
-    let job = start_job(alloc, program, budget)?;
+    let job = replay.state.start_job(alloc)?;
     let done = fire_plain(alloc, program, job)?;
-    replay.reserve(alloc, &done)?;
+    replay.state.reserve(alloc, &done)?;
     if replay.judge_first(done, first) {
         Ok(Some(replay))
     } else {

@@ -7,12 +7,11 @@ ghost use Rattle.transition_select.specs.declared.countings.Counting.{Counting a
 
 use crate::equality::same_kind;
 use crate::replay::Replay;
-use crate::systems::is_system;
 use body_walker::ByTrees;
 use estelle_model::End;
 use estelle_tree::Path;
 use selection_check::Counting;
-use situation_offers::{Offering, ask};
+use situation_offers::Offering;
 use std::alloc::{AllocError, Global};
 
 /// Whether no transition is counted.
@@ -34,19 +33,11 @@ impl Replay<'_> {
     /// Whether no transition at or below a system is enabled.
     fn is_off(&self, alloc: Global, system: &Path) -> Result<bool, AllocError>
         requires open { IsOpen self.now }
-        requires is_system { IsSystem self.now.program.now (now self.now) system.now }
-        ensures { IfOk result (λ off. IsTrue off ↔ (AreOff self.now.program.now self.now.budget (now self.now) system.now)) }
+        requires is_system { IsSystem self.now.state.program.now (now self.now) system.now }
+        ensures { IfOk result (λ off. IsTrue off ↔ (AreOff self.now.state.program.now self.now.state.budget (now self.now) system.now)) }
     {
-        let offering = ask(
-            alloc,
-            self.program,
-            &ByTrees::of(self.program),
-            &self.shared,
-            &self.timers,
-            system,
-            self.moment,
-            self.budget,
-        )?;
+        let guards = ByTrees::of(self.state.program);
+        let offering = self.state.ask(alloc, &guards, system, self.state.moment)?;
         match offering {
             Offering::Faults { .. } => Ok(false),
             Offering::Counts { counts, wanted } => {
@@ -61,15 +52,15 @@ impl Replay<'_> {
     /// Whether no transition of any instance is enabled. Those that have transitions are at or below systems.
     fn all_off(&self, alloc: Global) -> Result<bool, AllocError>
         requires { IsOpen self.now }
-        ensures { IfOk result (λ off. IsTrue off ↔ (AreOff self.now.program.now self.now.budget (now self.now) [])) }
+        ensures { IfOk result (λ off. IsTrue off ↔ (AreOff self.now.state.program.now self.now.state.budget (now self.now) [])) }
     {
         let root = Path::root(alloc);
         // The root is always there.
-        let Ok(parts) = self.shared.tree.below(alloc, &root) else {
+        let Ok(parts) = self.state.shared.tree.below(alloc, &root) else {
             return Err(AllocError);
         };
         for part in &parts {
-            if !is_system(self.program, &self.shared, &part.path) {
+            if !self.state.is_system(&part.path) {
                 continue;
             }
             if !self.is_off(alloc, &part.path)? {
@@ -82,9 +73,9 @@ impl Replay<'_> {
     /// Whether nothing can happen any more.
     fn is_dead(&self, alloc: Global) -> Result<bool, AllocError>
         requires { IsOpen self.now }
-        ensures { IfOk result (λ dead. IsTrue dead ↔ (IsDead self.now.program.now self.now.budget (now self.now))) }
+        ensures { IfOk result (λ dead. IsTrue dead ↔ (IsDead self.now.state.program.now self.now.state.budget (now self.now))) }
     {
-        if !self.pending.is_empty() {
+        if !self.state.untaken.is_empty() {
             return Ok(false);
         }
         self.all_off(alloc)
@@ -94,7 +85,7 @@ impl Replay<'_> {
     pub(crate) fn may_end(&self, alloc: Global, end: End) -> Result<bool, AllocError>
         requires keeps { IsReplay self.now }
         requires all { self.now.count ≡ length self.now.events.now }
-        ensures { IfOk result (λ may. IsTrue may ↔ (Closes self.now.program.now self.now.budget self.now.events.now end)) }
+        ensures { IfOk result (λ may. IsTrue may ↔ (Closes self.now.state.program.now self.now.state.budget self.now.events.now end)) }
     {
         match self.fault {
             None => match end {

@@ -21,12 +21,12 @@ use std::alloc::Global;
 fn judge_rest(alloc: Global, mut replay: Replay, count: usize, end: End) -> Result<(), JudgeError>
     requires few { count < 2 ^ 31 }
     requires all { count ≡ length replay.events.now }
-    requires begun { HasBegun replay.program.now replay.budget replay.events.now replay }
-    requires leads { LeadsToStates replay.program.now }
-    ensures run { IfOk result (λ _. IsRunTo replay.entry.program.now replay.entry.budget replay.entry.events.now end) }
-    ensures fates { IfOk result (λ _. HaveOneFate replay.entry.program.now replay.entry.budget replay.entry.events.now) }
-    ensures order { IfOk result (λ _. AreFirstInFirstOut replay.entry.program.now replay.entry.budget replay.entry.events.now) }
-    ensures refused { IfErr result (IsRefused replay.entry.program.now replay.entry.budget replay.entry.events.now end) }
+    requires begun { HasBegun replay.state.program.now replay.state.budget replay.events.now replay }
+    requires leads { LeadsToStates replay.state.program.now }
+    ensures run { IfOk result (λ _. IsRunTo replay.entry.state.program.now replay.entry.state.budget replay.entry.events.now end) }
+    ensures fates { IfOk result (λ _. HaveOneFate replay.entry.state.program.now replay.entry.state.budget replay.entry.events.now) }
+    ensures order { IfOk result (λ _. AreFirstInFirstOut replay.entry.state.program.now replay.entry.state.budget replay.entry.events.now) }
+    ensures refused { IfErr result (IsRefused replay.entry.state.program.now replay.entry.state.budget replay.entry.events.now end) }
 {
     outputs_have_one_fate();
     first_in_is_first_out();

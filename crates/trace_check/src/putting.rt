@@ -1,12 +1,11 @@
 //! What is done, put into the situation after the events so far.
 
 ghost use Rattle.estelle_model.specs.Runs.{situation_at};
-ghost use Rattle.situation_images.specs.Putting.{MayBePut, IsPutIn};
+ghost use Rattle.situation_state.specs.Firings.{MayFire, IsFired};
 
-use body_program::Program;
-use effect_log::{Notes, Shared};
 use estelle_model::{Done, Event};
-use situation_images::{RunSoFar, put_firing};
+use situation_images::RunSoFar;
+use situation_state::State;
 
 /// The first events of a trace.
 #[derive(Drop)]
@@ -21,22 +20,14 @@ impl RunSoFar for Judged<'_> {
 }
 
 /// Puts what a firing did after so many events.
-pub(crate) fn put_event(
-    program: &Program,
-    events: &[Event],
-    count: usize,
-    budget: u32,
-    shared: &mut Shared,
-    done: Done,
-    notes: &mut Notes,
-)
-    requires { MayBePut program.now shared.old notes.old done (situation_at program.now budget events.now count) }
-    ensures { IsPutIn program.now (situation_at program.now budget events.now count) shared.new notes.old notes.new done }
+pub(crate) fn put_event(state: &mut State, events: &[Event], count: usize, done: Done)
+    requires { MayFire (situation_at state.old.program.now state.old.budget events.now count) state.old done }
+    ensures { IsFired (situation_at state.old.program.now state.old.budget events.now count) state.old state.new done }
 {
     let judged = Judged {
         events: &*events,
         count,
-        budget,
+        budget: state.budget,
     };
-    put_firing(program, &judged, shared, done, notes)
+    state.fire(&judged, done)
 }

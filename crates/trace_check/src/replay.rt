@@ -1,60 +1,34 @@
 //! A trace as far as it was judged, and the judgement of its next event.
 
 ghost use Rattle.std.specs.Prelude.{◌≡◌, ◌↔◌, ◌⊎◌, ◌<◌, ◌+◌, ◌^◌, ◌++◌, IsTrue, is_some, Some, length, IfOk, OnOk, MatchOption};
-ghost use Rattle.std.specs.List.{remove};
-ghost use Rattle.std.specs.FinMap as map;
-ghost use Rattle.estelle_tree.specs.Timers.{pair, renewed};
+ghost use Rattle.estelle_tree.specs.Timers.{pair};
 ghost use Rattle.estelle_model.specs.declared.event.Event.TheVariants as told;
 ghost use Rattle.estelle_model.specs.Runs.{MaySelect, FiringFaults, GuardFaults};
-ghost use Rattle.delay_timers.specs.Moments.{AreDifferent};
-ghost use Rattle.situation_images.specs.Putting.{MayBePut, IsPutIn};
-ghost use Rattle.trace_check.specs.Pending.{IsPlaceOf};
-ghost use Rattle.trace_check.specs.Replays.{failure_of};
+ghost use Rattle.situation_state.specs.At.{NothingNoted};
+ghost use Rattle.situation_state.specs.Firings.{MayFire, IsFired, failure_of};
+ghost use Rattle.situation_state.specs.Places.{IsPlaceOf};
 
 use crate::equality::{same_drops, same_fault, same_kind, same_outs};
-use crate::pending;
 use crate::putting::put_event;
-use crate::systems::is_system;
-use body_program::Program;
 use body_walker::{ByTrees, fire_plain};
-use delay_timers::Timers;
-use effect_log::{Notes, Shared, reserve_for};
 use estelle_model::{Done, Event, Out, Outcome, Pair};
 use estelle_tree::{Path, Wanted};
 use pascal_values::Fault;
 use selection_check::may_select;
-use situation_images::job_of;
-use situation_offers::{Offering, ask};
+use situation_offers::Offering;
+use situation_state::{State, fault_in};
 use std::alloc::{AllocError, Global};
 
-/// The first events of a trace, which apply, and the situation that they lead to.
+/// The first events of a trace, which apply.
 #[derive(Drop)]
 pub(crate) struct Replay<'a> {
-    pub(crate) program: &'a Program<'a>,
-    pub(crate) budget: u32,
+    /// The situation that they lead to.
+    pub(crate) state: State<'a>,
     pub(crate) events: &'a [Event],
     /// How many of them apply.
     pub(crate) count: usize,
-    pub(crate) shared: Shared,
-    pub(crate) timers: Timers,
-    /// The selected firings in the order of their selections.
-    pub(crate) pending: Vec<Pair>,
-    /// The moment of the last selection.
-    pub(crate) moment: u64,
     /// The fault that ended the run.
     pub(crate) fault: Option<Fault>,
-    /// Empty between events.
-    pub(crate) notes: Notes,
-}
-
-/// The fault that a job came to, if it faulted.
-pub(crate) fn fault_in(outcome: &Outcome) -> Option<Fault>
-    ensures { result ≡ failure_of outcome.now }
-{
-    match outcome {
-        Outcome::Ran { .. } => None,
-        Outcome::Faulted(kind) => Some(*kind),
-    }
 }
 
 fn has_faulted(outcome: &Outcome) -> bool
@@ -67,9 +41,8 @@ fn has_faulted(outcome: &Outcome) -> bool
 }
 
 impl Replay<'_> {
-    ghost use Rattle.effect_log.specs.Rooms.{HasRoomFor, SeesTheSame, NotesTheSame};
     ghost use Rattle.trace_check.specs.Going.{IsSelectable, IsFaultOf};
-    ghost use Rattle.trace_check.specs.Replays.{IsOpen, IsReplay, IsNext, HasJudged, IsComputedAt, NoneNoted, now};
+    ghost use Rattle.trace_check.specs.Replays.{IsOpen, IsReplay, IsNext, HasJudged, IsComputedAt, now};
 
     // ---- selections
 
@@ -82,28 +55,20 @@ impl Replay<'_> {
         takes: &[Pair],
     ) -> Result<Option<Vec<Wanted>>, AllocError>
         requires { IsOpen self.now }
-        ensures { IfOk result (λ wanted. MatchOption wanted (MaySelect self.now.program.now self.now.budget (now self.now) system.now moment takes.now → ⊥)
-            (λ ws. IsSelectable self.now.program.now self.now.budget (now self.now) system.now moment takes.now ws.items)) }
+        ensures { IfOk result (λ wanted. MatchOption wanted (MaySelect self.now.state.program.now self.now.state.budget (now self.now) system.now moment takes.now → ⊥)
+            (λ ws. IsSelectable self.now.state.program.now self.now.state.budget (now self.now) system.now moment takes.now ws.items)) }
     {
-        if moment < self.moment {
+        if moment < self.state.moment {
             return Ok(None);
         }
-        if !pending::is_idle(&self.pending, system) {
+        if !self.state.is_idle(system) {
             return Ok(None);
         }
-        if !is_system(self.program, &self.shared, system) {
+        if !self.state.is_system(system) {
             return Ok(None);
         }
-        let offering = ask(
-            alloc,
-            self.program,
-            &ByTrees::of(self.program),
-            &self.shared,
-            &self.timers,
-            system,
-            moment,
-            self.budget,
-        )?;
+        let guards = ByTrees::of(self.state.program);
+        let offering = self.state.ask(alloc, &guards, system, moment)?;
         match offering {
             Offering::Faults { .. } => Ok(None),
             Offering::Counts { counts, wanted } => {
@@ -114,28 +79,6 @@ impl Replay<'_> {
                 }
             }
         }
-    }
-
-    /// A system selects.
-    fn put_selection(
-        &mut self,
-        alloc: Global,
-        system: &Path,
-        moment: u64,
-        takes: &[Pair],
-        wanted: &[Wanted],
-    ) -> Result<(), AllocError>
-        requires different { AreDifferent wanted.now }
-        requires more { self.old.count + 1 < 2 ^ 31 }
-        ensures pending { OnOk result (self.new.pending.items ≡ self.old.pending.items ++ takes.now) }
-        ensures timers { OnOk result (self.new.timers ≡ renewed system.now moment wanted.now self.old.timers) }
-        ensures rest { OnOk result (self.new ≡ record self.old { pending = self.new.pending; timers = self.new.timers; moment = moment; count = self.old.count + 1 }) }
-    {
-        pending::append(alloc, &mut self.pending, takes)?;
-        self.timers.renew(alloc, system, moment, wanted)?;
-        self.moment = moment;
-        self.count += 1;
-        Ok(())
     }
 
     /// Whether a selection may come now; then it is made.
@@ -154,7 +97,8 @@ impl Replay<'_> {
         match selected {
             None => Ok(false),
             Some(wanted) => {
-                self.put_selection(alloc, system, moment, takes, &wanted)?;
+                self.state.select(alloc, system, moment, takes, &wanted)?;
+                self.count_one();
                 Ok(true)
             }
         }
@@ -166,78 +110,36 @@ impl Replay<'_> {
     fn compute(&self, alloc: Global, at: usize) -> Result<Done, AllocError>
         requires open { IsOpen self.now }
         requires below { self.now.count < length self.now.events.now }
-        requires there { at < length self.now.pending.items }
+        requires there { at < length self.now.state.untaken.items }
         ensures { IfOk result (IsComputedAt at self.now) }
     {
-        let job = job_of(
-            alloc,
-            self.program,
-            &self.shared,
-            &self.pending[at],
-            0,
-            self.budget,
-        )?;
-        let done = fire_plain(alloc, self.program, job)?;
+        let job = self.state.job(alloc, at, 0)?;
+        let done = fire_plain(alloc, self.state.program, job)?;
         Ok(done)
     }
 
-    /// Makes the room for what was done.
-    pub(crate) fn reserve(&mut self, alloc: Global, done: &Done) -> Result<(), AllocError>
-        ensures same { SeesTheSame self.old.shared self.new.shared }
-        ensures notes { NotesTheSame self.old.notes self.new.notes }
-        ensures room { OnOk result (HasRoomFor done.now.outcome self.new.shared self.new.notes) }
-        ensures rest { self.new ≡ record self.old { shared = self.new.shared; notes = self.new.notes } }
+    /// Puts what a firing did into the situation.
+    fn put(&mut self, done: Done)
+        requires { MayFire (now self.old) self.old.state done }
+        ensures put { IsFired (now self.old) self.old.state self.new.state done }
+        ensures rest { self.new ≡ record self.old { state = self.new.state } }
     {
-        reserve_for(alloc, &mut self.shared, done, &mut self.notes)
+        put_event(&mut self.state, self.events, self.count, done);
     }
 
-    /// Puts what a pending firing did into the situation.
-    fn put(&mut self, done: Done)
-        requires { MayBePut self.old.program.now self.old.shared self.old.notes done (now self.old) }
-        ensures put { IsPutIn self.old.program.now (now self.old) self.new.shared self.old.notes self.new.notes done }
-        ensures rest { self.new ≡ record self.old { shared = self.new.shared; notes = self.new.notes } }
+    /// One event more applies.
+    fn count_one(&mut self)
+        requires { self.old.count + 1 < 2 ^ 31 }
+        ensures { self.new ≡ record self.old { count = self.old.count + 1 } }
     {
-        put_event(
-            self.program,
-            self.events,
-            self.count,
-            self.budget,
-            &mut self.shared,
-            done,
-            &mut self.notes,
-        );
+        self.count += 1;
     }
 
     /// Whether just these outputs and drops are noted.
     pub(crate) fn has_noted(&self, outs: &[Out], drops: &[u64]) -> bool
-        ensures { IsTrue result ↔ ((self.now.notes.outs.items ≡ outs.now) × (self.now.notes.drops.items ≡ drops.now)) }
+        ensures { IsTrue result ↔ ((self.now.state.notes.outs.items ≡ outs.now) × (self.now.state.notes.drops.items ≡ drops.now)) }
     {
-        same_outs(&self.notes.outs, outs) && same_drops(&self.notes.drops, drops)
-    }
-
-    /// Empties the notes.
-    pub(crate) fn clear_notes(&mut self)
-        ensures empty { NoneNoted self.new.notes }
-        ensures rest { self.new ≡ record self.old { notes = self.new.notes } }
-    {
-        self.notes.outs.clear();
-        self.notes.drops.clear();
-        self.notes.arrivals.clear();
-    }
-
-    /// A firing was made: it is no longer pending, and has no timer.
-    fn pass(&mut self, at: usize, path: &Path, trans: u32)
-        requires there { at < length self.old.pending.items }
-        requires more { self.old.count + 1 < 2 ^ 31 }
-        ensures pending { self.new.pending.items ≡ remove self.old.pending.items at }
-        ensures timers { self.new.timers ≡ map.remove self.old.timers (pair path.now trans) }
-        ensures empty { NoneNoted self.new.notes }
-        ensures rest { self.new ≡ record self.old { pending = self.new.pending; timers = self.new.timers; notes = self.new.notes; count = self.old.count + 1 } }
-    {
-        self.clear_notes();
-        self.timers.drop_one(path, trans);
-        let _ = self.pending.remove(at);
-        self.count += 1;
+        same_outs(&self.state.notes.outs, outs) && same_drops(&self.state.notes.drops, drops)
     }
 
     /// Whether a pending firing gives these outputs and drops; then it is made.
@@ -253,19 +155,21 @@ impl Replay<'_> {
         requires next { IsNext self.old (told.Fire path.now trans outs.now drops.now) }
         ensures { IfOk result (HasJudged self.old self.new) }
     {
-        let Some(at) = pending::place(&self.pending, path, trans) else {
+        let Some(at) = self.state.place(path, trans) else {
             return Ok(false);
         };
         let done = self.compute(alloc, at)?;
         if has_faulted(&done.outcome) {
             return Ok(false);
         }
-        self.reserve(alloc, &done)?;
+        self.state.reserve(alloc, &done)?;
+        let _ = self.state.take(at);
         self.put(done);
         if !self.has_noted(outs, drops) {
             return Ok(false);
         }
-        self.pass(at, path, trans);
+        self.state.forget_told();
+        self.count_one();
         Ok(true)
     }
 
@@ -282,8 +186,8 @@ impl Replay<'_> {
     ) -> Result<bool, AllocError>
         requires open { IsOpen self.now }
         requires below { self.now.count < length self.now.events.now }
-        requires place { IsPlaceOf (pair path.now trans) self.now.pending.items at }
-        ensures { IfOk result (λ faults. IsTrue faults ↔ (FiringFaults self.now.program.now self.now.budget (now self.now) path.now trans kind)) }
+        requires place { IsPlaceOf (pair path.now trans) self.now.state.untaken.items at }
+        ensures { IfOk result (λ faults. IsTrue faults ↔ (FiringFaults self.now.state.program.now self.now.state.budget (now self.now) path.now trans kind)) }
     {
         let done = self.compute(alloc, at)?;
         match fault_in(&done.outcome) {
@@ -302,24 +206,16 @@ impl Replay<'_> {
         kind: Fault,
     ) -> Result<bool, AllocError>
         requires { IsOpen self.now }
-        ensures { IfOk result (λ faults. IsTrue faults ↔ (IsFaultOf self.now.program.now self.now.budget (now self.now) system.now path.now trans kind)) }
+        ensures { IfOk result (λ faults. IsTrue faults ↔ (IsFaultOf self.now.state.program.now self.now.state.budget (now self.now) system.now path.now trans kind)) }
     {
-        if !pending::is_idle(&self.pending, system) {
+        if !self.state.is_idle(system) {
             return Ok(false);
         }
-        if !is_system(self.program, &self.shared, system) {
+        if !self.state.is_system(system) {
             return Ok(false);
         }
-        let offering = ask(
-            alloc,
-            self.program,
-            &ByTrees::of(self.program),
-            &self.shared,
-            &self.timers,
-            system,
-            self.moment,
-            self.budget,
-        )?;
+        let guards = ByTrees::of(self.state.program);
+        let offering = self.state.ask(alloc, &guards, system, self.state.moment)?;
         match offering {
             Offering::Counts { .. } => Ok(false),
             Offering::Faults {
@@ -339,7 +235,7 @@ impl Replay<'_> {
         kind: Fault,
     ) -> Result<bool, AllocError>
         requires { IsOpen self.now }
-        ensures { IfOk result (λ faults. IsTrue faults ↔ (GuardFaults self.now.program.now self.now.budget (now self.now) path.now trans kind)) }
+        ensures { IfOk result (λ faults. IsTrue faults ↔ (GuardFaults self.now.state.program.now self.now.state.budget (now self.now) path.now trans kind)) }
     {
         let numbers = path.items();
         for len in 0..numbers.len() + 1 {
@@ -361,9 +257,9 @@ impl Replay<'_> {
     ) -> Result<bool, AllocError>
         requires open { IsOpen self.now }
         requires below { self.now.count < length self.now.events.now }
-        ensures { IfOk result (λ faults. IsTrue faults ↔ (FiringFaults self.now.program.now self.now.budget (now self.now) path.now trans kind ⊎ GuardFaults self.now.program.now self.now.budget (now self.now) path.now trans kind)) }
+        ensures { IfOk result (λ faults. IsTrue faults ↔ (FiringFaults self.now.state.program.now self.now.state.budget (now self.now) path.now trans kind ⊎ GuardFaults self.now.state.program.now self.now.state.budget (now self.now) path.now trans kind)) }
     {
-        match pending::place(&self.pending, path, trans) {
+        match self.state.place(path, trans) {
             Some(at) => self.firing_faults(alloc, at, path, trans, kind),
             None => self.guard_faults(alloc, path, trans, kind),
         }

@@ -15,7 +15,7 @@ returns-then-not-branch-clause-refused c =
 pub returns-then-branch-clause-run : goal.returns-then-branch-clause-run
 returns-then-branch-clause-run c =
     let known = c.loop-index.invariant in
-    let some = some_event c.args.replay.program.now c.args.replay.budget c.args.replay.events.now c.args.replay c.requires.begun in
+    let some = some_event c.args.replay.state.program.now c.args.replay.state.budget c.args.replay.events.now c.args.replay c.requires.begun in
     let all = c.requires.all in
     let last : c.loop-index.index ≡ c.args.count = omega arith in
     all_right c.args.replay c.loop-index.replay c.args.end c.args.count known.keeps known.program known.budget known.events (known.count ∙ last) c.requires.all (is_so c.in_ok-may_end.field-0 c.in_ok-may_end.ensures c.if-branch.true)
@@ -23,19 +23,19 @@ returns-then-branch-clause-run c =
 pub returns-then-branch-clause-fates : goal.returns-then-branch-clause-fates
 returns-then-branch-clause-fates c =
     let r = c.args.replay in
-    let to : IsRunTo r.program.now r.budget r.events.now c.args.end = returns-then-branch-clause-run c in
-    c.outputs_have_one_fate.ensures.one r.program.now r.budget r.events.now to.run
+    let to : IsRunTo r.state.program.now r.state.budget r.events.now c.args.end = returns-then-branch-clause-run c in
+    c.outputs_have_one_fate.ensures.one r.state.program.now r.state.budget r.events.now to.run
 
 pub returns-then-branch-clause-order : goal.returns-then-branch-clause-order
 returns-then-branch-clause-order c =
     let r = c.args.replay in
-    let to : IsRunTo r.program.now r.budget r.events.now c.args.end = returns-then-branch-clause-run c in
-    c.first_in_is_first_out.ensures.first r.program.now c.requires.leads r.budget r.events.now to.run
+    let to : IsRunTo r.state.program.now r.state.budget r.events.now c.args.end = returns-then-branch-clause-run c in
+    c.first_in_is_first_out.ensures.first r.state.program.now c.requires.leads r.state.budget r.events.now to.run
 
 pub returns-clause-refused : goal.returns-clause-refused
 returns-clause-refused c =
     let known = c.loop-index.invariant in
-    let some = some_event c.args.replay.program.now c.args.replay.budget c.args.replay.events.now c.args.replay c.requires.begun in
+    let some = some_event c.args.replay.state.program.now c.args.replay.state.budget c.args.replay.events.now c.args.replay c.requires.begun in
     let all = c.requires.all in
     let last : c.loop-index.index ≡ c.args.count = omega arith in
     let one : 1 ≤ c.args.count = omega arith in

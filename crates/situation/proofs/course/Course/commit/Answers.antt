@@ -1,5 +1,5 @@
-use Rattle.std.proofs.Common.{◌≡◌, ◌≤◌, List, sym, ap, subst, ◌∙◌, arith}
-use Rattle.std.specs.Prelude.{Contains}
+use Rattle.std.proofs.Common.{◌≡◌, ◌≤◌, List, Some, sym, ap, subst, ◌∙◌, arith}
+use Rattle.std.specs.Prelude.{slice_get}
 use Rattle.estelle_tree.specs.Paths.{Path}
 use Rattle.estelle_tree.specs.declared.transition.Pair.{Pair}
 use Rattle.estelle_tree.specs.Timers.{pair}
@@ -41,12 +41,12 @@ settle-requires-clause-may g c =
     subst (λ (x : Course g.row.H.Denot). MaySettle (now x) x c.args.done) (sym c.note_take.ensures.rest)
     (may_settle old c.note_take.new.self (pair c.args.path c.args.done.trans) c.args.done c.requires.open c.requires.below c.requires.none_due c.requires.computed c.note_take.ensures.noted spare)
 
-pub settle-requires-clause-pending : goal.settle-requires-clause-pending
-settle-requires-clause-pending g c =
+pub settle-requires-clause-there : goal.settle-requires-clause-there
+settle-requires-clause-there g c =
     let own : c.args.done.path ≡ c.args.path = c.requires.computed.answers.path ∙ c.requires.computed.is_for.path in
-    let same = ap (λ (x : Course g.row.H.Denot). x.pending.items) c.note_take.ensures.rest in
-    subst (λ (ps : List Pair). Contains ps (pair c.args.done.path c.args.done.trans)) (sym same)
-    (subst (λ (q : Path). Contains c.args.self.now.pending.items (pair q c.args.done.trans)) (sym own) c.requires.computed.pending)
+    let same = ap (λ (x : Course g.row.H.Denot). x.state.untaken.items) c.note_take.ensures.rest in
+    subst (λ (ps : List Pair). slice_get ps c.args.at ≡ Some (pair c.args.done.path c.args.done.trans)) (sym same)
+    (subst (λ (q : Path). slice_get c.args.self.now.state.untaken.items c.args.at ≡ Some (pair q c.args.done.trans)) (sym own) c.requires.there)
 
 pub returns-clause-committed : goal.returns-clause-committed
 returns-clause-committed g c first moment picks =
@@ -54,11 +54,9 @@ returns-clause-committed g c first moment picks =
     let m = c.note_take.new.self in
     let n = c.settle.new.self in
     let done = c.args.done in
-    let own : done.path ≡ c.args.path = c.requires.computed.answers.path ∙ c.requires.computed.is_for.path in
-    let there = subst (λ (x : Course g.row.H.Denot). HasSettled (now x) x n done.path done.trans done c.settle.result) c.note_take.ensures.rest c.settle.ensures in
-    let its = subst (λ (q : Path). HasSettled (now (with_take old m)) (with_take old m) n q done.trans done c.settle.result) own there in
-    committed_step old m (pair c.args.path done.trans) done c.requires.open c.requires.below c.requires.none_due c.requires.computed c.note_take.ensures.noted g.H.Chooser.draw first moment picks n c.settle.result its
+    let its = subst (λ (x : Course g.row.H.Denot). HasSettled (now x) x n c.args.at done c.settle.result) c.note_take.ensures.rest c.settle.ensures in
+    committed_step old m (pair c.args.path done.trans) done c.requires.open c.requires.below c.requires.none_due c.requires.computed c.note_take.ensures.noted g.H.Chooser.draw first moment picks n c.args.at c.settle.result c.requires.there its
 
 pub returns-clause-unclocked : goal.returns-clause-unclocked
 returns-clause-unclocked g c clocked =
-    settled_unclocked (now c.note_take.new.self) c.note_take.new.self c.settle.new.self c.args.done.path c.args.done.trans c.args.done c.settle.result c.settle.ensures clocked
+    settled_unclocked (now c.note_take.new.self) c.note_take.new.self c.settle.new.self c.args.at c.args.done c.settle.result c.settle.ensures clocked

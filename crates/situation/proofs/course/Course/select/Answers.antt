@@ -5,7 +5,8 @@ use Rattle.estelle_model.specs.declared.event.End.TheVariants.{Clock}
 use Rattle.situation.specs.declared.limits.Stepped.TheVariants as did
 use Rattle.situation.specs.Worlds.{HasStepped}
 use Rattle.situation.specs.Steps.{MayBeNow}
-use Rattle.situation.proofs.Ended.{clock_step, on_err}
+use Rattle.situation_state.proofs.At.{on_err}
+use Rattle.situation.proofs.Ended.{clock_step}
 use Rattle.situation.proofs.Answering.{stepped_at, no_cause}
 use Rattle.situation.proofs.course.Course.select.Goals as goal
 

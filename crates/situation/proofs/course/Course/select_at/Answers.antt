@@ -13,7 +13,7 @@ use Rattle.situation.specs.declared.limits.Stepped.{Stepped}
 use Rattle.situation.specs.declared.limits.Stepped.TheVariants as did
 use Rattle.situation.specs.Worlds.{HasStepped, now}
 use Rattle.situation.proofs.Listed.{system_here}
-use Rattle.situation.proofs.Ended.{unchanged}
+use Rattle.situation.proofs.Computed.{unchanged}
 use Rattle.situation.proofs.Selected.{unchanged_before}
 use Rattle.situation.proofs.course.Course.select_at.Goals as goal
 
@@ -24,47 +24,47 @@ put_selected-requires-clause-different g c =
     let x = c.requires.due.first.0 in
     let there = c.requires.due.first.1.there in
     let is : c.index.result.now ≡ x = c.index.ensures ∙ get_or_from_slice_get old.systems.items c.args.at x _ there in
-    let system = subst (λ (y : System). IsSystem old.program.now (now old) y.path) (sym is) (system_here old.program.now (now old) old.systems.items o.going.under_way.all c.args.at x there) in
-    subst AreDifferent (sym c.deref.ensures.value) (c.in-Ok.ensures.selected (now old) (record { stands = o.holds.stands; legal = o.going.under_way.legal; running = o.holds.timers }) system).different
+    let system = subst (λ (y : System). IsSystem old.state.program.now (now old) y.path) (sym is) (system_here old.state.program.now (now old) old.systems.items o.going.under_way.all c.args.at x there) in
+    subst AreDifferent (sym c.deref.ensures.value) (c.in-Ok.ensures.selected (now old) (now old).pending o.at o.going.under_way.legal system).different
 
 pub returns-in-Ok-clause-stepped : goal.returns-in-Ok-clause-stepped
 returns-in-Ok-clause-stepped g c =
     let old = c.args.self.now in
     let o = c.requires.open.is_open in
-    let s = old.program.now in
-    let b = old.limits.budget in
+    let s = old.state.program.now in
+    let b = old.state.budget in
     let draw = g.H.Chooser.draw in
-    let after = c.select.new.chooser in
+    let after = c.choose.new.chooser in
     IfOk-weaker c.put_selected.result _ _
     (λ done h moment may. h old.chooser moment (record { no_earlier = may.no_earlier; last = may.last; undelayed = may.undelayed; told = may.told })
     (λ x there.
     let is : c.index.result.now ≡ x = c.index.ensures ∙ get_or_from_slice_get old.systems.items c.args.at x _ there in
     let system = subst (λ (y : System). IsSystem s (now old) y.path) (sym is) (system_here s (now old) old.systems.items o.going.under_way.all c.args.at x there) in
-    let it = c.in-Ok.ensures.selected (now old) (record { stands = o.holds.stands; legal = o.going.under_way.legal; running = o.holds.timers }) system in
+    let it = c.in-Ok.ensures.selected (now old) (now old).pending o.at o.going.under_way.legal system in
     subst (λ ws. IsSelection draw s b (now old) x.path c.args.now old.chooser after c.in-Ok.field-0.takes.items ws) (sym c.deref.ensures.value)
     (subst (λ (y : System). IsSelection draw s b (now old) y.path c.args.now old.chooser after c.in-Ok.field-0.takes.items c.in-Ok.field-0.wanted.items) is it)))
     c.put_selected.ensures.stepped
 
 pub returns-in-Ok-clause-refused : goal.returns-in-Ok-clause-refused
 returns-in-Ok-clause-refused g c =
-    on_err_weaker c.put_selected.result (unchanged_before c.args.self.now c.select.new.chooser c.put_selected.new.self) c.put_selected.ensures.refused
+    on_err_weaker c.put_selected.result (unchanged_before c.args.self.now c.choose.new.chooser c.put_selected.new.self) c.put_selected.ensures.refused
 
 pub fault-requires-clause-first : goal.fault-requires-clause-first
 fault-requires-clause-first g c x there =
     let old = c.args.self.now in
     let o = c.requires.open.is_open in
-    let s = old.program.now in
-    let b = old.limits.budget in
+    let s = old.state.program.now in
+    let b = old.state.budget in
     let is : c.index.result.now ≡ x = c.index.ensures ∙ get_or_from_slice_get old.systems.items c.args.at x _ there in
     let system = subst (λ (y : System). IsSystem s (now old) y.path) (sym is) (system_here s (now old) old.systems.items o.going.under_way.all c.args.at x there) in
-    let first = c.in-Err-Guard.ensures.refused (now old) (record { stands = o.holds.stands; legal = o.going.under_way.legal; running = o.holds.timers }) system in
+    let first = c.in-Err-Guard.ensures.faults (now old) (now old).pending o.at o.going.under_way.legal system in
     rw c.in-Err-Guard.field-0-is (subst (λ (e : SelectFault). IsRefusal s b (now old) x.path e) c.in-Err-Guard.field-0-is
     (subst (λ (y : System). IsRefusal s b (now old) y.path c.in-Err-Guard.field-0) is first))
 
 pub returns-in-Err-Guard-clause-stepped : goal.returns-in-Err-Guard-clause-stepped
 returns-in-Err-Guard-clause-stepped g c moment may =
     let old = c.args.self.now in
-    let same = subst (λ (e : SelectFault). LeavesChooser old.chooser c.select.new.chooser e) c.in-Err-Guard.field-0-is c.in-Err-Guard.ensures.unasked in
+    let same = subst (λ (e : SelectFault). LeavesChooser old.chooser c.choose.new.chooser e) c.in-Err-Guard.field-0-is c.in-Err-Guard.ensures.leaves in
     subst (λ h. HasStepped g.H.Chooser.draw moment moment (record old { chooser = h }) c.fault.new.self c.fault.result) same (c.fault.ensures.stepped moment)
 
 pub returns-in-Err-Guard-clause-unclocked : goal.returns-in-Err-Guard-clause-unclocked
@@ -75,4 +75,4 @@ returns-in-Err-Guard-clause-unclocked g c is =
 pub returns-in-Err-Memory-clause-refused : goal.returns-in-Err-Memory-clause-refused
 returns-in-Err-Memory-clause-refused g c =
     let old = c.args.self.now in
-    unchanged old (record old { chooser = c.select.new.chooser }) 2 c.requires.open refl refl
+    unchanged old c.choose.new.chooser old.state 2 c.requires.open refl refl c.requires.open.is_open.at

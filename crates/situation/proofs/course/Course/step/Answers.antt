@@ -17,7 +17,7 @@ returns-then-self-from-clause-stepped g c =
     let room : 3 ≤ h.spare = search (rules, tests) in
     let opened = goes_on_so old h 3 c.reserve.ensures.kept room none c.requires.keeps in
     let fired = opened.is_open.fired in
-    let full : fires h.entries ≡ old.limits.turns = search (rules, tests) in
+    let full : fires h.entries ≡ old.turns = search (rules, tests) in
     stepped_so g.H.Chooser.draw m m old c.ended.new.self h c.ended.result c.reserve.ensures.kept
     (subst (HasStepped g.H.Chooser.draw m m (with_history old h) c.ended.new.self) (sym c.ended.ensures.says)
     (subst (λ x. HasStepped g.H.Chooser.draw m m (with_history old h) x (did.Ended Turns)) (sym c.ended.ensures.rest)

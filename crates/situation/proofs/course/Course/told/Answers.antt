@@ -10,4 +10,4 @@ returns-clause-stopped g c clock moment first reached =
     let w = c.args.self in
     let h = course_stops g.H.Chooser.draw w c.requires.keeps clock moment first reached c.in-Some.end c.in-Some.is in
     let same : c.in_ok-run.run'.events ≡ project w.history.entries = c.in_ok-run.ensures in
-    subst (λ (events : List Event). IsStopped g.H.Chooser.draw first clock w.program.now w.limits.budget w.limits.turns events c.in-Some.end) (sym same) h
+    subst (λ (events : List Event). IsStopped g.H.Chooser.draw first clock w.state.program.now w.state.budget w.turns events c.in-Some.end) (sym same) h

@@ -10,6 +10,6 @@ pub returns-in-None-clause-stepped : goal.returns-in-None-clause-stepped
 returns-in-None-clause-stepped g c =
     let old = c.args.self.now in
     let m = g.C.Clock.moment c.args.clock.now in
-    let none : next_due old.timers ≡ None = search rules in
+    let none : next_due old.state.timers ≡ None = search rules in
     subst (HasStepped g.H.Chooser.draw m m old c.ended.new.self) (sym c.ended.ensures.says)
     (subst (λ x. HasStepped g.H.Chooser.draw m m old x (did.Ended Dead)) (sym c.ended.ensures.rest) (dead_step g.H.Chooser.draw m old c.ended.new.self 2 c.requires.open c.requires.idle none c.ended.ensures.noted))

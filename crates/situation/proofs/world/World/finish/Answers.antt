@@ -5,4 +5,4 @@ use Rattle.situation.proofs.world.World.finish.Goals as goal
 pub returns-clause-order : goal.returns-clause-order
 returns-clause-order g c =
     let course = c.self.inside.course in
-    rw (← c.self.view_is) (c.first_in_is_first_out.ensures.first course.program.now (ended_leads course c.self.invariant.0 c.in-Some.end c.in-Some.is) course.limits.budget (project course.history.entries) (ended_run course c.self.invariant.0 c.in-Some.end c.in-Some.is))
+    rw (← c.self.view_is) (c.first_in_is_first_out.ensures.first course.state.program.now (ended_leads course c.self.invariant.0 c.in-Some.end c.in-Some.is) course.state.budget (project course.history.entries) (ended_run course c.self.invariant.0 c.in-Some.end c.in-Some.is))

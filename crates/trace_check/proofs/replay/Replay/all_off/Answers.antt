@@ -19,8 +19,8 @@ loop-part-preserved-then-not-is_system c =
     let xs = c.deref-part-items.result.now in
     let i = c.loop-part.part-index in
     let q = c.part-item.result in
-    off_more r.program.now r.budget g (map (λ (x : Bor Part). x.now) xs) i q.now c.loop-part.invariant (ap (λ (x : Bor Part). x.now) c.part-item.is ∙ sym (pointed_at xs i q))
-    (λ systems. absurd (not_both (is_system (attribute_at r.program.now g q.now.path)) systems (sym (c.is_system.ensures g o.holds.stands o.going.legal) ∙ c.if-not-is_system.true)))
+    off_more r.state.program.now r.state.budget g (map (λ (x : Bor Part). x.now) xs) i q.now c.loop-part.invariant (ap (λ (x : Bor Part). x.now) c.part-item.is ∙ sym (pointed_at xs i q))
+    (λ systems. absurd (not_both (is_system (attribute_at r.state.program.now g q.now.path)) systems (sym (c.is_system.ensures g o.at.stands o.going.legal) ∙ c.if-not-is_system.true)))
 
 pub loop-part-preserved : goal.loop-part-preserved
 loop-part-preserved c =
@@ -28,7 +28,7 @@ loop-part-preserved c =
     let xs = c.deref-part-items.result.now in
     let i = c.loop-part.part-index in
     let q = c.part-item.result in
-    off_more r.program.now r.budget (now r) (map (λ (x : Bor Part). x.now) xs) i q.now c.loop-part.invariant (ap (λ (x : Bor Part). x.now) c.part-item.is ∙ sym (pointed_at xs i q))
+    off_more r.state.program.now r.state.budget (now r) (map (λ (x : Bor Part). x.now) xs) i q.now c.loop-part.invariant (ap (λ (x : Bor Part). x.now) c.part-item.is ∙ sym (pointed_at xs i q))
     (λ systems. is_so c.in_ok-is_off.field-0 c.in_ok-is_off.ensures c.if-not-branch.false)
 
 pub returns : goal.returns
@@ -41,5 +41,5 @@ returns c =
     let all : length xs ≤ i = omega arith in
     let same = length-map xs (λ (x : Bor Part). x.now) in
     let ends : length ps ≤ i = omega (arith, all, same) in
-    let are : ps ≡ trees.parts_below r.shared.tree.instances [] = ap (map (λ (x : Bor Part). x.now)) c.deref-part-items.ensures.value ∙ c.in-Ok.ensures.parts ∙ ap (trees.parts_below r.shared.tree.instances) c.root-root.ensures in
-    always (systems_off r.program.now r.budget (now r) o.going.legal o.going.root (off_all r.program.now r.budget (now r) r.shared.tree o.holds.stands.instances ps are i ends c.loop-part.invariant))
+    let are : ps ≡ trees.parts_below r.state.shared.tree.instances [] = ap (map (λ (x : Bor Part). x.now)) c.deref-part-items.ensures.value ∙ c.in-Ok.ensures.parts ∙ ap (trees.parts_below r.state.shared.tree.instances) c.root-root.ensures in
+    always (systems_off r.state.program.now r.state.budget (now r) o.going.legal o.going.root (off_all r.state.program.now r.state.budget (now r) r.state.shared.tree o.at.stands.instances ps are i ends c.loop-part.invariant))

@@ -5,4 +5,4 @@ use Rattle.trace_check.proofs.replay.Replay.all_off.Given as goal
 
 -- those of the parts so far that are systems are off
 abbrev pub invariant-loop-part : goal.invariant-loop-part
-invariant-loop-part l = OffBefore l.self.program.now l.self.budget (now l.self) (map (λ r. r.now) l.part-items) l.part-index
+invariant-loop-part l = OffBefore l.self.state.program.now l.self.state.budget (now l.self) (map (λ r. r.now) l.part-items) l.part-index

@@ -9,5 +9,5 @@ returns c =
     let r = c.args.self.now in
     let same : length c.items-numbers.result.now ≡ length c.args.path.now = ap length c.items-numbers.ensures in (
       (λ is. absurd (not_both false is refl)),
-      (λ faults. absurd (of_none r.program.now r.budget (now r) c.args.path.now c.args.trans c.args.kind c.loop-len.len (omega (arith, same, c.loop-len-test.false)) c.loop-len.invariant faults)),
+      (λ faults. absurd (of_none r.state.program.now r.state.budget (now r) c.args.path.now c.args.trans c.args.kind c.loop-len.len (omega (arith, same, c.loop-len-test.false)) c.loop-len.invariant faults)),
     )

@@ -13,22 +13,22 @@ returns-then-not-is_empty c =
     let r = c.args.self.now in
     let o = c.requires.open in
     let g = now r in
-    let k = subst (λ a. IsOffering r.program.now r.budget g c.args.system.now r.moment a) c.in-Counts.is (c.in_ok-offering.ensures g o.holds.stands o.going.legal o.holds.timers c.requires.is_system) in
+    let k = subst (λ a. IsOffering r.state.program.now r.state.budget g c.args.system.now r.state.moment a) c.in-Counts.is (c.in_ok-offering.ensures g g.pending o.at o.going.legal c.requires.is_system) in
     let some : c.in-Counts.wanted.items ≡ [] → ⊥ = search rules in
-    never (λ off. some (k.2 ∙ none_wanted r.program.now r.budget g c.args.system.now r.moment off))
+    never (λ off. some (k.2 ∙ none_wanted r.state.program.now r.state.budget g c.args.system.now r.state.moment off))
 
 pub returns : goal.returns
 returns c =
     let r = c.args.self.now in
     let o = c.requires.open in
-    let s = r.program.now in
-    let b = r.budget in
+    let s = r.state.program.now in
+    let b = r.state.budget in
     let g = now r in
     let m = c.args.system.now in
-    let k = subst (λ a. IsOffering s b g m r.moment a) c.in-Counts.is (c.in_ok-offering.ensures g o.holds.stands o.going.legal o.holds.timers c.requires.is_system) in
+    let k = subst (λ a. IsOffering s b g m r.state.moment a) c.in-Counts.is (c.in_ok-offering.ensures g g.pending o.at o.going.legal c.requires.is_system) in
     let v = c.in-Counts.wanted in
     let none : v.items ≡ [] = vec_empty v.items v.len c.is_empty.result c.is_empty.ensures c.if-not-is_empty.false v.ok.0 in
-    let counts : AreCountings s b (renew s b g m r.moment) m c.deref.result.now = subst (AreCountings s b (renew s b g m r.moment) m) (sym c.deref.ensures.value) k.0 in
+    let counts : AreCountings s b (renew s b g m r.state.moment) m c.deref.result.now = subst (AreCountings s b (renew s b g m r.state.moment) m) (sym c.deref.ensures.value) k.0 in
     as_well c.none_counted.result c.none_counted.ensures
-    (λ all. all_off s b g m r.moment k.1 (none_of_all s b g m r.moment c.deref.result.now counts all) (sym k.2 ∙ none))
-    (λ off. all_of_none s b g m r.moment c.deref.result.now counts (none_counted s b g m r.moment off))
+    (λ all. all_off s b g m r.state.moment k.1 (none_of_all s b g m r.state.moment c.deref.result.now counts all) (sym k.2 ∙ none))
+    (λ off. all_of_none s b g m r.state.moment c.deref.result.now counts (none_counted s b g m r.state.moment off))

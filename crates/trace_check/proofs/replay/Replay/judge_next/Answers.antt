@@ -8,4 +8,4 @@ use Rattle.trace_check.proofs.replay.Replay.judge_next.Goals as goal
 pub returns-in-Start : goal.returns-in-Start
 returns-in-Start c =
     let r = c.args.self.now in
-    wrong r c.requires.open c.args.event.now c.requires.next (subst (λ (e : Event). Applies r.program.now r.budget (now r) e → ⊥) (sym c.in-Start.is) (λ x. x))
+    wrong r c.requires.open c.args.event.now c.requires.next (subst (λ (e : Event). Applies r.state.program.now r.state.budget (now r) e → ⊥) (sym c.in-Start.is) (λ x. x))

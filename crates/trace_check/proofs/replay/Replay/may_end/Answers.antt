@@ -13,8 +13,8 @@ use Rattle.trace_check.proofs.replay.Replay.may_end.Goals as goal
 pub returns-in-Dead : goal.returns-in-Dead
 returns-in-Dead c =
     let r = c.args.self.now in
-    let s = r.program.now in
-    let b = r.budget in
+    let s = r.state.program.now in
+    let b = r.state.budget in
     let es = r.events.now in
     let o : IsOpen r = subst (IsKept r) c.in-None.is c.requires.keeps in
     subst (λ (e : End). IfOk c.is_dead.result (λ d. IsTrue d ↔ Closes s b es e)) (sym c.in-Dead.is)
@@ -24,8 +24,8 @@ returns-in-Dead c =
 pub returns-in-Faulted-end : goal.returns-in-Faulted-end
 returns-in-Faulted-end c =
     let r = c.args.self.now in
-    let s = r.program.now in
-    let b = r.budget in
+    let s = r.state.program.now in
+    let b = r.state.budget in
     let es = r.events.now in
     let f : IsFaulted s b es r.count c.in-Some.own = subst (IsKept r) c.in-Some.is c.requires.keeps in
     subst (λ (e : End). IsTrue c.same_kind.result ↔ Closes s b es e) (sym c.in-Faulted-end.is)
