@@ -1,15 +1,20 @@
 #!/bin/sh
 # Looks up each crate, file, call, clause and definition that docs/PROMISES.md and the crates' README.md name in backquotes, and fails
-# where one is gone. The lines of a fenced block in a README.md are to stand one behind another in a source file. It proves nothing:
-# that a clause says what the document says of it, a reader must see. The merge gate calls it (.ci/run).
+# where one is gone. Each crate and each law is to stand in docs/PROMISES.md once, and each README.md to have its row there. The lines of a
+# fenced block in a README.md are to stand one behind another in a source file. It proves nothing: that a clause says what the document
+# says of it, a reader must see. The merge gate calls it (.ci/run).
 #
 # usage: bench/promises.sh
 #
-# What stands behind the name of a crate in bold letters, up to the next one or a heading, or in a crate's README.md, is looked up in that
-# crate and in those that its paragraph names besides, a definition also in all on which these stand; what stands elsewhere, in all crates. Behind
-# `clause` or `clauses`, and in the first cell of a row, it must be the name of a clause (`ensures NAME`) or of a part of a
-# definition; in brackets right behind a call that of a clause of this call, or of a definition or a call; else it may be that of a
-# type or a field too. Each crate must have its name in bold letters in docs/PROMISES.md.
+# What stands behind the name of a crate in bold letters, up to the next one or a heading, behind a heading that names a crate, or in a
+# crate's README.md, is looked up in that crate and in those that its paragraph names besides, a definition also in all on which these
+# stand; what stands elsewhere, in all crates. Behind `clause` or `clauses`, and in the first cell of a row, it must be the name of a
+# clause (`ensures NAME`) or of a part of a definition; in brackets right behind a call that of a clause of this call, or of a definition or
+# a call; else it may be that of a type or a field too.
+#
+# Two kinds of rows are judged by the crate that they name. `| **[CRATE](../crates/CRATE/README.md)** | .. |` tells of a crate with a
+# README.md. `| LAW, .. | CRATE | .. |` tells of laws of this crate, functions with a contract and no body; behind `clause` or `clauses`
+# there must be one that each of them has.
 set -u
 top=$(cd "$(dirname "$0")/.." && pwd)
 document=docs/PROMISES.md
@@ -22,13 +27,11 @@ cat >"$folder/words" <<'END'
 estelle_tree else
 pascal_values mod
 pascal_values 0..b-1
-statement_parser else
-statement_parser if
 pascal_parser (
 pascal_parser not
 pascal_parser begin
 clause_parser trans
-body_table any
+meaning_table any
 body_program any
 transition_expand any
 estelle_printer show
@@ -84,8 +87,9 @@ grep '^crates/[a-z0-9_]*/\(src/.*\.rt\|specs/.*\.antt\)$' "$folder/files" | whil
                 else { sub(/^(impl|trait) */, "", owner); owner = behind_brackets(owner) }
                 owner = first_name(owner)
             } else if (text ~ /^}/) owner = ""
+            if (text == "{}" && is_public) told("law", call)
             if (match(text, /(^|[ \t])fn [a-z_0-9]+/)) {
-                part = substr(text, RSTART, RLENGTH); sub(/^[ \t]*fn /, "", part); told("code", part); call = part
+                part = substr(text, RSTART, RLENGTH); sub(/^[ \t]*fn /, "", part); told("code", part); call = part; is_public = text ~ /^pub fn/
                 if (owner != "") told("code", owner "::" part)
             }
             if (match(text, /^[ \t]*(pub(\([a-z]*\))? )?(struct|enum|trait|type) [A-Za-z0-9_]+/)) {
@@ -146,7 +150,7 @@ awk -v document="$document" -v folder="$folder" '
     }
     function judge(name, is_clause, call,   bare) {
         tried++
-        if ((home, name) in word) return
+        if ((home, name) in word) { used[home, name] = 1; return }
         if (name in is_crate && !is_clause) return
         if (name ~ /\// || name ~ /\.(md|antt|rt|sh)$/) {
             bare = name
@@ -159,8 +163,51 @@ awk -v document="$document" -v folder="$folder" '
         printf "FAILED: %s, the part that begins in line %d (%s): `%s`%s\n", part_of, start, home == "-" ? "any crate" : home, name,
             is_clause ? ", as a clause" : call == "" ? "" : ", of the call `" call "`"
     }
-    function close_paragraph(   pieces, count, i) {
+    function fail(what) { failed++; printf "FAILED: %s, the part that begins in line %d: %s\n", part_of, start, what }
+    function tell(crate) { if (told[crate]++) fail("`" crate "` is told of twice") }
+    # The row of a crate with a README.md
+    function judge_row_of_crate(crate,   path) {
+        path = "crates/" crate "/README.md"
+        if (!(crate in is_crate)) fail("no crate `" crate "`")
+        else if (!(path in is_file) || index(paragraph, "(../" path ")") == 0) fail("no link to " path)
+        tell(crate)
+        has_row[crate] = 1
+    }
+    # The row of laws of a crate: the first cell, then the crate, then what they say, where only what stands behind `clause` is a clause.
+    function judge_row_of_laws(cells, crate,   pieces, count, i, j, laws) {
+        home = crate
+        delete scope
+        scope[crate] = 1
+        count = split(cells[2], pieces, "`")
+        for (i = 2; i <= count; i += 2) {
+            tried++
+            laws[pieces[i]] = 1
+            if (!((crate, "law", pieces[i]) in there)) fail("`" pieces[i] "` is no law of `" crate "`")
+            else if (law_told[crate, pieces[i]]++) fail("`" pieces[i] "` is told of twice")
+        }
+        count = split(cells[4], pieces, "`")
+        for (i = 2; i <= count; i += 2) {
+            if (pieces[i] in is_crate) scope[pieces[i]] = 1
+            if (is_clause_at(pieces, i)) { tried++; for (j in laws) if (!((crate, "clause", j "." pieces[i]) in there)) fail("`" j "` has no clause `" pieces[i] "`") }
+            else judge(pieces[i], 0, "")
+        }
+    }
+    function close_paragraph(   pieces, count, i, cells, name) {
         if (paragraph == "") return
+        if (part_of == document && match(paragraph, /^\| \*\*\[`[a-z_0-9]*`\]/)) {
+            judge_row_of_crate(substr(paragraph, 7, RLENGTH - 8))
+            paragraph = ""
+            return
+        }
+        if (part_of == document && paragraph ~ /^\|/ && split(paragraph, cells, "|") == 5 && match(cells[3], /^ `[a-z_0-9]*` $/)) {
+            name = substr(cells[3], 3, RLENGTH - 4)
+            if (name in is_crate) {
+                judge_row_of_laws(cells, name)
+                home = base
+                paragraph = ""
+                return
+            }
+        }
         if (match(paragraph, /^\*\*`[a-z_0-9]*`\*\*/)) {
             home = substr(paragraph, 4, RLENGTH - 6)
             if (!(home in is_crate)) home = "-"
@@ -170,7 +217,7 @@ awk -v document="$document" -v folder="$folder" '
         count = split(paragraph, pieces, "`")
         for (i = 2; i <= count; i += 2) if (pieces[i] in is_crate) {
             scope[pieces[i]] = 1
-            if (pieces[i - 1] ~ /\*\*$/) told[pieces[i]] = 1
+            if (part_of == document && pieces[i - 1] ~ /\*\*$/) tell(pieces[i])
         }
         for (i = 2; i <= count; i += 2) judge(pieces[i], is_clause_at(pieces, i), call_before(pieces, i))
         paragraph = ""
@@ -203,13 +250,26 @@ awk -v document="$document" -v folder="$folder" '
     }
     /^```/ { close_paragraph(); inside = !inside; if (inside) blocks++; next }
     inside { line = $0; gsub(/^[ \t]+|[ \t]+$/, "", line); print blocks, FILENAME, line > (folder "/blocks"); next }
-    /^#/ { close_paragraph(); home = base; next }
+    /^#/ {
+        close_paragraph(); home = base
+        count = split($0, part, "`")
+        for (i = 2; i <= count; i += 2) if (part[i] in is_crate) home = part[i]
+        next
+    }
     /^$/ { close_paragraph(); next }
     /^\|/ { close_paragraph(); start = FNR; paragraph = $0; close_paragraph(); next }
     { if (paragraph == "") { start = FNR; paragraph = $0 } else paragraph = paragraph " " $0 }
     END {
         close_paragraph()
-        for (c in is_crate) if (!(c in told)) { failed++; printf "FAILED: %s has no part on `%s`\n", document, c }
+        for (c in is_crate) {
+            if (!(c in told)) { failed++; printf "FAILED: %s has no part on `%s`\n", document, c }
+            if (("crates/" c "/README.md") in is_file && !(c in has_row)) { failed++; printf "FAILED: %s has no row on the README.md of `%s`\n", document, c }
+        }
+        for (i in there) {
+            split(i, w, SUBSEP)
+            if (w[2] == "law" && !((w[1], w[3]) in law_told)) { failed++; printf "FAILED: %s has no row on the law `%s` of `%s`\n", document, w[3], w[1] }
+        }
+        for (i in word) if (!(i in used)) { failed++; split(i, w, SUBSEP); printf "FAILED: nothing about `%s` has the word `%s` of the list\n", w[1], w[2] }
         printf "%d names, %d failed\n", tried, failed
         exit failed > 0 || tried == 0
     }
