@@ -166,12 +166,18 @@ awk -v document="$document" -v folder="$folder" '
     function fail(what) { failed++; printf "FAILED: %s, the part that begins in line %d: %s\n", part_of, start, what }
     function tell(crate) { if (told[crate]++) fail("`" crate "` is told of twice") }
     # The row of a crate with a README.md
-    function judge_row_of_crate(crate,   path) {
+    function judge_row_of_crate(crate,   path, pieces, count, i) {
         path = "crates/" crate "/README.md"
         if (!(crate in is_crate)) fail("no crate `" crate "`")
         else if (!(path in is_file) || index(paragraph, "(../" path ")") == 0) fail("no link to " path)
         tell(crate)
         has_row[crate] = 1
+        home = crate
+        delete scope
+        scope[crate] = 1
+        count = split(substr(paragraph, index(paragraph, "README.md")), pieces, "`")
+        for (i = 2; i <= count; i += 2) judge(pieces[i], 0, "")
+        home = base
     }
     # The row of laws of a crate: the first cell, then the crate, then what they say, where only what stands behind `clause` is a clause.
     function judge_row_of_laws(cells, crate,   pieces, count, i, j, laws) {
