@@ -132,7 +132,7 @@ open_rise es h = rises es [] 1 (λ i j d lt within. absurd (omega (arith, within
 
 -- ---- what is taken next
 
-same_is : (o : Taken) (m : Path) (n : ℕ) → same_pair (pair o.path o.trans) (pair m n) ≡ true → (o.path ≡ m) × (o.trans ≡ n)
+pub same_is : (o : Taken) (m : Path) (n : ℕ) → same_pair (pair o.path o.trans) (pair m n) ≡ true → (o.path ≡ m) × (o.trans ≡ n)
 same_is o m n e = let x = and_both (bytes_eq o.path m) (nat_eq o.trans n) e in (same_path o.path m x.0, same_number o.trans n x.1)
 
 module _ (s : Subject) (budget : ℕ) (es : List Entry) (m : Path) (n : ℕ) where

@@ -15,19 +15,19 @@ use Rattle.run_history.specs.OpenTickets.{after_what, untaken, AreOnce, TakesLea
 
 -- ---- firings as pairs
 
-is_it : (p q : Pair) → same_pair p q ≡ true → q ≡ p
+pub is_it : (p q : Pair) → same_pair p q ≡ true → q ≡ p
 is_it p q e =
     let both = and_both (bytes_eq p.path q.path) (nat_eq p.trans q.trans) e in
     (λ i. record { path = sym (same_path p.path q.path both.0) i; trans = sym (same_number p.trans q.trans both.1) i })
 
-itself : (p : Pair) → same_pair p p ≡ true
+pub itself : (p : Pair) → same_pair p p ≡ true
 itself p = both_and (bytes_eq p.path p.path) (nat_eq p.trans p.trans) (path_is p.path) (number_is p.trans)
 
 -- of one that is another one
 through : (p q r : Pair) → same_pair p q ≡ true → same_pair p r ≡ same_pair q r
 through p q r e = ap (λ (x : Pair). same_pair x r) (sym (is_it p q e))
 
-abbrev of : Taken → Pair
+abbrev pub of : Taken → Pair
 of o = pair o.path o.trans
 
 abbrev is_taken : List Taken → Pair → Bool

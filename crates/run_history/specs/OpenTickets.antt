@@ -1,12 +1,13 @@
 -- Open tickets as a list: what workers took and have not settled yet, in the order in which they took it.
-use Rattle.std.specs.Prelude.{◌≡◌, ◌≢◌, ◌↔◌, ℕ, ◌+◌, ◌<◌, true, false, not, List, [], ◌∷◌, ◌++◌, length, fold, filter, All, AllPairs, Contains}
-use Rattle.std.specs.List.{list_any, AllByRecursion}
+use Rattle.std.specs.Prelude.{◌≡◌, ◌≢◌, ◌↔◌, ℕ, ◌+◌, ◌<◌, true, false, not, List, [], ◌∷◌, ◌++◌, length, fold, filter, slice_get, Some, All, AllPairs, Contains}
+use Rattle.std.specs.List.{list_any, remove, AllByRecursion}
 use Rattle.estelle_tree.specs.Paths.{Path}
 use Rattle.estelle_tree.specs.Timers.{pair}
 use Rattle.estelle_tree.specs.declared.transition.Pair.{Pair}
 use Rattle.estelle_model.specs.declared.job.Job.{Job}
 use Rattle.estelle_model.specs.Subject.{Subject}
 use Rattle.estelle_model.specs.declared.effect.Out.{Out}
+use Rattle.estelle_model.specs.declared.event.Event.{Event}
 use Rattle.estelle_model.specs.declared.event.Event.TheVariants as event
 use Rattle.estelle_model.specs.Runs.{same_pair, without, situation}
 use Rattle.run_history.specs.declared.entry.Entry.{Entry}
@@ -61,6 +62,28 @@ TicketsStayOpen = (s : Subject) (budget : ℕ) (es more : List Entry) (o : Taken
 -- the job of a ticket stays the same, whatever is noted later
 abbrev pub JobsStay : Type 0
 JobsStay = (s : Subject) (budget : ℕ) (es more : List Entry) (job : Job) → IsJobOf s budget es job → IsJobOf s budget (es ++ more) job
+
+-- ---- what settles a ticket
+
+-- no two tickets are of one firing
+abbrev pub AreApart : List Taken → Type 0
+AreApart [] = Unit {0}
+AreApart (o ∷ os) = AllByRecursion (λ x. same_pair (pair o.path o.trans) (pair x.path x.trans) ≡ false) os × AreApart os
+
+abbrev pub OpenTicketsAreApart : Type 0
+OpenTicketsAreApart = (s : Subject) (budget : ℕ) (es : List Entry) → AreTickets s budget es → AreApart (open_in es)
+
+-- what settles a ticket settles no other, so that its writer may note it
+abbrev pub SettlingFollows : Type 0
+SettlingFollows = (s : Subject) (budget : ℕ) (es : List Entry) → AreTickets s budget es → (at : ℕ) (o : Taken) → slice_get (open_in es) at ≡ Some o → (e : Event) → settled_by o.path o.trans e ≡ true → MayFollow s budget es o.by (what.Event e)
+
+-- and it takes that ticket alone out
+abbrev pub SettlingTakesOut : Type 0
+SettlingTakesOut = (os : List Taken) → AreApart os → (at : ℕ) (o : Taken) → slice_get os at ≡ Some o → (e : Event) (by : ℕ) → settled_by o.path o.trans e ≡ true → after_what by (what.Event e) os ≡ remove os at
+
+-- what settles none takes none out
+abbrev pub OthersTakeNoneOut : Type 0
+OthersTakeNoneOut = (os : List Taken) (e : Event) (by : ℕ) → AllByRecursion (λ o. settled_by o.path o.trans e ≡ false) os → after_what by (what.Event e) os ≡ os
 
 -- ---- what nobody has taken
 

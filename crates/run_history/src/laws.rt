@@ -1,6 +1,6 @@
 //! Laws on tickets: their contracts are the laws, and they do nothing.
 
-ghost use Rattle.run_history.specs.OpenTickets.{OpenTicketsAreListed, OpenTicketsRise, TicketsGoOn, TicketsStayOpen, JobsStay, TakesLeave, FiringsLeave, SelectionsLeave};
+ghost use Rattle.run_history.specs.OpenTickets.{OpenTicketsAreListed, OpenTicketsRise, TicketsGoOn, TicketsStayOpen, JobsStay, OpenTicketsAreApart, SettlingFollows, SettlingTakesOut, OthersTakeNoneOut, TakesLeave, FiringsLeave, SelectionsLeave};
 
 /// The open tickets of any entries are those of the list `open_in`, in order.
 pub fn open_tickets_are_listed()
@@ -17,6 +17,14 @@ pub fn tickets_go_on()
 pub fn still_open()
     ensures open { TicketsStayOpen }
     ensures job_carries { JobsStay }
+{}
+
+/// No two open tickets are of one firing, so what settles a ticket settles no other, and takes it alone out of the list.
+pub fn tickets_are_settled()
+    ensures apart { OpenTicketsAreApart }
+    ensures follow { SettlingFollows }
+    ensures out { SettlingTakesOut }
+    ensures others { OthersTakeNoneOut }
 {}
 
 /// What is pending and was not taken: a take takes its firing out of it, a firing that was taken leaves it as it is, and what a

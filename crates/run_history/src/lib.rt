@@ -13,4 +13,6 @@ mod laws;
 
 pub use entry::{Entry, Taken, What};
 pub use history::{History, count_fires, into_run, project};
-pub use laws::{open_tickets_are_listed, still_open, tickets_go_on, untaken_go_on};
+pub use laws::{
+    open_tickets_are_listed, still_open, tickets_are_settled, tickets_go_on, untaken_go_on,
+};
