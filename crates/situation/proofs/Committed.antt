@@ -33,7 +33,8 @@ use Rattle.situation_steps.specs.Systems.{NoneIsDue, after_firing}
 use Rattle.situation.specs.declared.limits.Stepped.{Stepped}
 use Rattle.situation.specs.declared.limits.Stepped.TheVariants as did
 use Rattle.situation.specs.declared.course.Course.{Course}
-use Rattle.situation.specs.Runs.{noted, ending, take_of, IsGoing, IsClosed, AreReached}
+use Rattle.situation.specs.Planned.{IsPlannedOn}
+use Rattle.situation.specs.Runs.{noted, ending, take_of, IsGoing, IsClosed}
 use Rattle.situation_images.specs.Putting.{arrivals_of}
 use Rattle.situation.specs.Worlds.{IsOpenCourse, IsEndedCourse, IsKept, HasStepped, now, work, left_to_do}
 use Rattle.situation.specs.Steps.{GoesOn, MaySettle, IsComputed, HasFired, HasFailed, SettledSo, HasSettled}
@@ -41,7 +42,7 @@ use Rattle.situation.proofs.Steps.{project_push}
 use Rattle.situation.proofs.Adding.{adds_on}
 use Rattle.situation.proofs.Computed.{own}
 use Rattle.situation.proofs.Less.{left_open, less_fired}
-use Rattle.situation.proofs.Firings.{answers_in, failing, failed_closes, failed_now, failed_count, failed_next, failed_reached, fired_situation, fired_going, fired_next, fired_reached, fired_numbers, count_is}
+use Rattle.situation.proofs.Firings.{answers_in, failing, failed_closes, failed_now, failed_count, failed_next, failed_planned, fired_situation, fired_going, fired_next, fired_planned, fired_numbers, count_is}
 
 -- a fault, which ends the run, leaves less to do
 less_ended : (n y : ℕ) → y ≡ 1 + n → 0 < y
@@ -150,8 +151,8 @@ module _ {H : Type 0} where
             goes_on = record {
               program = refl;
               limits = refl;
-              reached = λ clock first r. subst (λ (xs : List Entry). AreReached draw s b t clock first xs c.chooser c.time moment) (sym e)
-                  (failed_reached s o.leads b t es c.time c.systems.items o.going none_due below p is_pending (c.tickets + 1) next_is kind draw first_chooser c.chooser picked moment clock first r);
+              planned = subst (λ (xs : List Entry). IsPlannedOn draw s b t es first_chooser c.time moment xs c.chooser c.time moment did.Faulted) (sym e)
+                  (failed_planned s o.leads b t es c.time c.systems.items o.going none_due below p is_pending (c.tickets + 1) next_is kind f draw first_chooser c.chooser picked moment);
             };
             leaves = less_ended ((t - fires es) * (2 * length c.systems.items + 3) + ((if c.time.may_wait then length c.systems.items + 1 else 0) + count_by (λ (x : System). x.awaits) c.systems.items)) (left_to_do before) start;
             adds = adds_on c.end es n.history.entries did.Faulted opened.unended (c.tickets + 1, p, kind, e);
@@ -198,8 +199,8 @@ module _ {H : Type 0} where
             goes_on = record {
               program = refl;
               limits = refl;
-              reached = λ clock first r. subst (λ (xs : List Entry). AreReached draw s b t clock first xs c.chooser time moment) (sym e)
-                  (fired_reached s o.leads b t es c.time c.systems.items o.going none_due below p is_pending (c.tickets + 1) next_is computed.job computed.is_for done computed.answers image effects is draw first_chooser c.chooser picked moment clock first r);
+              planned = subst (λ (xs : List Entry). IsPlannedOn draw s b t es first_chooser c.time moment xs c.chooser time moment did.Fired) (sym e)
+                  (fired_planned s o.leads b t es c.time c.systems.items o.going none_due below p is_pending (c.tickets + 1) next_is computed.job computed.is_for done computed.answers image effects is draw first_chooser c.chooser picked moment);
             };
             leaves = less_fired (fires n.history.entries) (fires es) t c.time.may_wait c.systems.items n.systems.items (left_to_do (with_firing c m n)) (left_to_do before) count below many after start;
             adds = adds_on c.end es n.history.entries did.Fired opened.unended (c.tickets + 1, p, a.outs, a.drops, e);

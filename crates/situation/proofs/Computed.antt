@@ -138,7 +138,7 @@ module _ {H : Type 0} where
       let h = subst (λ (y : State). HasStepped draw moment moment (with_state c y) n d) (own_is c x program budget) s in
       record {
         keeps = h.keeps;
-        goes_on = record { program = h.goes_on.program; limits = h.goes_on.limits; reached = h.goes_on.reached };
+        goes_on = record { program = h.goes_on.program; limits = h.goes_on.limits; planned = h.goes_on.planned };
         leaves = h.leaves;
         adds = h.adds;
         waits = h.waits;

@@ -25,11 +25,13 @@ use Rattle.situation_steps.proofs.Waiting.{timers_are_waited_for}
 use Rattle.situation.specs.declared.limits.Stepped.{Stepped}
 use Rattle.situation.specs.declared.limits.Stepped.TheVariants as did
 use Rattle.situation.specs.declared.course.Course.{Course}
-use Rattle.situation.specs.Runs.{noted, ending, IsClosed, AreReached}
+use Rattle.situation.specs.Planned.{IsPlannedOn}
+use Rattle.situation.specs.Runs.{noted, ending, IsClosed}
 use Rattle.situation.specs.Worlds.{AddsEnd, IsOpenCourse, IsEndedCourse, HasStepped, now}
 use Rattle.situation.specs.Steps.{GoesOn, IsDueAt, IsIdle, MayWaitFor, IsFaultAt}
 use Rattle.situation.proofs.Adding.{adds_on, all_taken}
-use Rattle.situation.proofs.Steps.{project_end, fires_same, reached_end, ended_closes, guard_faults_now}
+use Rattle.situation.proofs.Planned.{leads_ended}
+use Rattle.situation.proofs.Steps.{project_end, fires_same, ended_closes, guard_faults_now}
 use Rattle.run_history.proofs.OpenTickets.{tickets_same}
 
 -- the step that says an end
@@ -67,8 +69,7 @@ module _ {H : Type 0} where
     goes_on = record {
       program = refl;
       limits = refl;
-      reached = λ clock first r. subst (λ (xs : List Entry). AreReached draw c.state.program.now c.state.budget c.turns clock first xs c.chooser c.time moment) (sym entries_are)
-          (reached_end draw c.state.program.now c.state.budget c.turns clock first c.history.entries c.chooser c.time moment e r);
+      planned = λ known told. leads_ended draw c.state.program.now c.state.budget c.turns c.history.entries c.chooser c.time known e n.history.entries (ap project entries_are ∙ project_end c.history.entries e) moment told;
     };
     leaves = refl;
     adds = adds_on c.end c.history.entries n.history.entries (did.Ended e) opened.unended adds;
@@ -96,7 +97,7 @@ module _ {H : Type 0} where
         goes_on = record {
           program = refl;
           limits = refl;
-          reached = λ clock begun r. subst (λ (xs : List Entry). AreReached draw s b t clock begun xs c.chooser c.time moment) (sym entries_are) (h.reached clock begun c.chooser moment r);
+          planned = subst (λ (xs : List Entry). IsPlannedOn draw s b t c.history.entries c.chooser c.time moment xs c.chooser c.time moment (did.Ended (Faulted kind))) (sym entries_are) (h.planned c.chooser moment);
         };
         leaves = refl;
         adds = adds_on c.end c.history.entries n.history.entries (did.Ended (Faulted kind)) opened.unended (m, k, entries_are);

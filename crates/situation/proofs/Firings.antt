@@ -27,7 +27,7 @@ use Rattle.estelle_model.specs.Firing.{Firing, Ran, Failed, begun, fire, transit
 use Rattle.estelle_model.specs.Jobs.{IsJobIn, IsAnswer, IsPut, Answers, AnswersAt, put, after_all, taken_by, all_logged, logged_as}
 use Rattle.estelle_model.specs.Runs.{FiringFaults, HasFailed, situation, without}
 use Rattle.estelle_model.specs.Choosers.{Draw, Picks}
-use Rattle.estelle_model.specs.Schedule.{Kept, kept_after, known_after, Reaches, goes_on, IsPlanned, FiringIsPlanned}
+use Rattle.estelle_model.specs.Schedule.{FiringIsPlanned}
 use Rattle.estelle_model_legality.specs.Instances.{LeadsToStates}
 use Rattle.estelle_model_legality.specs.Situations.{IsLegal}
 use Rattle.effect_log.specs.Putting.{log_of, parts_of, effects_of, IsJobAt, AnswersIn, begun_by, after_put, arrivals}
@@ -51,11 +51,13 @@ use Rattle.situation_steps.proofs.Ends.{faults_end}
 use Rattle.situation_units.specs.Counting.{births_at, IsWithinUnits}
 use Rattle.situation_units.proofs.Weighing.{firings_are_within}
 use Rattle.estelle_model_legality.proofs.Lists.{path_is, number_is, both_and}
-use Rattle.situation.specs.Runs.{noted, ending, take_of, IsWithin, IsGoing, IsClosed, AreReached, IsJobFor}
+use Rattle.situation.specs.declared.limits.Stepped.TheVariants as stepped
+use Rattle.situation.specs.Planned.{kept_of, StepsTo, a_firing, a_fault, IsPlannedOn}
+use Rattle.situation.specs.Runs.{noted, ending, take_of, IsWithin, IsGoing, IsClosed, IsJobFor}
 use Rattle.situation_images.specs.Putting.{arrivals_of}
 use Rattle.run_history.proofs.OpenTickets.{tickets_same}
 use Rattle.situation.proofs.Tickets.{fired_tickets, fired_settled, fired_count}
-use Rattle.situation.proofs.Steps.{project_push, project_end, reached_end, within_same, closed_on, fault_stays, counted_event, counted_take}
+use Rattle.situation.proofs.Steps.{project_push, project_end, within_same, closed_on, fault_stays, counted_event, counted_take}
 
 -- ---- numbers
 
@@ -133,25 +135,6 @@ module _ (s : Subject) (budget : ℕ) (g : Situation) (legal : IsLegal s g) (p :
         let log : outputs_in (log_of done.outcome) ≡ outputs_in (all_logged s is_put.log) = ap (λ (o : Outcome). outputs_in (log_of o)) is ∙ ap outputs_in is_put.logged in
         omega (arith, all, log, taken_made s g p.path at_it, within_units.made)
 
--- what is kept beside the events, with a clock that tells this
-abbrev kept_at : {C : Type 0} → C → Time → Option ℕ → Kept C
-kept_at c time clock = record { chooser = c; known = time.known; waited = time.waited; clock = clock }
-
--- where the next event is planned, it is reached
-reached_fired : {C : Type 0} (draw : Draw C) (s : Subject) (budget turns : ℕ) (es after : List Entry) (e : Event) (c rest : C) (time new : Time) (moment : Option ℕ)
-    → project after ≡ project es ++ e ∷ [] → fires es < turns → known_after e time.known ≡ new.known → time.waited ≡ new.waited
-    → ((told : Option ℕ) → IsPlanned draw s budget (project es) (kept_at c time told) e rest)
-    → (clock : Option ℕ) (first : C) → AreReached draw s budget turns clock first es c time moment → AreReached draw s budget turns clock first after rest new moment
-reached_fired {C} draw s budget turns es after e c rest time new moment is below known waited planned clock first r =
-    let there : Reaches draw s budget turns clock first (project es ++ e ∷ []) (kept_after e rest (kept_at c time r.known)) = goes_on (project es) (kept_at c time r.known) e rest r.reached below (planned r.known) in
-    let same : kept_after e rest (kept_at c time r.known) ≡ kept_at rest new r.known = (λ i. record { chooser = rest; known = known i; waited = waited i; clock = r.known }) in
-    record {
-      known = r.known;
-      told = r.told;
-      reached = subst (λ (events : List Event). Reaches draw s budget turns clock first events (kept_at rest new r.known)) (sym is)
-          (subst (λ (k : Kept C). Reaches draw s budget turns clock first (project es ++ e ∷ []) k) same there);
-    }
-
 -- ---- a pending firing goes on
 
 module _ (s : Subject) (leads : LeadsToStates s) (budget turns : ℕ) (es : List Entry) (time : Time) (systems : List System) (w : IsGoing s budget turns es time systems) (none_due : NoneIsDue systems) (below : fires es < turns)
@@ -159,7 +142,7 @@ module _ (s : Subject) (leads : LeadsToStates s) (budget turns : ℕ) (es : List
   abbrev g : Situation
   g = situation s budget (project es)
 
-  planned : {C : Type 0} (draw : Draw C) (c rest : C) → Picks draw c g.pending p rest → (told : Option ℕ) → FiringIsPlanned draw s budget (project es) (kept_at c time told) p.path p.trans rest
+  planned : {C : Type 0} (draw : Draw C) (c rest : C) → Picks draw c g.pending p rest → (told : Option ℕ) → FiringIsPlanned draw s budget (project es) (kept_of c time told) p.path p.trans rest
   planned draw c rest picks told = record { none_due = none_are_due s budget (project es) time systems w.under_way none_due; picked = picks }
 
   may_take : MayTake s budget es p.path p.trans
@@ -209,12 +192,17 @@ module _ (s : Subject) (leads : LeadsToStates s) (budget turns : ℕ) (es : List
       let e = noted (Fault p.path p.trans kind) in
       ap length (tickets_same (with_take ++ e ∷ []) (ending (Faulted kind)) refl) ∙ fired_count s budget es k p.trans p.path e w.tickets w.settled next_is may_take refl refl settles_own
 
-  pub failed_reached : (kind : fault.Fault) {C : Type 0} (draw : Draw C) (c rest : C) → Picks draw c g.pending p rest → (moment clock : Option ℕ) (first : C)
-      → AreReached draw s budget turns clock first es c time moment → AreReached draw s budget turns clock first ((with_take ++ noted (Fault p.path p.trans kind) ∷ []) ++ ending (Faulted kind) ∷ []) rest time moment
-  failed_reached kind draw c rest picks moment clock first reached =
+  pub failed_planned : (kind : fault.Fault) → FiringFaults s budget g p.path p.trans kind → {C : Type 0} (draw : Draw C) (c rest : C) → Picks draw c g.pending p rest → (moment : Option ℕ)
+      → IsPlannedOn draw s budget turns es c time moment ((with_take ++ noted (Fault p.path p.trans kind) ∷ []) ++ ending (Faulted kind) ∷ []) rest time moment stepped.Faulted
+  failed_planned kind f draw c rest picks moment known told =
       let e = noted (Fault p.path p.trans kind) in
-      reached_end draw s budget turns clock first (with_take ++ e ∷ []) rest time moment (Faulted kind)
-      (reached_fired draw s budget turns es (with_take ++ e ∷ []) (Fault p.path p.trans kind) c rest time time moment (project_after (Fault p.path p.trans kind)) below refl refl (λ told. inr (planned draw c rest picks told)) clock first reached)
+      record {
+        known = known;
+        told = told;
+        steps = subst (λ (events : List Event). StepsTo draw s budget turns (project es) (kept_of c time known) stepped.Faulted events (kept_of rest time known))
+            (sym (project_end (with_take ++ e ∷ []) (Faulted kind) ∙ project_after (Fault p.path p.trans kind)))
+            (a_fault p.path p.trans kind rest below (planned draw c rest picks known) f);
+      }
 
   -- it runs
   module _ (job : Job) (of : IsJobFor s g budget p job) (done : Done) (answers : Answers s job done) (image : Image) (effects : List Effect) (is : done.outcome ≡ outcome.Ran image effects) where
@@ -283,10 +271,15 @@ module _ (s : Subject) (leads : LeadsToStates s) (budget turns : ℕ) (es : List
     pub fired_next : length (tickets after) ≡ k
     fired_next = fired_count s budget es k p.trans p.path (noted fire_event) w.tickets w.settled next_is may_take refl refl settles_own
 
-    pub fired_reached : {C : Type 0} (draw : Draw C) (c rest : C) → Picks draw c g.pending p rest → (moment clock : Option ℕ) (first : C)
-        → AreReached draw s budget turns clock first es c time moment → AreReached draw s budget turns clock first after rest new_time moment
-    fired_reached draw c rest picks moment clock first reached =
-        reached_fired draw s budget turns es after fire_event c rest time new_time moment (project_after fire_event) below refl refl (λ told. planned draw c rest picks told) clock first reached
+    pub fired_planned : {C : Type 0} (draw : Draw C) (c rest : C) → Picks draw c g.pending p rest → (moment : Option ℕ)
+        → IsPlannedOn draw s budget turns es c time moment after rest new_time moment stepped.Fired
+    fired_planned draw c rest picks moment known told = record {
+      known = known;
+      told = told;
+      steps = subst (λ (events : List Event). StepsTo draw s budget turns (project es) (kept_of c time known) stepped.Fired events (kept_of rest new_time known))
+          (sym (project_after fire_event))
+          (a_firing p.path p.trans a.outs a.drops rest below (planned draw c rest picks known));
+    }
 
     -- the count of outputs keeps below the greatest
     pub fired_numbers : budget * (turns + 1) < 2 ^ 63 → g.made + outputs_in (log_of done.outcome) < 2 ^ 64

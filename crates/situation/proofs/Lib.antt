@@ -1,4 +1,5 @@
 pub mod Tickets
+pub mod Planned
 pub mod Steps
 pub mod Less
 pub mod Adding

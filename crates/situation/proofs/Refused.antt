@@ -1,9 +1,11 @@
 -- A step as a caller sees it; after a refusal the run is as before, and so is its end.
-use Rattle.std.proofs.Common.{◌≡◌, ℕ, ◌+◌, ◌≤◌, List, [], ◌∷◌, ◌++◌, length, Option, Some, None, refl, sym, ap, subst, ◌∙◌, arith}
+use Rattle.std.proofs.Common.{◌≡◌, ℕ, ◌+◌, ◌≤◌, List, [], ◌∷◌, ◌++◌, length, Option, Some, None, refl, sym, ap, subst, ◌∙◌, ⊎_elim, arith}
 use Rattle.std.specs.Prelude.{Result, Ok, Err, IfOk, OnErr}
 use Rattle.std.proofs.lemmas.List.Elements.{filter_map-append}
 use Rattle.std.proofs.lemmas.List.{length-append}
+use Rattle.outside.specs.Counts.{Rose}
 use Rattle.estelle_model.specs.declared.event.End.{End}
+use Rattle.estelle_model.specs.declared.event.End.TheVariants.{Clock}
 use Rattle.run_history.specs.declared.entry.Entry.{Entry}
 use Rattle.run_history.specs.declared.entry.What.{What}
 use Rattle.run_history.specs.declared.entry.What.TheVariants as what
@@ -15,6 +17,7 @@ use Rattle.situation.specs.declared.limits.Stepped.{Stepped}
 use Rattle.situation.specs.declared.limits.Stepped.TheVariants as did
 use Rattle.situation.specs.Runs.{ending, AreCounted}
 use Rattle.situation.specs.Worlds.{IsKept, IsCourse, IsUnchanged, HasStepped, Leaves, limits_of}
+use Rattle.situation.specs.Steps.{IsCause, IsCounted}
 use Rattle.situation.specs.Known.{Known, IsAsBefore, IsPlannedStep, LeavesLess}
 
 -- ---- an end among the entries
@@ -53,6 +56,14 @@ one_end es fs e f same =
     let inner : what.Ended e ≡ what.Ended f = ap (λ (x : Entry). x.what) whole in
     cc
 
+-- ---- counts
+
+rose_since : (first faults faults' : ℕ) → first ≤ faults → Rose faults faults' → Rose first faults'
+rose_since first faults faults' later rose = omega (arith, later, rose)
+
+rose_still : (first faults faults' : ℕ) → faults ≤ faults' → Rose first faults → Rose first faults'
+rose_still first faults faults' later rose = omega (arith, later, rose)
+
 -- ---- refusals
 
 module _ {H : Type 0} where
@@ -66,31 +77,45 @@ module _ {H : Type 0} where
       by (Some e) (Some f) k l = ap Some (one_end l.closed.before k.closed.before f e (sym l.closed.last ∙ u.entries ∙ k.closed.last))
 
   -- what a caller knows of a run
-  abbrev seen : {C : Type 0} → Course H → C → Known C H
-  seen c clock = record { subject = c.state.program.now; limits = limits_of c; history = c.history; end = c.end; time = c.time; systems = c.systems.items; chooser = c.chooser; clock = clock }
+  abbrev seen : {C : Type 0} → ℕ → Course H → C → Known C H
+  seen first c clock = record { first = first; subject = c.state.program.now; limits = limits_of c; history = c.history; end = c.end; time = c.time; systems = c.systems.items; chooser = c.chooser; clock = clock }
 
-  pub as_before : {A E C : Type 0} (r : Result A E) (c n : Course H) (clock clock' : C) → IsCourse c → OnErr r (IsUnchanged c n) → OnErr r (IsAsBefore (seen c clock) (seen n clock'))
-  as_before (Ok a) c n clock clock' k u = tt
-  as_before (Err e) c n clock clock' k u = record { subject = ap (λ p. p.now) u.program; limits = u.limits; entries = u.entries; end = end_as_before c n k u; time = u.time; systems = u.systems }
+  pub as_before : {A E C : Type 0} (first : ℕ) (r : Result A E) (c n : Course H) (clock clock' : C) → IsCourse c → OnErr r (IsUnchanged c n) → OnErr r (IsAsBefore (seen first c clock) (seen first n clock'))
+  as_before first (Ok a) c n clock clock' k u = tt
+  as_before first (Err e) c n clock clock' k u = record { first = refl; subject = ap (λ p. p.now) u.program; limits = u.limits; entries = u.entries; end = end_as_before c n k u; time = u.time; systems = u.systems }
 
   -- ---- steps
 
-  leaves_so : {C : Type 0} (c n : Course H) (clock clock' : C) (d : Stepped) → Leaves c n d → LeavesLess (seen c clock) (seen n clock') d
-  leaves_so c n clock clock' did.Selected h = h
-  leaves_so c n clock clock' did.Waited h = h
-  leaves_so c n clock clock' did.Fired h = h
-  leaves_so c n clock clock' did.Faulted h = h
-  leaves_so c n clock clock' (did.Ended e) h = h
+  leaves_so : {C : Type 0} (first : ℕ) (c n : Course H) (clock clock' : C) (d : Stepped) → Leaves c n d → LeavesLess (seen first c clock) (seen first n clock') d
+  leaves_so first c n clock clock' did.Selected h = h
+  leaves_so first c n clock clock' did.Waited h = h
+  leaves_so first c n clock clock' did.Fired h = h
+  leaves_so first c n clock clock' did.Faulted h = h
+  leaves_so first c n clock clock' (did.Ended e) h = h
 
-  pub planned : {E C : Type 0} (draw : Draw H) (moment : C → Option ℕ) (r : Result Stepped E) (c n : Course H) (clock clock' : C) → IfOk r (HasStepped draw (moment clock) (moment clock') c n)
-      → IfOk r (IsPlannedStep draw moment (seen c clock) (seen n clock'))
-  planned draw moment (Ok d) c n clock clock' h = record {
+  -- the run is kept, with its program
+  pub still_kept : {E : Type 0} (draw : Draw H) (moment moment' : Option ℕ) (r : Result Stepped E) (c n : Course H) → IfOk r (HasStepped draw moment moment' c n) → OnErr r (IsUnchanged c n) → IsCourse n × (n.state.program.now ≡ c.state.program.now)
+  still_kept draw moment moment' (Ok d) c n h u = (h.keeps, ap (λ p. p.now) h.goes_on.program)
+  still_kept draw moment moment' (Err e) c n h u = (u.keeps, ap (λ p. p.now) u.program)
+
+  -- what is known of the clock's count then
+  pub still_counted : {E : Type 0} (draw : Draw H) (moment moment' : Option ℕ) (r : Result Stepped E) (c n : Course H) (first faults faults' : ℕ) → IsCourse c → faults ≤ faults' → IsCounted first c.end faults
+      → IfOk r (HasStepped draw moment moment' c n) → OnErr r (IsUnchanged c n) → IfOk r (IsCause c.end faults faults') → IsCounted first n.end faults'
+  still_counted draw moment moment' (Ok d) c n first faults faults' k later before h u cause =
+      record { later = omega (arith, before.later, later); rose = λ ended. ⊎_elim (λ (rose : Rose faults faults'). rose_since first faults faults' before.later rose) (λ (was : c.end ≡ Some Clock). rose_still first faults faults' later (before.rose was)) (cause (h.ends ended)) }
+  still_counted draw moment moment' (Err e) c n first faults faults' k later before h u cause =
+      record { later = omega (arith, before.later, later); rose = λ ended. rose_still first faults faults' later (before.rose (sym (end_as_before c n k u) ∙ ended)) }
+
+  pub planned : {E C : Type 0} (draw : Draw H) (moment : C → Option ℕ) (first : ℕ) (r : Result Stepped E) (c n : Course H) (clock clock' : C) → IfOk r (HasStepped draw (moment clock) (moment clock') c n)
+      → IfOk r (IsPlannedStep draw moment (seen first c clock) (seen first n clock'))
+  planned draw moment first (Ok d) c n clock clock' h = record {
+    first = refl;
     subject = ap (λ p. p.now) h.goes_on.program;
     limits = h.goes_on.limits;
-    reached = h.goes_on.reached;
-    leaves = leaves_so c n clock clock' d h.leaves;
+    planned = h.goes_on.planned;
+    leaves = leaves_so first c n clock clock' d h.leaves;
     adds = h.adds;
     waits = h.waits;
     ends = h.ends;
   }
-  planned draw moment (Err e) c n clock clock' h = tt
+  planned draw moment first (Err e) c n clock clock' h = tt

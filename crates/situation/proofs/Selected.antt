@@ -26,12 +26,14 @@ use Rattle.situation_steps.specs.UnderWay.{IsUnderWay}
 use Rattle.situation_steps.proofs.Selections.{selections_go_on}
 use Rattle.situation.specs.declared.limits.Stepped.TheVariants as did
 use Rattle.situation.specs.declared.course.Course.{Course}
-use Rattle.situation.specs.Runs.{noted, IsWithin, IsGoing, AreReached}
+use Rattle.situation.specs.Runs.{noted, IsWithin, IsGoing}
 use Rattle.situation.specs.Worlds.{IsKept, HasStepped, IsUnchanged, now, work, left_to_do}
 use Rattle.situation.specs.Steps.{GoesOn, IsDueAt, MayBeNow}
 use Rattle.run_history.proofs.OpenTickets.{tickets_same}
 use Rattle.situation.proofs.Tickets.{still_settled, still_tickets}
-use Rattle.situation.proofs.Steps.{project_push, fires_same, counted_event, reached_on, moment_by}
+use Rattle.situation.specs.Planned.{kept_of}
+use Rattle.situation.proofs.Planned.{leads_selected}
+use Rattle.situation.proofs.Steps.{project_push, fires_same, counted_event, moment_by}
 use Rattle.situation.proofs.Adding.{adds_on}
 use Rattle.situation.proofs.Less.{less_selected, left_open}
 use Rattle.situation.proofs.Computed.{own, own_is, still_drawn}
@@ -95,10 +97,9 @@ module _ {H : Type 0} where
         goes_on = record {
           program = refl;
           limits = refl;
-          reached = λ clock first r. subst (λ (xs : List Entry). AreReached draw s b t clock first xs n.chooser after told) (sym entries_are)
-              (reached_on draw s b t clock first es c.chooser c.time told (Select x.path moment takes) n.chooser r due.below
-              (λ known is_told. h.planned (record { chooser = c.chooser; known = c.time.known; waited = c.time.waited; clock = known }) refl refl
-              (moment_by (has_delays s) known told c.time.known moment is_told may.no_earlier undelayed (λ some. may.told (o.delays ∙ some)))));
+          planned = λ known is_told. leads_selected draw s b t es c.chooser c.time known x.path moment takes n.chooser due.below
+              (h.planned (kept_of c.chooser c.time known) refl refl (moment_by (has_delays s) known told c.time.known moment is_told may.no_earlier undelayed (λ some. may.told (o.delays ∙ some))))
+              n.history.entries (ap project entries_are ∙ is) told is_told;
         };
         leaves = less_selected (fires n.history.entries) (fires es) t c.time.may_wait c.systems.items n.systems.items at x (length takes) (left_to_do new) (left_to_do c) fired due.first.1.there
             (and_left x.awaits (nat_eq x.pending 0) due.first.1.due) systems_are (left_open new opened.unended) (left_open c opened.unended);

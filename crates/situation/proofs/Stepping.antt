@@ -11,7 +11,9 @@ use Rattle.situation_state.specs.At.{IsAt}
 use Rattle.situation.specs.declared.limits.Stepped.{Stepped}
 use Rattle.situation.specs.declared.limits.Stepped.TheVariants as did
 use Rattle.situation.specs.declared.course.Course.{Course}
-use Rattle.situation.specs.Runs.{IsGoing, IsClosed, AreAllTaken, AreReached}
+use Rattle.situation.specs.Runs.{IsGoing, IsClosed, AreAllTaken}
+use Rattle.situation.specs.Planned.{IsPlannedOn}
+use Rattle.situation.proofs.Planned.{leads_ended}
 use Rattle.situation.specs.Worlds.{IsOpenCourse, IsKept, IsCourse, HasStepped, IsUnchanged, Adds, Waits, Leaves, work, left_to_do}
 use Rattle.situation.specs.Steps.{GoesOn}
 use Rattle.situation.proofs.Ended.{says}
@@ -21,7 +23,7 @@ module _ {H : Type 0} where
   pub same_end : (draw : Draw H) (moment : Option ℕ) (c : Course H) (e : End) → IsCourse c → c.end ≡ Some e → HasStepped draw moment moment c c (did.Ended e)
   same_end draw moment c e h is = record {
     keeps = h;
-    goes_on = record { program = refl; limits = refl; reached = λ clock first r. r };
+    goes_on = record { program = refl; limits = refl; planned = λ known told. leads_ended draw c.state.program.now c.state.budget c.turns c.history.entries c.chooser c.time known e c.history.entries refl moment told };
     leaves = is;
     adds = subst (λ (x : Option End). Adds x c.history.entries c.history.entries (did.Ended e)) (sym is) (refl, refl);
     waits = refl;
@@ -72,7 +74,7 @@ module _ {H : Type 0} where
     goes_on = record {
       program = s.goes_on.program;
       limits = s.goes_on.limits;
-      reached = λ clock first r. s.goes_on.reached clock first (subst (λ (es : List Entry). AreReached draw c.state.program.now c.state.budget c.turns clock first es c.chooser c.time moment) (sym same) r);
+      planned = subst (λ (es : List Entry). IsPlannedOn draw c.state.program.now c.state.budget c.turns es c.chooser c.time moment n.history.entries n.chooser n.time after d) same s.goes_on.planned;
     };
     leaves = leaves_so (with_history c h) c n d (ap (λ (es : List Entry). work c.turns (fires es) c.systems.items c.time.may_wait c.end) same) s.leaves;
     adds = subst (λ (es : List Entry). Adds c.end es n.history.entries d) same s.adds;

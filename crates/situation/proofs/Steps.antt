@@ -17,7 +17,7 @@ use Rattle.estelle_model.specs.Delays.{has_delays}
 use Rattle.estelle_model.specs.Runs.{IsRun, Applies, IsFirstFault, situation}
 use Rattle.estelle_model.specs.Ends.{Stops}
 use Rattle.estelle_model.specs.Choosers.{Draw}
-use Rattle.estelle_model.specs.Schedule.{Kept, kept_after, known_after, told_after, Reaches, goes_on, waits, IsPlanned, IsPlannedEnd, IsWaiting, MayAnswer, IsMomentBy, wait_until}
+use Rattle.estelle_model.specs.Schedule.{told_after, IsPlannedEnd, MayAnswer, IsMomentBy}
 use Rattle.estelle_model_legality.specs.Keeping.{HasStarted}
 use Rattle.estelle_model_legality.specs.Situations.{IsLegal}
 use Rattle.run_history.specs.declared.entry.Entry.{Entry}
@@ -31,7 +31,9 @@ use Rattle.situation_steps.specs.Ends.{HasEnded}
 use Rattle.situation_steps.specs.Systems.{IsFirstDueAt}
 use Rattle.situation_steps.proofs.Ends.{faults_end, guard_faults_are_planned}
 use Rattle.situation_steps.proofs.Going.{situation-push}
-use Rattle.situation.specs.Runs.{noted, ending, take_of, AllSettled, AreCounted, IsWithin, IsGoing, IsClosed, IsTold, AreReached}
+use Rattle.situation.specs.declared.limits.Stepped.TheVariants as stepped
+use Rattle.situation.specs.Planned.{kept_of, StepsTo, a_guard_fault, IsPlannedOn}
+use Rattle.situation.specs.Runs.{noted, ending, take_of, AllSettled, AreCounted, IsWithin, IsGoing, IsClosed, IsTold}
 use Rattle.run_history.proofs.OpenTickets.{tickets_same}
 use Rattle.situation.proofs.Tickets.{still_settled, still_tickets}
 
@@ -55,44 +57,6 @@ counted_event es e h =
 pub counted_take : (es : List Entry) (k : ℕ) (p : Pair) → AreCounted es → AreCounted (es ++ take_of k p ∷ [])
 counted_take es k p h =
     omega (arith, h, length-append es (take_of k p ∷ []), ap length (project_push es (take_of k p)), length-append (project es) [], ap length (filter_map-append (λ (x : Entry). ticket_of x.what) es (take_of k p ∷ [])), length-append (tickets es) (k ∷ []))
-
--- ---- planned steps
-
-module _ {C : Type 0} (draw : Draw C) (s : Subject) (budget turns : ℕ) (clock : Option ℕ) (first : C) (es : List Entry) (c : C) (time : Time) (moment : Option ℕ) where
-  -- where the next event is planned, it is reached
-  pub reached_on : (e : Event) (rest : C) → AreReached draw s budget turns clock first es c time moment → fires es < turns
-      → ((known : Option ℕ) → IsTold known moment → IsPlanned draw s budget (project es) (record { chooser = c; known = time.known; waited = time.waited; clock = known }) e rest)
-      → AreReached draw s budget turns clock first (es ++ noted e ∷ []) rest (record time { known = known_after e time.known }) moment
-  reached_on e rest r below planned =
-      let kept : Kept C = record { chooser = c; known = time.known; waited = time.waited; clock = r.known } in
-      record {
-        known = r.known;
-        told = r.told;
-        reached = subst (λ (events : List Event). Reaches draw s budget turns clock first events (kept_after e rest kept)) (sym (project_push es (noted e)))
-            (goes_on (project es) kept e rest r.reached below (planned r.known r.told));
-      }
-
-  -- what was reached is reached with the entry of the end
-  pub reached_end : (e : End) → AreReached draw s budget turns clock first es c time moment → AreReached draw s budget turns clock first (es ++ ending e ∷ []) c time moment
-  reached_end e r =
-      record {
-        known = r.known;
-        told = r.told;
-        reached = subst (λ (events : List Event). Reaches draw s budget turns clock first events (record { chooser = c; known = time.known; waited = time.waited; clock = r.known })) (sym (project_end es e)) r.reached;
-      }
-
-  -- and where the clock is waited for
-  pub reached_wait : (now : ℕ) (after : Option ℕ) (may : Bool) → AreReached draw s budget turns clock first es c time moment → fires es < turns → IsWaiting s budget (project es) time.waited
-      → ((known : Option ℕ) → IsTold known moment → MayAnswer known (wait_until (situation s budget (project es)) time.known) now)
-      → ((known : Option ℕ) → IsTold known moment → IsTold (told_after known now) after)
-      → AreReached draw s budget turns clock first es c (record { known = now; waited = length (project es); may_wait = may }) after
-  reached_wait now after may r below waiting answers told =
-      let kept : Kept C = record { chooser = c; known = time.known; waited = time.waited; clock = r.known } in
-      record {
-        known = told_after r.known now;
-        told = told r.known r.told;
-        reached = waits (project es) kept now r.reached below waiting (answers r.known r.told);
-      }
 
 -- ---- what a clock answers
 
@@ -178,8 +142,7 @@ pub record HasFaultedNow {C : Type 0} (draw : Draw C) (s : Subject) (budget turn
   pub stays : situation s budget (project ((es ++ noted (Fault m n kind) ∷ []) ++ ending (Faulted kind) ∷ [])) ≡ situation s budget (project es)
   pub count : fires ((es ++ noted (Fault m n kind) ∷ []) ++ ending (Faulted kind) ∷ []) ≡ fires es
   pub given : length (tickets ((es ++ noted (Fault m n kind) ∷ []) ++ ending (Faulted kind) ∷ [])) ≡ length (tickets es)
-  pub reached : (clock : Option ℕ) (first c : C) (moment : Option ℕ) → AreReached draw s budget turns clock first es c time moment
-      → AreReached draw s budget turns clock first ((es ++ noted (Fault m n kind) ∷ []) ++ ending (Faulted kind) ∷ []) c time moment
+  pub planned : (c : C) (moment : Option ℕ) → IsPlannedOn draw s budget turns es c time moment ((es ++ noted (Fault m n kind) ∷ []) ++ ending (Faulted kind) ∷ []) c time moment (stepped.Ended (Faulted kind))
 
 pub guard_faults_now : {C : Type 0} (draw : Draw C) (s : Subject) (budget turns : ℕ) (es : List Entry) (time : Time) (systems : List System) → IsGoing s budget turns es time systems → fires es < turns
     → (at : ℕ) (x : System) → IsFirstDueAt systems at x → (m : Path) (n : ℕ) (kind : fault.Fault) → IsFirstFault s budget (situation s budget (project es)) x.path m n kind → HasFaultedNow draw s budget turns es time m n kind
@@ -191,6 +154,11 @@ guard_faults_now draw s budget turns es time systems w below at x due m n kind f
       stays = ap (situation s budget) (project_end (es ++ e ∷ []) (Faulted kind) ∙ project_push es e) ∙ fault_stays s budget turns es time systems w m n kind;
       count = fires_same (es ++ e ∷ []) (ending (Faulted kind)) refl ∙ fires_same es e refl;
       given = ap length (tickets_same (es ++ e ∷ []) (ending (Faulted kind)) refl ∙ tickets_same es e refl);
-      reached = λ clock begun c moment r. reached_end draw s budget turns clock begun (es ++ e ∷ []) c time moment (Faulted kind)
-          (reached_on draw s budget turns clock begun es c time moment (Fault m n kind) c r below (λ known told. inl (h.planned (record { chooser = c; known = time.known; waited = time.waited; clock = known }) refl)));
+      planned = λ c moment known told. record {
+        known = known;
+        told = told;
+        steps = subst (λ (events : List Event). StepsTo draw s budget turns (project es) (kept_of c time known) (stepped.Ended (Faulted kind)) events (kept_of c time known))
+            (sym (project_end (es ++ e ∷ []) (Faulted kind) ∙ project_push es e))
+            (a_guard_fault m n kind c below (h.planned (kept_of c time known) refl));
+      };
     }

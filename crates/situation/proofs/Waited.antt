@@ -21,7 +21,8 @@ use Rattle.situation.specs.declared.course.Course.{Course}
 use Rattle.situation.specs.Runs.{IsGoing}
 use Rattle.situation.specs.Worlds.{IsOpenCourse, IsKept, HasStepped, now, work, left_to_do}
 use Rattle.situation.specs.Steps.{GoesOn, MayWaitFor}
-use Rattle.situation.proofs.Steps.{reached_wait, may_answer, still_told}
+use Rattle.situation.proofs.Planned.{leads_waited}
+use Rattle.situation.proofs.Steps.{may_answer, still_told}
 use Rattle.situation.proofs.Adding.{adds_on}
 use Rattle.situation.proofs.Less.{less_waited, left_open}
 
@@ -74,9 +75,9 @@ module _ {H : Type 0} where
         goes_on = record {
           program = refl;
           limits = refl;
-          reached = λ clock first r. reached_wait draw s b t clock first es c.chooser c.time told moment after false r may.idle.below w.waiting
-              (λ known is_told. subst (λ (until : ℕ). MayAnswer known until moment) (sym w.until) (may_answer known told (max due c.time.known) moment is_told no_earlier is))
-              (λ known is_told. still_told known told after moment is_told moved);
+          planned = λ known is_told. leads_waited draw s b t es c.chooser c.time known moment false may.idle.below w.waiting
+              (subst (λ (until : ℕ). MayAnswer known until moment) (sym w.until) (may_answer known told (max due c.time.known) moment is_told no_earlier is))
+              after (still_told known told after moment is_told moved);
         };
         leaves = less_waited (fires es) t c.systems.items n.systems.items (left_to_do new) (left_to_do c) systems_are (left_open new opened.unended) once;
         adds = adds_on c.end es es did.Waited opened.unended refl;

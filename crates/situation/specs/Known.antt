@@ -14,6 +14,7 @@ use Rattle.situation_steps.specs.Laws.{first_time}
 use Rattle.situation.specs.declared.limits.Limits.{Limits}
 use Rattle.situation.specs.declared.limits.Stepped.{Stepped}
 use Rattle.situation.specs.declared.limits.Stepped.TheVariants as stepped
+use Rattle.situation.specs.Planned.{IsPlannedOn}
 use Rattle.situation.specs.Runs.{IsGoing, IsClosed, AreAllTaken, AreReached}
 use Rattle.situation.specs.Worlds.{Adds, Waits, HasOnlyStarted, work}
 
@@ -28,6 +29,8 @@ pub record Known (C H : Type 0) : Type 0 where
   pub systems : List System
   pub chooser : H
   pub clock : C
+  -- how often the clock had failed when the world was begun
+  pub first : ℕ
 
 module _ {C H : Type 0} where
   -- the run goes on: bodies lead to states of their own, no count comes to its end, and each firing was taken under a ticket
@@ -75,11 +78,12 @@ module _ {C H : Type 0} where
   LeavesLess before after (stepped.Ended e) = after.end ≡ Some e
   LeavesLess before after did = left_to_do after < left_to_do before
 
-  -- a step is the planned one
+  -- a step is the planned one, by the chooser, the time and the clock of the run as it is
   pub record IsPlannedStep (draw : Draw H) (moment : C → Option ℕ) (before after : Known C H) (did : Stepped) : Type 0 where
     pub subject : after.subject ≡ before.subject
     pub limits : after.limits ≡ before.limits
-    pub reached : (clock : Option ℕ) (first : H) → IsReachedBy draw moment clock first before → IsReachedBy draw moment clock first after
+    pub first : after.first ≡ before.first
+    pub planned : IsPlannedOn draw before.subject before.limits.budget before.limits.turns before.history.entries before.chooser before.time (moment before.clock) after.history.entries after.chooser after.time (moment after.clock) did
     pub leaves : LeavesLess before after did
     -- and it adds what it tells
     pub adds : Adds before.end before.history.entries after.history.entries did
@@ -91,7 +95,15 @@ module _ {C H : Type 0} where
   pub record IsAsBefore (before after : Known C H) : Type 0 where
     pub subject : after.subject ≡ before.subject
     pub limits : after.limits ≡ before.limits
+    pub first : after.first ≡ before.first
     pub entries : after.history.entries ≡ before.history.entries
     pub end : after.end ≡ before.end
     pub time : after.time ≡ before.time
     pub systems : after.systems ≡ before.systems
+
+-- ---- laws
+
+-- a planned step leads on from what the planned steps lead to
+abbrev pub PlannedStepsReach : Type 0 → Type 0 → Type 0
+PlannedStepsReach C H = (draw : Draw H) (moment : C → Option ℕ) (clock : Option ℕ) (first : H) (before after : Known C H) (did : Stepped)
+    → IsReachedBy draw moment clock first before → IsPlannedStep draw moment before after did → IsReachedBy draw moment clock first after

@@ -1,5 +1,7 @@
 -- ---- the history of a run, and its end
 pub mod Runs
+-- ---- a step as it is planned
+pub mod Planned
 -- ---- what a caller knows of a world, and what its steps do
 pub mod Known
 -- ---- what a world keeps

@@ -46,6 +46,11 @@ use Rattle.situation.specs.Worlds.{IsOpenCourse, IsCourse, HasStepped, IsOfProgr
 abbrev pub IsCause : Option End → ℕ → ℕ → Stepped → Type 0
 IsCause before faults faults' did = did ≡ stepped.Ended Clock → Rose faults faults' ⊎ (before ≡ Some Clock)
 
+-- a clock has failed at least as often as at first, and has ended the run only where its count rose since
+pub record IsCounted (first : ℕ) (end : Option End) (faults : ℕ) : Type 0 where
+  pub later : first ≤ faults
+  pub rose : end ≡ Some Clock → Rose first faults
+
 module _ {H : Type 0} where
   -- the run goes on, and there is memory for so many entries
   pub record GoesOn (n : ℕ) (c : Course H) : Type 0 where

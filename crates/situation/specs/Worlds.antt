@@ -26,6 +26,7 @@ use Rattle.situation.specs.declared.limits.Limits.{Limits}
 use Rattle.situation.specs.declared.limits.Stepped.{Stepped}
 use Rattle.situation.specs.declared.limits.Stepped.TheVariants as stepped
 use Rattle.situation.specs.declared.course.Course.{Course}
+use Rattle.situation.specs.Planned.{IsPlannedOn}
 use Rattle.situation.specs.Runs.{noted, ending, take_of, IsGoing, IsClosed, AreAllTaken, AreReached}
 
 -- how many steps there can be before a run ends: between two waits for the clock something fires, and between two firings each system selects at most once, and once more after a wait
@@ -122,11 +123,11 @@ module _ {H : Type 0} where
   abbrev pub HasBegun : Draw H → Option ℕ → H → Course H → Type 0
   HasBegun draw moment chooser c = IsReached draw moment chooser c moment
 
-  -- a step, in which the clock came from telling one moment to telling another, is the planned one
-  pub record HasGoneOn (draw : Draw H) (moment moment' : Option ℕ) (before after : Course H) : Type 0 where
+  -- a step that did this, in which the clock came from telling one moment to telling another, is the planned one
+  pub record HasGoneOn (draw : Draw H) (moment moment' : Option ℕ) (before after : Course H) (did : Stepped) : Type 0 where
     pub program : after.state.program ≡ before.state.program
     pub limits : limits_of after ≡ limits_of before
-    pub reached : (clock : Option ℕ) (first : H) → IsReached draw clock first before moment → IsReached draw clock first after moment'
+    pub planned : IsPlannedOn draw before.state.program.now before.state.budget before.turns before.history.entries before.chooser before.time moment after.history.entries after.chooser after.time moment' did
 
   abbrev pub left_to_do : Course H → ℕ
   left_to_do c = work c.turns (fires c.history.entries) c.systems.items c.time.may_wait c.end
@@ -139,7 +140,7 @@ module _ {H : Type 0} where
   -- what a step comes to
   pub record HasStepped (draw : Draw H) (moment moment' : Option ℕ) (before after : Course H) (did : Stepped) : Type 0 where
     pub keeps : IsCourse after
-    pub goes_on : HasGoneOn draw moment moment' before after
+    pub goes_on : HasGoneOn draw moment moment' before after did
     pub leaves : Leaves before after did
     pub adds : Adds before.end before.history.entries after.history.entries did
     pub waits : Waits before.state.program.now before.state.budget before.history.entries before.time after.time did

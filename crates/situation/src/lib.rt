@@ -13,11 +13,13 @@ mod begin;
 mod course;
 mod delays;
 mod executor;
+mod laws;
 mod limits;
 mod putting;
 mod systems;
 mod world;
 
 pub use executor::execute;
+pub use laws::planned_steps_reach;
 pub use limits::{Limits, Stepped};
 pub use world::World;

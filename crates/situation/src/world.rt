@@ -20,14 +20,17 @@ use std::marker::Model;
 
 /// A run of a specification with its chooser and its clock.
 #[derive(Drop)]
-pub struct World<'a, C, H> {
+pub struct World<'a, C: Clock, H> {
     program: &'a CompiledProgram<'a>,
     course: Course<'a, H>,
     clock: C,
+    /// How often the clock had failed when the world was begun.
+    first: u64,
 }
 
-impl<'a, C, H> Model for World<'a, C, H> {
+impl<'a, C: Clock, H> Model for World<'a, C, H> {
     ghost use Rattle.std.specs.Prelude.{◌≡◌};
+    ghost use Rattle.situation.specs.Steps.{IsCounted};
     ghost use Rattle.std.specs.Coded.{codes};
     ghost use Rattle.pascal_values.specs.contracts.value.Value as of_values;
     ghost use Rattle.estelle_tree.specs.contracts.tree.specification.Spec as of_specs;
@@ -39,14 +42,14 @@ impl<'a, C, H> Model for World<'a, C, H> {
 
     ghost use Rattle.situation.specs.Worlds.{IsCourse, limits_of};
 
-    ghost view = { λ w. record { subject = w.course.state.program.now; limits = limits_of w.course; history = w.course.history; end = w.course.end; time = w.course.time; systems = w.course.systems.items; chooser = w.course.chooser; clock = w.clock } };
+    ghost view = { λ w. record { subject = w.course.state.program.now; limits = limits_of w.course; history = w.course.history; end = w.course.end; time = w.course.time; systems = w.course.systems.items; chooser = w.course.chooser; clock = w.clock; first = w.first } };
 
-    ghost invariant = { λ w. IsCourse w.course × (w.program.now ≡ w.course.state.program.now) };
+    ghost invariant = { λ w. IsCourse w.course × (w.program.now ≡ w.course.state.program.now) × IsCounted w.first w.course.end (C.faults w.clock) };
 }
 
 impl<'a, C: Clock + Drop, H: Chooser + Drop> World<'a, C, H> {
     ghost use Rattle.situation.specs.Known.{IsOfRun, IsWithinLimits, IsReachedBy, IsAtStart, IsPlannedStep, IsAsBefore};
-    ghost use Rattle.situation.specs.Steps.{IsCause};
+    ghost use Rattle.situation.specs.Steps.{IsCause, IsCounted};
 
     /// Runs the start. The refusal is want of memory.
     pub fn begin(
@@ -61,14 +64,17 @@ impl<'a, C: Clock + Drop, H: Chooser + Drop> World<'a, C, H> {
         ensures of { IfOk result (IsWithinLimits program.now limits) }
         ensures begun { IfOk result (IsReachedBy H.draw C.moment (C.moment clock) chooser) }
         ensures starts { IfOk result IsAtStart }
+        ensures first { IfOk result (λ world. world.first ≡ C.faults clock) }
         ensures unasked { IfOk result (λ world. world.clock ≡ clock) }
         ensures clock { IfErr result (λ refused. refused ≡ clock) }
     {
+        let first = clock.faults();
         match begin::begin(alloc, program.program(), program, limits, chooser) {
             Ok(course) => Ok(World {
                 program,
                 course,
                 clock,
+                first,
             }),
             Err(_) => Err(clock),
         }
@@ -92,6 +98,7 @@ impl<'a, C: Clock + Drop, H: Chooser + Drop> World<'a, C, H> {
     pub fn end(&self) -> Option<End>
         ensures end { result ≡ self.now.end }
         ensures keeps { IsOfRun self.now }
+        ensures counted { IsCounted self.now.first self.now.end (C.faults self.now.clock) }
     {
         self.course.end
     }
@@ -112,6 +119,7 @@ impl<'a, C: Clock + Drop, H: Chooser + Drop> World<'a, C, H> {
             program: _,
             course,
             clock,
+            first: _,
         } = self;
         let Course { history, end, .. } = course;
         match end {
@@ -128,6 +136,7 @@ impl<'a, C: Clock + Drop, H: Chooser + Drop> World<'a, C, H> {
             program: _,
             course: _,
             clock,
+            first: _,
         } = self;
         clock
     }

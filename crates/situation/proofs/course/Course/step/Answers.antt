@@ -1,12 +1,17 @@
-use Rattle.std.proofs.Common.{◌≡◌, ◌≤◌, None, sym, subst, rules, tests}
+use Rattle.std.proofs.Common.{◌≡◌, ◌≤◌, Some, None, sym, subst, rules, tests}
 use Rattle.estelle_model.specs.declared.event.End.TheVariants.{Turns}
 use Rattle.run_history.specs.Histories.{fires}
 use Rattle.situation.specs.declared.limits.Stepped.TheVariants as did
 use Rattle.situation.specs.Worlds.{HasStepped}
 use Rattle.situation.proofs.Ended.{turns_step}
-use Rattle.situation.proofs.Stepping.{with_history, goes_on_so, stepped_so}
+use Rattle.situation.proofs.Stepping.{same_end, with_history, goes_on_so, stepped_so}
 use Rattle.situation.proofs.Answering.{stepped_more}
 use Rattle.situation.proofs.course.Course.step.Goals as goal
+
+pub returns-in-Some-clause-stepped : goal.returns-in-Some-clause-stepped
+returns-in-Some-clause-stepped g c =
+    let is : c.args.self.now.end ≡ Some c.in-Some.end = search rules in
+    same_end g.H.Chooser.draw (g.C.Clock.moment c.args.clock.now) c.args.self.now c.in-Some.end c.requires.keeps is
 
 pub returns-then-self-from-clause-stepped : goal.returns-then-self-from-clause-stepped
 returns-then-self-from-clause-stepped g c =
