@@ -1,5 +1,5 @@
 -- A course begins: it is fresh, the start may be settled, and what that comes to.
-use Rattle.std.proofs.Common.{◌≡◌, ℕ, ◌+◌, ◌*◌, ◌^◌, ◌<◌, ◌≤◌, Bool, true, false, List, [], ◌∷◌, ◌++◌, Option, Some, None, refl, sym, ap, subst, ◌∙◌, inl, arith, length}
+use Rattle.std.proofs.Common.{◌≡◌, ℕ, ◌+◌, ◌*◌, ◌^◌, ◌<◌, ◌≤◌, List, [], ◌∷◌, ◌++◌, Option, Some, None, refl, sym, ap, subst, ◌∙◌, inl, arith, length}
 use Rattle.std.specs.Prelude.{map as each}
 use Rattle.std.specs.FinMap as map
 use Rattle.pascal_values.specs.declared.fault.Fault as fault
@@ -29,7 +29,6 @@ use Rattle.situation_state.specs.At.{IsAt}
 use Rattle.run_history.specs.declared.entry.Entry.{Entry}
 use Rattle.run_history.specs.Histories.{project, fires}
 use Rattle.run_history.specs.Tickets.{tickets}
-use Rattle.situation_steps.specs.declared.systems.System.{System}
 use Rattle.situation_steps.specs.declared.systems.Time.{Time}
 use Rattle.situation_steps.specs.Systems.{systems_of, first_kept}
 use Rattle.situation_steps.specs.Laws.{first_time}

@@ -9,11 +9,8 @@ use Rattle.estelle_tree.specs.Timers.{pair}
 use Rattle.estelle_model.specs.Choosers.{Draw, Picks, pick}
 use Rattle.estelle_model.specs.declared.job.Job.{Job}
 use Rattle.estelle_model.specs.declared.job.Done.{Done}
-use Rattle.estelle_model.specs.Subject.{Subject}
-use Rattle.estelle_model.specs.Situation.{Situation}
 use Rattle.estelle_model.specs.Jobs.{Answers, IsJobIn}
 use Rattle.estelle_model_legality.specs.Jobs as legal
-use Rattle.estelle_model_legality.specs.Situations.{IsLegal}
 use Rattle.estelle_model_legality.proofs.Taken.{taken}
 use Rattle.estelle_model_legality.proofs.Conditions.{taken_meets}
 use Rattle.estelle_model.specs.Runs.{situation}
@@ -24,7 +21,6 @@ use Rattle.effect_log.specs.Rooms.{HasRoomFor}
 use Rattle.situation_state.specs.declared.state.State.{State}
 use Rattle.situation_state.specs.At.{IsAt}
 use Rattle.situation.specs.declared.course.Course.{Course}
-use Rattle.situation.specs.Runs.{IsJobFor}
 use Rattle.situation.specs.declared.limits.Stepped.{Stepped}
 use Rattle.situation.specs.Worlds.{IsOpenCourse, IsKept, HasStepped, IsUnchanged, now}
 use Rattle.situation.specs.Steps.{GoesOn, IsComputed, IsComputedAt}

@@ -1,5 +1,5 @@
 -- What the end of a run comes to, and a refusal.
-use Rattle.std.proofs.Common.{◌≡◌, ◌≢◌, ℕ, ◌+◌, ◌<◌, ◌≤◌, Bool, true, false, List, [], ◌∷◌, ◌++◌, length, Option, Some, None, refl, sym, ap, subst, ◌∙◌, inr}
+use Rattle.std.proofs.Common.{◌≡◌, ℕ, true, List, [], ◌∷◌, ◌++◌, length, Option, Some, None, refl, sym, ap, subst, ◌∙◌}
 use Rattle.std.specs.Prelude.{unwrap_or}
 use Rattle.pascal_values.specs.declared.fault.Fault as fault
 use Rattle.estelle_tree.specs.Paths.{Path}
@@ -7,17 +7,13 @@ use Rattle.estelle_tree.specs.Timers.{next_due}
 use Rattle.estelle_model.specs.declared.event.Event.TheVariants.{Fault}
 use Rattle.estelle_model.specs.declared.event.End.{End}
 use Rattle.estelle_model.specs.declared.event.End.TheVariants.{Dead, Turns, Clock, Faulted}
-use Rattle.estelle_model.specs.Subject.{Subject}
 use Rattle.estelle_model.specs.Situation.{Situation}
-use Rattle.estelle_model.specs.Delays.{has_delays}
 use Rattle.estelle_model.specs.Choosers.{Draw}
 use Rattle.run_history.specs.declared.entry.Entry.{Entry}
 use Rattle.estelle_model.specs.Runs.{situation}
 use Rattle.situation_state.specs.At.{IsAt}
 use Rattle.run_history.specs.Histories.{project, fires}
 use Rattle.run_history.specs.Tickets.{tickets}
-use Rattle.situation_steps.specs.declared.systems.System.{System}
-use Rattle.situation_steps.specs.Systems.{NoneIsDue}
 use Rattle.situation_steps.specs.Ends.{HasEnded}
 use Rattle.situation_steps.proofs.Ends.{turns_end, clocks_end_selections, clocks_end_waits}
 use Rattle.situation_steps.proofs.Dead.{dead_ends}

@@ -1,5 +1,5 @@
 -- A firing of a run that goes on: it is put, or it faults.
-use Rattle.std.proofs.Common.{◌≡◌, ◌≢◌, ℕ, zero, suc, ◌+◌, ◌*◌, ◌^◌, ◌<◌, ◌≤◌, Bool, true, false, List, [], ◌∷◌, ◌++◌, Option, Some, None, refl, sym, ap, subst, ◌∙◌, inl, inr, arith, length}
+use Rattle.std.proofs.Common.{◌≡◌, ℕ, zero, suc, ◌+◌, ◌*◌, ◌^◌, ◌<◌, ◌≤◌, true, List, [], ◌∷◌, ◌++◌, Option, Some, None, refl, sym, ap, subst, ◌∙◌, inl, arith, length}
 use Rattle.std.specs.Prelude.{Contains, ◌&&◌, nat_eq, map as each}
 use Rattle.std.specs.Str.{bytes_eq}
 use Rattle.std.specs.FinMap as map
@@ -8,36 +8,34 @@ use Rattle.std.proofs.lemmas.List.{append-nil}
 use Rattle.pascal_values.specs.declared.fault.Fault as fault
 use Rattle.estelle_tree.specs.declared.transition.Pair.{Pair}
 use Rattle.estelle_tree.specs.Paths.{Path}
-use Rattle.estelle_tree.specs.Timers.{pair, Timers}
+use Rattle.estelle_tree.specs.Timers.{pair}
 use Rattle.estelle_model.specs.declared.event.Event.{Event}
-use Rattle.estelle_model.specs.declared.event.Event.TheVariants.{Start, Select, Fire, Fault}
+use Rattle.estelle_model.specs.declared.event.Event.TheVariants.{Fire, Fault}
 use Rattle.estelle_model.specs.declared.event.End.TheVariants.{Faulted}
 use Rattle.estelle_model.specs.declared.effect.Effect.{Effect}
 use Rattle.estelle_model.specs.declared.image.Image.{Image}
-use Rattle.estelle_model.specs.declared.image.Part.{Part}
 use Rattle.estelle_model.specs.declared.job.Job.{Job}
 use Rattle.estelle_model.specs.declared.job.Done.{Done}
 use Rattle.estelle_model.specs.declared.job.Outcome.{Outcome}
 use Rattle.estelle_model.specs.declared.job.Outcome.TheVariants as outcome
-use Rattle.estelle_model.specs.Core.{Instance}
-use Rattle.estelle_model.specs.Transitions.{Transition, When}
+use Rattle.estelle_model.specs.Transitions.{Transition}
 use Rattle.estelle_model.specs.Subject.{Subject}
-use Rattle.estelle_model.specs.Situation.{Situation, Acting, acting_after, made_after}
-use Rattle.estelle_model.specs.Firing.{Firing, Ran, Failed, begun, fire, transition_at, taken}
-use Rattle.estelle_model.specs.Jobs.{IsJobIn, IsAnswer, IsPut, Answers, AnswersAt, put, after_all, taken_by, all_logged, logged_as}
+use Rattle.estelle_model.specs.Situation.{Situation, Acting}
+use Rattle.estelle_model.specs.Firing.{Failed, begun, fire, transition_at}
+use Rattle.estelle_model.specs.Jobs.{IsAnswer, IsPut, Answers, AnswersAt, put, taken_by, all_logged}
 use Rattle.estelle_model.specs.Runs.{FiringFaults, HasFailed, situation, without}
 use Rattle.estelle_model.specs.Choosers.{Draw, Picks}
 use Rattle.estelle_model.specs.Schedule.{FiringIsPlanned}
 use Rattle.estelle_model_legality.specs.Instances.{LeadsToStates}
 use Rattle.estelle_model_legality.specs.Situations.{IsLegal}
-use Rattle.effect_log.specs.Putting.{log_of, parts_of, effects_of, IsJobAt, AnswersIn, begun_by, after_put, arrivals}
+use Rattle.effect_log.specs.Putting.{log_of, parts_of, effects_of, IsJobAt, AnswersIn, after_put, arrivals}
 use Rattle.effect_log.specs.Rooms.{outputs_in}
 use Rattle.situation_state.proofs.Counted.{made_all, taken_made}
 use Rattle.effect_log.proofs.Answered.{log-is}
 use Rattle.effect_log.proofs.Lawful.{no-initial}
 use Rattle.run_history.specs.declared.entry.Entry.{Entry}
 use Rattle.run_history.specs.Histories.{project, fires}
-use Rattle.run_history.specs.Tickets.{MayTake, tickets, AreTickets}
+use Rattle.run_history.specs.Tickets.{MayTake, tickets}
 use Rattle.run_history.proofs.Entries.{fires_more}
 use Rattle.situation_steps.specs.declared.systems.System.{System}
 use Rattle.situation_steps.specs.declared.systems.Time.{Time}
@@ -48,7 +46,7 @@ use Rattle.situation_steps.specs.Ends.{HasEnded}
 use Rattle.situation_steps.proofs.Fired.{firings_go_on}
 use Rattle.situation_steps.proofs.Due.{none_are_due}
 use Rattle.situation_steps.proofs.Ends.{faults_end}
-use Rattle.situation_units.specs.Counting.{births_at, IsWithinUnits}
+use Rattle.situation_units.specs.Counting.{IsWithinUnits}
 use Rattle.situation_units.proofs.Weighing.{firings_are_within}
 use Rattle.estelle_model_legality.proofs.Lists.{path_is, number_is, both_and}
 use Rattle.situation.specs.declared.limits.Stepped.TheVariants as stepped

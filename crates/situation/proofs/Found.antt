@@ -7,7 +7,7 @@ use Rattle.estelle_tree.specs.Paths.{Path}
 use Rattle.estelle_model.specs.declared.image.Part.{Part}
 use Rattle.estelle_model.specs.Bodies.{BodyAlone}
 use Rattle.estelle_model.specs.Core.{Instance}
-use Rattle.estelle_model.specs.Subject.{Subject, body}
+use Rattle.estelle_model.specs.Subject.{Subject}
 use Rattle.estelle_model.specs.Situation.{Situation}
 use Rattle.estelle_model.specs.Attributes.{attribute, attribute_at, is_system}
 use Rattle.estelle_model.specs.Selection.{paths}

@@ -1,7 +1,6 @@
 -- Systems in a list, one after another.
 use Rattle.std.proofs.Common.{◌≡◌, ℕ, zero, suc, ◌+◌, ◌<◌, ◌≤◌, Bool, true, false, cond, List, [], ◌∷◌, ◌++◌, map, length, take, drop, set, get_or, refl, sym, ap, subst, ◌∙◌, arith, add-one}
 use Rattle.std.specs.Prelude.{filter, slice_get, option_map, Some, None}
-use Rattle.std.specs.List.{AllByRecursion}
 use Rattle.std.proofs.lemmas.List.{take_all, drop_all, append-nil}
 use Rattle.std.proofs.lemmas.Option.{slice_get-get_or, same_Some}
 use Rattle.estelle_tree.specs.Paths.{Path}
@@ -10,7 +9,7 @@ use Rattle.estelle_model.specs.Situation.{Situation}
 use Rattle.estelle_model.specs.Attributes.{attribute_at, is_system, IsSystem}
 use Rattle.estelle_model.specs.Selection.{paths}
 use Rattle.situation_steps.specs.declared.systems.System.{System}
-use Rattle.situation_steps.specs.Systems.{is_due, systems_of, NoneIsDue, IsFirstDueAt}
+use Rattle.situation_steps.specs.Systems.{is_due, systems_of, NoneIsDue}
 use Rattle.situation.specs.Systems.{IsFirstOne}
 
 -- ---- the first that is due

@@ -1,12 +1,10 @@
 -- Steps as they are planned, and that what they lead to is reached.
-use Rattle.std.proofs.Common.{◌≡◌, ◌<◌, ℕ, Bool, List, [], ◌∷◌, ◌++◌, length, Option, refl, sym, subst, inl, inr}
-use Rattle.pascal_values.specs.declared.fault.Fault as fault
+use Rattle.std.proofs.Common.{◌≡◌, ◌<◌, ℕ, Bool, List, [], ◌∷◌, ◌++◌, length, Option, sym, subst, inl, inr}
 use Rattle.estelle_tree.specs.declared.transition.Pair.{Pair}
 use Rattle.estelle_tree.specs.Paths.{Path}
 use Rattle.estelle_model.specs.declared.event.Event.{Event}
 use Rattle.estelle_model.specs.declared.event.Event.TheVariants.{Select, Fire, Fault}
 use Rattle.estelle_model.specs.declared.event.End.{End}
-use Rattle.estelle_model.specs.declared.event.End.TheVariants.{Faulted}
 use Rattle.estelle_model.specs.Subject.{Subject}
 use Rattle.estelle_model.specs.Runs.{situation}
 use Rattle.estelle_model.specs.Choosers.{Draw}

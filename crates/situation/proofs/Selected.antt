@@ -1,14 +1,11 @@
 -- What a selection comes to.
-use Rattle.std.proofs.Common.{◌≡◌, ℕ, ◌+◌, ◌<◌, ◌≤◌, ◌^◌, Bool, true, false, cond, List, [], ◌∷◌, ◌++◌, length, Option, Some, None, refl, sym, ap, subst, ◌∙◌, arith}
+use Rattle.std.proofs.Common.{◌≡◌, ℕ, Bool, true, false, List, [], ◌∷◌, ◌++◌, length, Option, Some, None, refl, sym, ap, subst, ◌∙◌, arith}
 use Rattle.std.specs.Prelude.{◌&&◌, nat_eq, IsTrue}
 use Rattle.estelle_tree.specs.declared.transition.Pair.{Pair}
 use Rattle.estelle_tree.specs.declared.transition.Wanted.{Wanted}
-use Rattle.estelle_tree.specs.Paths.{Path}
 use Rattle.estelle_model.specs.declared.event.Event.{Event}
 use Rattle.estelle_model.specs.declared.event.Event.TheVariants.{Select}
-use Rattle.estelle_model.specs.declared.event.End.{End}
 use Rattle.estelle_model.specs.declared.event.End.TheVariants.{Clock}
-use Rattle.estelle_model.specs.Subject.{Subject}
 use Rattle.estelle_model.specs.Situation.{Situation}
 use Rattle.estelle_model.specs.Delays.{has_delays}
 use Rattle.estelle_model.specs.Runs.{selected, situation}
@@ -27,7 +24,7 @@ use Rattle.situation_steps.proofs.Selections.{selections_go_on}
 use Rattle.situation.specs.declared.limits.Stepped.TheVariants as did
 use Rattle.situation.specs.declared.course.Course.{Course}
 use Rattle.situation.specs.Runs.{noted, IsWithin, IsGoing}
-use Rattle.situation.specs.Worlds.{IsKept, HasStepped, IsUnchanged, now, work, left_to_do}
+use Rattle.situation.specs.Worlds.{IsKept, HasStepped, IsUnchanged, now, left_to_do}
 use Rattle.situation.specs.Steps.{GoesOn, IsDueAt, MayBeNow}
 use Rattle.run_history.proofs.OpenTickets.{tickets_same}
 use Rattle.situation.proofs.Tickets.{still_settled, still_tickets}

@@ -1,5 +1,5 @@
 -- What a done that is settled comes to.
-use Rattle.std.proofs.Common.{◌≡◌, ℕ, true, List, [], ◌∷◌, ◌++◌, Option, Some, None, refl, sym, ap, subst, ◌∙◌}
+use Rattle.std.proofs.Common.{◌≡◌, ℕ, true, List, [], ◌∷◌, ◌++◌, Some, None, refl, sym, ap, subst, ◌∙◌}
 use Rattle.pascal_values.specs.declared.fault.Fault as fault
 use Rattle.std.specs.Prelude.{map as each}
 use Rattle.std.specs.List.{remove}

@@ -1,14 +1,12 @@
 -- What was put of the start is settled, whether it ran or faulted.
-use Rattle.std.proofs.Common.{◌≡◌, ℕ, List, [], ◌∷◌, ◌++◌, Option, Some, None, refl, sym, ap, subst, ◌∙◌}
+use Rattle.std.proofs.Common.{◌≡◌, [], ◌∷◌, ◌++◌, Some, None, ap, subst, ◌∙◌}
 use Rattle.pascal_values.specs.declared.fault.Fault as fault
-use Rattle.estelle_tree.specs.declared.transition.Pair.{Pair}
 use Rattle.estelle_model.specs.declared.event.Event.TheVariants.{Start}
 use Rattle.estelle_model.specs.declared.job.Done.{Done}
 use Rattle.estelle_model.specs.declared.job.Outcome.{Outcome}
 use Rattle.estelle_model.specs.declared.job.Outcome.TheVariants as outcome
 use Rattle.estelle_model.specs.Subject.{Subject}
 use Rattle.estelle_model.specs.Firing.{bare}
-use Rattle.effect_log.specs.Putting.{after_put}
 use Rattle.situation_state.specs.declared.state.State.{State}
 use Rattle.situation_state.specs.At.{NothingNoted}
 use Rattle.situation_state.specs.Firings.{failure_of, MayFire, IsFired}

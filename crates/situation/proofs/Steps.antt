@@ -1,5 +1,5 @@
 -- A step of a run that goes on: a selection, a wait for the clock, a guard that faults, or an end.
-use Rattle.std.proofs.Common.{◌≡◌, ◌≢◌, ℕ, ◌+◌, ◌<◌, ◌≤◌, ◌^◌, max, Bool, true, false, List, [], ◌∷◌, ◌++◌, length, Option, Some, None, refl, sym, ap, subst, ◌∙◌, inl, inr, arith}
+use Rattle.std.proofs.Common.{◌≡◌, ℕ, ◌<◌, ◌≤◌, max, Bool, true, false, List, [], ◌∷◌, ◌++◌, length, Option, Some, None, refl, sym, ap, subst, ◌∙◌, arith}
 use Rattle.std.specs.Prelude.{IfSome}
 use Rattle.std.proofs.lemmas.List.Elements.{filter_map-append}
 use Rattle.std.proofs.lemmas.List.{append-nil, length-append}
@@ -13,7 +13,6 @@ use Rattle.estelle_model.specs.declared.event.End.TheVariants.{Faulted}
 use Rattle.estelle_model.specs.Subject.{Subject}
 use Rattle.estelle_model.specs.Situation.{Situation}
 use Rattle.estelle_model.specs.Firing.{start}
-use Rattle.estelle_model.specs.Delays.{has_delays}
 use Rattle.estelle_model.specs.Runs.{IsRun, Applies, IsFirstFault, situation}
 use Rattle.estelle_model.specs.Ends.{Stops}
 use Rattle.estelle_model.specs.Choosers.{Draw}
@@ -21,7 +20,6 @@ use Rattle.estelle_model.specs.Schedule.{told_after, IsPlannedEnd, MayAnswer, Is
 use Rattle.estelle_model_legality.specs.Keeping.{HasStarted}
 use Rattle.estelle_model_legality.specs.Situations.{IsLegal}
 use Rattle.run_history.specs.declared.entry.Entry.{Entry}
-use Rattle.run_history.specs.declared.entry.What.TheVariants as what
 use Rattle.run_history.specs.Histories.{event_of, project, fires}
 use Rattle.run_history.specs.Tickets.{ticket_of, tickets, AreTickets}
 use Rattle.run_history.proofs.Entries.{fires_more}

@@ -1,17 +1,11 @@
 -- What a wait for the clock comes to.
-use Rattle.std.proofs.Common.{◌≡◌, ℕ, ◌+◌, ◌<◌, ◌≤◌, max, Bool, true, false, List, [], ◌∷◌, length, map, Option, Some, None, refl, sym, ap, subst, ◌∙◌}
+use Rattle.std.proofs.Common.{◌≡◌, ℕ, ◌≤◌, max, Bool, true, false, length, map, Option, Some, None, refl, sym, ap, subst, ◌∙◌}
 use Rattle.std.specs.Prelude.{IfSome}
 use Rattle.estelle_tree.specs.Timers.{next_due}
-use Rattle.estelle_model.specs.declared.event.End.{End}
 use Rattle.estelle_model.specs.declared.event.End.TheVariants.{Clock}
-use Rattle.estelle_model.specs.Subject.{Subject}
-use Rattle.estelle_model.specs.Situation.{Situation}
-use Rattle.estelle_model.specs.Delays.{has_delays}
-use Rattle.estelle_model.specs.Runs.{situation}
 use Rattle.estelle_model.specs.Choosers.{Draw}
-use Rattle.estelle_model.specs.Schedule.{MayAnswer, wait_until}
+use Rattle.estelle_model.specs.Schedule.{MayAnswer}
 use Rattle.run_history.specs.Histories.{project, fires}
-use Rattle.situation_steps.specs.declared.systems.System.{System}
 use Rattle.situation_steps.specs.declared.systems.Time.{Time}
 use Rattle.situation_steps.specs.Systems.{after_wait}
 use Rattle.situation_steps.specs.Laws.{MayWait}
@@ -19,7 +13,7 @@ use Rattle.situation_steps.proofs.Waiting.{timers_are_waited_for, waits_go_on}
 use Rattle.situation.specs.declared.limits.Stepped.TheVariants as did
 use Rattle.situation.specs.declared.course.Course.{Course}
 use Rattle.situation.specs.Runs.{IsGoing}
-use Rattle.situation.specs.Worlds.{IsOpenCourse, IsKept, HasStepped, now, work, left_to_do}
+use Rattle.situation.specs.Worlds.{IsOpenCourse, IsKept, HasStepped, work, left_to_do}
 use Rattle.situation.specs.Steps.{GoesOn, MayWaitFor}
 use Rattle.situation.proofs.Planned.{leads_waited}
 use Rattle.situation.proofs.Steps.{may_answer, still_told}

@@ -1,5 +1,5 @@
 -- One step as it is planned, from what is kept of a run as it is.
-use Rattle.std.specs.Prelude.{◌≡◌, ◌<◌, ℕ, List, [], ◌∷◌, ◌++◌, length, Option, Some, None}
+use Rattle.std.specs.Prelude.{◌<◌, ℕ, List, [], ◌∷◌, ◌++◌, length, Option}
 use Rattle.pascal_values.specs.declared.fault.Fault.{Fault as Kind}
 use Rattle.estelle_tree.specs.Paths.{Path}
 use Rattle.estelle_tree.specs.declared.transition.Pair.{Pair}

@@ -7,7 +7,7 @@ use Rattle.situation.specs.declared.course.Course.{Course}
 use Rattle.situation.specs.Worlds.{now}
 use Rattle.situation.specs.Steps.{MaySettle, HasSettled}
 use Rattle.situation.proofs.Settled.{settled_unclocked}
-use Rattle.situation.proofs.Committed.{may_settle, committed_step, with_take}
+use Rattle.situation.proofs.Committed.{may_settle, committed_step}
 use Rattle.situation.proofs.course.Course.commit.Goals as goal
 
 pub note_take-requires-clause-room : goal.note_take-requires-clause-room

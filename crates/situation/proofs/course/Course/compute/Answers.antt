@@ -1,4 +1,4 @@
-use Rattle.std.proofs.Common.{◌≡◌, sym, ap, subst}
+use Rattle.std.proofs.Common.{ap, subst}
 use Rattle.estelle_model.specs.Jobs.{Answers}
 use Rattle.estelle_model.specs.Subject.{Subject}
 use Rattle.situation_state.specs.declared.state.State.{State}

@@ -1,12 +1,11 @@
-use Rattle.std.proofs.Common.{rules, ◌≡◌, ◌<◌, ℕ, List, Some, length, refl, sym, ap, subst, ◌∙◌}
+use Rattle.std.proofs.Common.{rules, ◌≡◌, ◌<◌, ℕ, List, Some, length, refl, sym, ap, subst}
 use Rattle.std.specs.Prelude.{slice_get}
 use Rattle.std.proofs.lemmas.Option.{slice_get_read}
 use Rattle.estelle_tree.specs.declared.transition.Pair.{Pair}
 use Rattle.estelle_tree.specs.Timers.{pair}
 use Rattle.estelle_model.specs.Choosers.{pick, Picks}
 use Rattle.situation.specs.declared.course.Course.{Course}
-use Rattle.situation.specs.Worlds.{HasStepped}
-use Rattle.situation.specs.Steps.{IsComputed, HasCommitted}
+use Rattle.situation.specs.Steps.{HasCommitted}
 use Rattle.situation_state.specs.declared.state.State.{State}
 use Rattle.situation.proofs.Computed.{from_state, picked_so, its_pair}
 use Rattle.situation.proofs.course.Course.fire.Goals as goal

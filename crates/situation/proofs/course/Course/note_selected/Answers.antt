@@ -1,6 +1,5 @@
 use Rattle.std.proofs.Common.{◌≡◌, false, set, ◌∙◌}
 use Rattle.std.proofs.lemmas.Option.{get_or_from_slice_get}
-use Rattle.situation_steps.specs.declared.systems.System.{System}
 use Rattle.situation.proofs.course.Course.note_selected.Goals as goal
 
 pub returns-clause-systems : goal.returns-clause-systems

@@ -1,7 +1,6 @@
 use Rattle.std.proofs.Common.{◌≡◌, ℕ, ◌++◌, ◌∷◌, [], List, length, refl, sym, ap, subst, ◌∙◌, rules}
 use Rattle.std.proofs.lemmas.Option.{get_or_from_slice_get}
 use Rattle.estelle_tree.specs.declared.transition.Pair.{Pair}
-use Rattle.estelle_tree.specs.declared.transition.Wanted.{Wanted}
 use Rattle.estelle_tree.specs.Paths.{Path}
 use Rattle.estelle_model.specs.declared.event.Event.TheVariants as events
 use Rattle.estelle_model.specs.Delays.{wanted}

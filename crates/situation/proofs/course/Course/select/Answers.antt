@@ -1,5 +1,4 @@
 use Rattle.std.proofs.Common.{◌≡◌, true, sym, subst, inl, rules}
-use Rattle.std.specs.Prelude.{OnErr}
 use Rattle.outside.specs.Counts.{Rose}
 use Rattle.estelle_model.specs.declared.event.End.TheVariants.{Clock}
 use Rattle.situation.specs.declared.limits.Stepped.TheVariants as did

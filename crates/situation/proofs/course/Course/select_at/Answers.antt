@@ -1,5 +1,4 @@
-use Rattle.std.proofs.Common.{◌≡◌, ℕ, Option, Some, sym, subst, ◌∙◌, refl}
-use Rattle.std.specs.Prelude.{slice_get}
+use Rattle.std.proofs.Common.{◌≡◌, sym, subst, ◌∙◌, refl}
 use Rattle.std.proofs.lemmas.Option.{get_or_from_slice_get}
 use Rattle.std.proofs.lemmas.Result.{IfOk-weaker, on_err_weaker}
 use Rattle.estelle_model.specs.declared.event.End.TheVariants.{Clock, Faulted}
@@ -8,8 +7,6 @@ use Rattle.delay_timers.specs.Moments.{AreDifferent}
 use Rattle.situation_offers.specs.declared.selection.SelectFault.{SelectFault}
 use Rattle.situation_offers.specs.Selections.{IsSelection, IsRefusal, LeavesChooser}
 use Rattle.situation_steps.specs.declared.systems.System.{System}
-use Rattle.situation.specs.declared.course.Course.{Course}
-use Rattle.situation.specs.declared.limits.Stepped.{Stepped}
 use Rattle.situation.specs.declared.limits.Stepped.TheVariants as did
 use Rattle.situation.specs.Worlds.{HasStepped, now}
 use Rattle.situation.proofs.Listed.{system_here}

@@ -1,5 +1,4 @@
-use Rattle.std.proofs.Common.{◌≡◌, Some, sym, ap, subst, ◌∙◌, arith}
-use Rattle.estelle_tree.specs.declared.transition.Pair.{Pair}
+use Rattle.std.proofs.Common.{◌≡◌, Some, sym, ap, ◌∙◌, arith}
 use Rattle.estelle_tree.specs.Timers.{pair}
 use Rattle.situation_state.proofs.Ran.{ran_if}
 use Rattle.situation.specs.declared.course.Course.{Course}
