@@ -1,6 +1,6 @@
 //! The parts of an image, by their paths.
 
-ghost use Rattle.std.specs.Prelude.{◌≡◌, ◌≤◌, vec_len, slice_get, if◌then◌else◌, not, filter, option_map, Some, None, MatchOption, IfOk, OnOk, OnErr};
+ghost use Rattle.std.specs.Prelude.{◌≡◌, ◌≤◌, true, vec_len, slice_get, if◌then◌else◌, not, filter, option_map, Some, None, MatchOption, IfOk, OnOk, OnErr};
 ghost use Rattle.std.specs.Option.{option_copied};
 ghost use Rattle.std.specs.List.{insert};
 ghost use Rattle.std.specs.FinMap.{put};
@@ -42,8 +42,28 @@ fn rise(parts: &[Part]) -> bool
     true
 }
 
-/// The place of the part with a path.
+fn begins_with(parts: &[Part], path: &Path) -> bool
+    ensures { result ≡ true → StandsAt parts.now path.now 0 }
+{
+    match parts.first() {
+        Some(first) => first.path.items() == path.items(),
+        None => false,
+    }
+}
+
+/// The place of the part with a path. The parts of a job begin with that of its own instance.
 pub fn find_part(parts: &[Part], path: &Path) -> Option<usize>
+    requires { InOrder parts.now }
+    ensures { MatchOption result (instance_in parts.now path.now ≡ None) (λ k. StandsAt parts.now path.now k) }
+{
+    if begins_with(parts, path) {
+        Some(0)
+    } else {
+        search_parts(parts, path)
+    }
+}
+
+fn search_parts(parts: &[Part], path: &Path) -> Option<usize>
     requires { InOrder parts.now }
     ensures { MatchOption result (instance_in parts.now path.now ≡ None) (λ k. StandsAt parts.now path.now k) }
 {
@@ -82,8 +102,28 @@ pub fn are_in_order(parts: &[&Part]) -> bool
     true
 }
 
-/// The place of the part with a path, among parts that are lent.
+fn lent_begin_with(parts: &[&Part], path: &Path) -> bool
+    ensures { result ≡ true → StandsAt (parts_behind parts.now) path.now 0 }
+{
+    match parts.first() {
+        Some(first) => first.path.items() == path.items(),
+        None => false,
+    }
+}
+
+/// The place of the part with a path, among parts that are lent. Those of a job begin with that of its own instance.
 fn find_lent(parts: &[&Part], path: &Path) -> Option<usize>
+    requires { InOrder (parts_behind parts.now) }
+    ensures { MatchOption result (instance_in (parts_behind parts.now) path.now ≡ None) (λ k. StandsAt (parts_behind parts.now) path.now k) }
+{
+    if lent_begin_with(parts, path) {
+        Some(0)
+    } else {
+        search_lent(parts, path)
+    }
+}
+
+fn search_lent(parts: &[&Part], path: &Path) -> Option<usize>
     requires { InOrder (parts_behind parts.now) }
     ensures { MatchOption result (instance_in (parts_behind parts.now) path.now ≡ None) (λ k. StandsAt (parts_behind parts.now) path.now k) }
 {

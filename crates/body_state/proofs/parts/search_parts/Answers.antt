@@ -3,7 +3,7 @@ use Rattle.std.proofs.lemmas.Fn.{always_returns_same}
 use Rattle.estelle_model.specs.declared.image.Part.{Part}
 use Rattle.estelle_tree.specs.Paths.{path_cmp}
 use Rattle.body_state.proofs.OrderLemmas.{holds_of, searchable, stands_of, absent}
-use Rattle.body_state.proofs.parts.find_part.Goals as goal
+use Rattle.body_state.proofs.parts.search_parts.Goals as goal
 
 pub returns-in-Ok : goal.returns-in-Ok
 returns-in-Ok c = stands_of c.args.parts.now c.args.path.now c.in-Ok.place c.in-Ok.ensures.bound (c.in-Ok.ensures.position (λ (y : Part). path_cmp y.path c.args.path.now) (always_returns_same _ _ _ (λ a r f q. search rules)))
