@@ -18,9 +18,10 @@ use Rattle.body_numbers.specs.Numbers.{shape_numbered}
 use Rattle.body_machine.specs.declared.ahead.Variable.{Variable}
 use Rattle.body_machine.specs.declared.ahead.Variable.TheVariants.{Own, Local}
 use Rattle.body_machine.specs.declared.operators.Binary.{Binary}
+use Rattle.body_machine.specs.declared.operators.Unary.TheVariants as unary
 use Rattle.body_machine.specs.Operations.{binary_value}
 use Rattle.body_machine.specs.Machine.{Item, Datum, Spot, Machine, Next, Goes, Ends, Stops}
-use Rattle.body_machine.specs.Rows.{Row, JumpsWhere, row, pushing, loading, combining, storing, leaves, gives}
+use Rattle.body_machine.specs.Rows.{Row, JumpsWhere, row, pushing, loading, computing, combining, storing, fitting, leaves, gives}
 use Rattle.body_machine.specs.Steps.{goes_on, by_row, act, next, run, Comes}
 use Rattle.body_machine.specs.Seen.{IsNext}
 use Rattle.body_machine.specs.Ahead.{pushed_by, place_in, holding, IsLoadOf, Computes, IsOperator, Loads, joined_to, IsMade, HasMade, HasGone}
@@ -50,9 +51,6 @@ module _ (s : Subject) (n : Numbers) (code : List CodeUnit) where
   comes_then (suc j) (Stops by left) y z e to = subst (λ u. Comes s n code u z) (sym e) to
 
   -- ---- what values are made by
-
-  pub made_then : (x : Next) (v : Value) (mid new : Machine) (r : Result Value Stop) → HasMade s n code x (Ok v) mid → HasMade s n code (Goes (holding v mid)) r new → HasMade s n code x r new
-  made_then x v mid new r first then = let all = comes_then first.0 x (Goes (holding v mid)) (run s n code then.0 (Goes (holding v mid))) first.1 (then.0, refl) in (all.0, subst (λ (y : Next). IsMade y r new) (sym all.1) then.1)
 
   pub made_gone : (x : Next) (v : Value) (mid new : Machine) (r : Result (Unit {0}) Stop) → HasMade s n code x (Ok v) mid → HasGone s n code (Goes (holding v mid)) r new → HasGone s n code x r new
   made_gone x v mid new r first then = let all = comes_then first.0 x (Goes (holding v mid)) (run s n code then.0 (Goes (holding v mid))) first.1 (then.0, refl) in (all.0, subst (λ (y : Next). IsNext y r new) (sym all.1) then.1)
@@ -143,3 +141,20 @@ module _ (s : Subject) (n : Numbers) (code : List CodeUnit) where
     pub by_store : (k : ℕ) (i : Instr) (shape : Option Shape) (result : Result (Unit {0}) Stop) (new : Machine) → slice_get m.active.unit.instrs m.active.address ≡ Some i → i ≡ op.Store k → shape ≡ shape_numbered n k → IsNext (by_row s n code (storing shape) (Datum v ∷ m.active.stack) (holding v m)) result new → HasGone s n code (Goes (holding v m)) result new
     unfolding row
     by_store k i shape result new there is by h = taken_by i (storing shape) result new there (ap (row s n (holding v m).active) is ∙ ap storing (sym by)) h
+
+    -- ---- what is made of it alone
+
+    changed_by : (i : Instr) (r : Row) (result : Result Value Stop) (new : Machine) → slice_get m.active.unit.instrs m.active.address ≡ Some i → row s n (holding v m).active i ≡ r → IsMade (by_row s n code r (Datum v ∷ m.active.stack) (holding v m)) result new → HasMade s n code (Goes (holding v m)) result new
+    changed_by i r result new there is h = (1, subst (λ (x : Next). IsMade x result new) (sym (at_row (holding v m) i r there is)) h)
+
+    pub by_succ : (i : Instr) (result : Result Value Stop) (new : Machine) → slice_get m.active.unit.instrs m.active.address ≡ Some i → i ≡ op.Succ → IsMade (by_row s n code (computing unary.Succ) (Datum v ∷ m.active.stack) (holding v m)) result new → HasMade s n code (Goes (holding v m)) result new
+    unfolding row
+    by_succ i result new there is h = changed_by i (computing unary.Succ) result new there (ap (row s n (holding v m).active) is) h
+
+    pub by_pred : (i : Instr) (result : Result Value Stop) (new : Machine) → slice_get m.active.unit.instrs m.active.address ≡ Some i → i ≡ op.Pred → IsMade (by_row s n code (computing unary.Pred) (Datum v ∷ m.active.stack) (holding v m)) result new → HasMade s n code (Goes (holding v m)) result new
+    unfolding row
+    by_pred i result new there is h = changed_by i (computing unary.Pred) result new there (ap (row s n (holding v m).active) is) h
+
+    pub by_fit : (k : ℕ) (i : Instr) (shape : Option Shape) (result : Result Value Stop) (new : Machine) → slice_get m.active.unit.instrs m.active.address ≡ Some i → i ≡ op.Fit k → shape ≡ shape_numbered n k → IsMade (by_row s n code (fitting shape) (Datum v ∷ m.active.stack) (holding v m)) result new → HasMade s n code (Goes (holding v m)) result new
+    unfolding row
+    by_fit k i shape result new there is by h = changed_by i (fitting shape) result new there (ap (row s n (holding v m).active) is ∙ ap fitting (sym by)) h

@@ -1,5 +1,5 @@
 -- The topmost items of a stack that is kept with the topmost last.
-use Rattle.std.proofs.Common.{◌≡◌, ◌∙◌, sym, ap, ap₂, ℕ, ◌-◌, ◌≤◌, ◌<◌, Bool, cond, List, ◌++◌, length, take, drop, reverse, Option, Some, None, arith}
+use Rattle.std.proofs.Common.{◌≡◌, ◌∙◌, sym, ap, ap₂, ℕ, zero, suc, ◌-◌, ◌≤◌, ◌<◌, Bool, cond, List, ◌∷◌, ◌++◌, length, take, drop, reverse, Option, Some, None, arith}
 use Rattle.std.proofs.lemmas.Bool.{le-leb, lt-leb}
 use Rattle.std.proofs.lemmas.List.{reverse-append, reverse-reverse, take-append-drop, take_at, drop_at, length-reverse, length-drop}
 use Rattle.body_machine.specs.Machine.{Item}
@@ -34,3 +34,28 @@ module _ (xs : List Item) (k : ℕ) where
   -- fewer are there
   pub too_few : length xs < k → taken_from k (reverse xs) ≡ None
   too_few less = let n = length-reverse xs in ap chosen (lt-leb k (length (reverse xs)) (omega (arith, n, less)))
+
+  -- with the items above turned round
+  abbrev round : List Item
+  round = below ++ reverse above
+
+  apart : reverse round ≡ above ++ reverse below
+  apart = reverse-append below (reverse above) ∙ ap (λ (ys : List Item). ys ++ reverse below) (reverse-reverse above)
+
+  long : k ≤ length xs → length above ≡ k
+  long less = let m = length-drop (length xs - k) xs in omega (arith, m, less)
+
+  pub turned : k ≤ length xs → taken_from k (reverse xs) ≡ Some (take k (reverse round), drop k (reverse round))
+  turned less = enough less ∙ ap₂ (λ a b. Some (a, b))
+      (sym (ap (take k) apart ∙ take_at above (reverse below) k (long less)))
+      (sym (ap (drop k) apart ∙ drop_at above (reverse below) k (long less)))
+
+-- ---- one item more
+
+pub take_one : (k : ℕ) (i : Item) (xs : List Item) → 0 < k → take k (i ∷ xs) ≡ i ∷ take (k - 1) xs
+take_one zero i xs more = absurd (omega (arith, more))
+take_one (suc k) i xs more = ap (λ n. i ∷ take n xs) {y = suc k - 1} (omega arith)
+
+pub drop_one : (k : ℕ) (i : Item) (xs : List Item) → 0 < k → drop k (i ∷ xs) ≡ drop (k - 1) xs
+drop_one zero i xs more = absurd (omega (arith, more))
+drop_one (suc k) i xs more = ap (λ n. drop n xs) {y = suc k - 1} (omega arith)

@@ -1,11 +1,12 @@
 //! Units that run.
 
-ghost use Rattle.std.specs.Prelude.{◌≡◌};
+ghost use Rattle.std.specs.Prelude.{◌≡◌, IfOk};
 
 use crate::stack::Stack;
 use body_code::CodeUnit;
 use estelle_model::Environment;
 use estelle_tree::Path;
+use std::alloc::{AllocError, Global};
 
 /// What comes behind the end of a unit.
 #[derive(Drop)]
@@ -34,6 +35,14 @@ pub struct Activation<'a> {
 }
 
 impl Activation<'_> {
+    /// A copy of the path of its instance.
+    pub(crate) fn own_path(&mut self, alloc: Global) -> Result<Path, AllocError>
+        ensures ok { IfOk result (λ path. path ≡ self.old.here.path) }
+        ensures same { self.new ≡ self.old }
+    {
+        self.stack.copy_path(alloc, &self.here.path)
+    }
+
     /// What stands on its stack, and what comes behind its end.
     pub fn into_left(self) -> (Stack, Return)
         ensures stack { result.0 ≡ self.entry.stack }
@@ -42,12 +51,13 @@ impl Activation<'_> {
         let Activation {
             body: _,
             unit: _,
-            here: _,
+            here,
             address: _,
-            stack,
+            mut stack,
             turned: _,
             return_to,
         } = self;
+        stack.keep_path(here.path);
         (stack, return_to)
     }
 }

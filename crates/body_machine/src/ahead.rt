@@ -1,6 +1,7 @@
 //! Instructions at once: a value that they make is held apart from the stack until one of them takes it.
 
 ghost use Rattle.std.specs.Prelude.{◌≡◌, suc, [], ◌∷◌, List, slice_get, Some, IfSome};
+ghost use Rattle.std.specs.Option.{option_copied};
 ghost use Rattle.body_code.specs.declared.instr.Instr.TheVariants as op;
 ghost use Rattle.body_code.specs.declared.unit.CodeUnit as code_units;
 ghost use Rattle.estelle_model.specs.States.{Logged, on_log};
@@ -12,7 +13,7 @@ ghost use Rattle.body_numbers.specs.declared.numbers.Numbers as numbers;
 ghost use Rattle.body_machine.specs.Machine as machines;
 ghost use Rattle.body_machine.specs.Machine.{Datum, Next, Goes};
 ghost use Rattle.body_machine.specs.Operations.{binary_value};
-ghost use Rattle.body_machine.specs.Rows.{combining};
+ghost use Rattle.body_machine.specs.Rows.{combining, computing, fitting};
 ghost use Rattle.body_machine.specs.Steps.{by_row, next};
 ghost use Rattle.body_machine.specs.Seen.{seen, seen_unit, IsNext, IsStep};
 ghost use Rattle.body_machine.specs.Ahead.{pushed_by, place_in, holding, IsLoad, IsLoadOf, Computes, IsOperator, Loads, joined_to, IsMade, HasMade, HasGone, HasStepped};
@@ -21,17 +22,17 @@ use crate::activation::Activation;
 use crate::item::Item;
 use crate::jumps::jump_with;
 use crate::machine::Machine;
-use crate::operators::{Binary, binary_value};
+use crate::operators::{Binary, Unary, binary_value, unary_value};
 use crate::places::slot_of;
 use crate::step::step;
-use crate::values::{store_with, stuck};
+use crate::values::{fit_as, store_with, stuck};
 use body_code::{Code, Instr, Instrs};
 use body_numbers::Numbers;
 use body_state::{ModuleBodies, Walk};
 use body_values::{Stop, below, loaded};
 use estelle_model::Place;
 use estelle_tree::{Items, Path, Relation, Sequence};
-use pascal_values::{Fault, Value};
+use pascal_values::{Fault, Shape, Value};
 use std::alloc::Global;
 
 /// A variable that an instruction names.
@@ -212,7 +213,66 @@ fn put_on_top(machine: &mut Machine, value: Value) -> Result<(), Stop>
     Ok(())
 }
 
-/// A value is taken by an instruction, or goes on top.
+/// What the instruction at the address computes of a value.
+fn compute_with(
+    alloc: Global,
+    machine: &mut Machine,
+    operator: Unary,
+    value: Value,
+) -> Result<Value, Stop>
+    ensures { (s : Subject) (n : numbers.Numbers) (code : List code_units.CodeUnit) → IsMade (by_row s n code (computing operator) (Datum value ∷ (seen machine.old).active.stack) (holding value (seen machine.old))) result (seen machine.new) }
+{
+    let made = unary_value(alloc, operator, &value)?;
+    machine.advance()?;
+    Ok(made)
+}
+
+/// A value that the instruction at the address tests.
+fn fit_with(machine: &mut Machine, shape: Option<&Shape>, value: Value) -> Result<Value, Stop>
+    ensures { (s : Subject) (n : numbers.Numbers) (code : List code_units.CodeUnit) → IsMade (by_row s n code (fitting (option_copied shape.entry)) (Datum value ∷ (seen machine.old).active.stack) (holding value (seen machine.old))) result (seen machine.new) }
+{
+    fit_as(shape, &value)?;
+    machine.advance()?;
+    Ok(value)
+}
+
+/// The shape by which an instruction stores.
+fn shape_ahead(instrs: &Instrs, address: usize) -> Option<u32>
+    ensures { IfSome result (λ shape. slice_get instrs.now address ≡ Some (op.Store shape)) }
+{
+    match instrs.get(address) {
+        Some(Instr::Store(shape)) => Some(*shape),
+        _ => None,
+    }
+}
+
+/// A value is stored by the instruction at the address, or goes on top.
+fn stored(alloc: Global, numbers: &Numbers, machine: &mut Machine, value: Value) -> Result<(), Stop>
+    ensures { (s : Subject) (code : List code_units.CodeUnit) → HasGone s numbers.now code (Goes (holding value (seen machine.old))) result (seen machine.new) }
+{
+    let unit = machine.active.unit;
+    match shape_ahead(&unit.instrs, machine.active.address) {
+        Some(shape) => store_with(alloc, machine, numbers.shape(shape), value),
+        None => put_on_top(machine, value),
+    }
+}
+
+/// What was made of a value is stored, or goes on top.
+fn made_stored(
+    alloc: Global,
+    numbers: &Numbers,
+    machine: &mut Machine,
+    made: Result<Value, Stop>,
+) -> Result<(), Stop>
+    ensures { (s : Subject) (code : List code_units.CodeUnit) (x : Next) → HasMade s numbers.now code x made (seen machine.old) → HasGone s numbers.now code x result (seen machine.new) }
+{
+    match made {
+        Err(stop) => Err(stop),
+        Ok(value) => stored(alloc, numbers, machine, value),
+    }
+}
+
+/// A value is taken or changed by an instruction, or goes on top.
 fn taken(
     alloc: Global,
     numbers: &Numbers,
@@ -226,6 +286,18 @@ fn taken(
         Instr::Jfalse(to) => jump_with(machine, value, false, *to),
         Instr::Jtrue(to) => jump_with(machine, value, true, *to),
         Instr::Store(shape) => store_with(alloc, machine, numbers.shape(*shape), value),
+        Instr::Succ => {
+            let made = compute_with(alloc, machine, Unary::Succ, value);
+            made_stored(alloc, numbers, machine, made)
+        }
+        Instr::Pred => {
+            let made = compute_with(alloc, machine, Unary::Pred, value);
+            made_stored(alloc, numbers, machine, made)
+        }
+        Instr::Fit(shape) => {
+            let made = fit_with(machine, numbers.shape(*shape), value);
+            made_stored(alloc, numbers, machine, made)
+        }
         _ => put_on_top(machine, value),
     }
 }

@@ -93,11 +93,13 @@ pub fn call<'a>(
     let Some(unit) = unit else {
         return Err(stuck());
     };
-    let Some(items) = machine.active.stack.take_top(arguments as usize)? else {
+    let arguments_count = arguments as usize;
+    if !machine.active.stack.turn_top(arguments_count) {
         return Err(stuck());
-    };
+    }
     let locals = unit.locals.items();
-    let Some(given) = given_to(alloc, locals, items)? else {
+    let stack = &mut machine.active.stack;
+    let Some(given) = given_to(alloc, locals, stack, arguments_count)? else {
         return Err(stuck());
     };
     let frame = machine.active.here.frame;
@@ -105,8 +107,8 @@ pub fn call<'a>(
     let mut values = given.values;
     add_blanks(alloc, &mut values, after(locals, arguments))?;
     machine.walk.push_frame(values)?;
-    let path = machine.active.here.path.copy(alloc)?;
-    let callee = Activation::begun(
+    let path = machine.active.own_path(alloc)?;
+    let mut callee = Activation::begun(
         alloc,
         body,
         unit,
@@ -115,6 +117,7 @@ pub fn call<'a>(
         given.references,
         Return::ToCaller,
     );
+    callee.stack = machine.active.stack.of_callee(alloc);
     machine.begin(callee)?;
     Ok(())
 }

@@ -1,6 +1,6 @@
 //! What a unit is given by the items on a stack.
 
-ghost use Rattle.std.specs.Prelude.{◌≡◌, ◌++◌, IfOk};
+ghost use Rattle.std.specs.Prelude.{◌≡◌, ◌++◌, take, drop, IfOk, IfSome};
 ghost use Rattle.body_machine.specs.Frames.{blanks_of};
 ghost use Rattle.body_machine.specs.Steps.{values_of, given_to, nothing_given};
 
@@ -27,19 +27,25 @@ pub fn values_of(alloc: Global, items: Stack) -> Result<Option<Values>, AllocErr
     Ok(Some(values))
 }
 
-/// Values for the locals that are variables, places for those by reference.
+/// Values for the locals that are variables, places for those by reference, by so many items on top, the first one first.
+#[tactic(auto, using(crate::proofs::Stacked::take_one, crate::proofs::Stacked::drop_one))]
 pub fn given_to(
     alloc: Global,
     locals: &[Local],
-    items: Stack,
+    stack: &mut Stack,
+    count: usize,
 ) -> Result<Option<ActualParameters>, AllocError>
-    ensures { IfOk result (λ given. given ≡ given_to locals.now items nothing_given) }
+    ensures given { IfOk result (λ given. given ≡ given_to locals.now (take count stack.old) nothing_given) }
+    ensures rest { IfOk result (λ given. IfSome given (λ _. stack.new ≡ drop count stack.old)) }
 {
-    let mut items = items;
+    let mut left = count;
     let mut locals = locals;
     let mut values = Values::none(alloc);
     let mut references = Items::new(alloc);
-    while let Some(item) = items.pop() {
+    while left > 0 {
+        let Some(item) = stack.pop() else {
+            break;
+        };
         let [local, rest @ ..] = locals else {
             return Ok(None);
         };
@@ -58,6 +64,7 @@ pub fn given_to(
             }
         }
         locals = rest;
+        left -= 1;
     }
     Ok(Some(ActualParameters { values, references }))
 }

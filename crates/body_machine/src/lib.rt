@@ -19,6 +19,7 @@ mod machine;
 mod operators;
 mod places;
 mod runs;
+mod spare;
 mod stack;
 mod step;
 mod values;

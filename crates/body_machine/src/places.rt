@@ -21,7 +21,7 @@ use std::alloc::{AllocError, Global};
 pub fn variable(alloc: Global, machine: &mut Machine, number: u32) -> Result<(), Stop>
     ensures { Did (pushing (Spot (Of machine.old.active.here.path number []))) machine.old result machine.new }
 {
-    let path = machine.active.here.path.copy(alloc)?;
+    let path = machine.active.own_path(alloc)?;
     machine.leave(of_instance(alloc, path, number))?;
     Ok(())
 }

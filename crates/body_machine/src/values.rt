@@ -137,7 +137,7 @@ fn assignable(shape: &Shape, value: &Value) -> Result<(), Fault>
 }
 
 /// The same of a value and a shape of a number.
-fn fit_as(shape: Option<&Shape>, value: &Value) -> Result<(), Stop>
+pub fn fit_as(shape: Option<&Shape>, value: &Value) -> Result<(), Stop>
     ensures { Gives (fit_as (option_copied shape.entry) value.now) result }
 {
     match shape {
@@ -180,6 +180,7 @@ pub fn store_with(
     match machine.active.stack.pop() {
         Some(Item::Spot(place)) => {
             store_as(alloc, &mut machine.walk, shape, &place, value)?;
+            machine.active.stack.keep_place(place);
             machine.advance()?;
             Ok(())
         }
@@ -195,6 +196,7 @@ pub fn store(alloc: Global, machine: &mut Machine, shape: Option<&Shape>) -> Res
         Some(Item::Datum(value)) => match machine.active.stack.pop() {
             Some(Item::Spot(place)) => {
                 store_as(alloc, &mut machine.walk, shape, &place, value)?;
+                machine.active.stack.keep_place(place);
                 machine.advance()?;
                 Ok(())
             }
