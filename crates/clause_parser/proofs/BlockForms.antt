@@ -25,17 +25,17 @@ use Rattle.syntax_forms.proofs.ChoiceForms.{chosen_one, chosen_other}
 use Rattle.syntax_forms.proofs.NodeForms.{IsNode}
 use Rattle.syntax_forms.proofs.Lawful.{IsRead, IsLawful, Starts}
 use Rattle.syntax_forms.proofs.Rules as rules
+use Rattle.syntax_forms.proofs.Firsts.{regrouped, alike_where}
+use Rattle.syntax_forms.proofs.SeveralForms.{as_several, as_none}
 use Rattle.type_parser.specs.Definitions.{begins_block_decl, block_decl}
 use Rattle.type_parser.proofs.DefinitionForms.{block_decl_lawful}
 use Rattle.statement_parser.specs.Routine.{statement_part}
 use Rattle.statement_parser.specs.Forms as statements
-use Rattle.statement_parser.proofs.StatementForms.{regrouped}
 use Rattle.statement_parser.proofs.RoutineForms.{statement_part_lawful}
 use Rattle.clause_parser.specs.Clause.{begins_label, label}
 use Rattle.clause_parser.specs.Block.{block_decls, late_label, block_over, block}
 use Rattle.clause_parser.specs.Forms as forms
 use Rattle.clause_parser.specs.Forms.{BlockParts, make_block}
-use Rattle.clause_parser.proofs.FormLaws.{alike_where, as_several, as_none}
 use Rattle.clause_parser.proofs.ClauseForms.{label_lawful}
 
 -- `[Label]`

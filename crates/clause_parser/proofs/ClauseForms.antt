@@ -29,15 +29,15 @@ use Rattle.syntax_forms.proofs.Lawful.{IsRead, IsLawful, Starts}
 use Rattle.syntax_forms.proofs.ToldForms as tell
 use Rattle.syntax_forms.proofs.ToldForms.{IsTold}
 use Rattle.syntax_forms.proofs.Rules as rules
+use Rattle.syntax_forms.proofs.Firsts.{alike, regrouped, kept}
+use Rattle.syntax_forms.proofs.Words.{there}
 use Rattle.type_parser.proofs.TypeForms.{names_lawful, constant_lawful, ordinal_lawful}
 use Rattle.expression_parser.specs.Expression.{expr}
 use Rattle.expression_parser.proofs.FactorForms.{expr_lawful_at}
 use Rattle.statement_parser.specs.Forms as statements
 use Rattle.statement_parser.specs.Forms.{Word}
-use Rattle.statement_parser.proofs.StatementForms.{alike, regrouped}
 use Rattle.clause_parser.specs.Clause.{begins_params, begins_clause, goes_on_clause, label, any_dom, next_state, params, delay_high, from_clause, to_clause, when_clause, provided_clause, priority_clause, any_clause, delay_clause, clause_by, clause}
 use Rattle.clause_parser.specs.Forms as forms
-use Rattle.clause_parser.proofs.FormLaws.{there, kept, behind_read}
 use Rattle.clause_parser.specs.Forms.{make_from, make_to, make_when, make_provided, make_priority, make_any, make_delay}
 
 -- Label = name NAME ":"
@@ -113,7 +113,7 @@ module _ (room : ℕ) where
   make_high (inr e) = a_high.Expr e
 
   -- `Expr | "*"`
-  delay_high_lawful : IsLawful (forms.delay_high room) (delay_high room)
+  pub delay_high_lawful : IsLawful (forms.delay_high room) (delay_high room)
   unfolding delay_high
   delay_high_lawful = rules.made (delay_high room) told (rules.or (rules.word k.Star refl) (rules.part (expr_lawful_at room)) refl refl).rest (λ i. same i (kind i) refl)
     where
@@ -134,7 +134,7 @@ module _ (room : ℕ) where
 
   -- `["," (Expr | "*")]`
   bound_read : IsRead (repeats.may (forms.bound room)) (one (behind k.Comma (delay_high room)))
-  bound_read = behind_read (delay_high room) k.Comma refl (rules.part delay_high_lawful)
+  bound_read = rules.behind (delay_high room) k.Comma refl (rules.part delay_high_lawful)
 
   -- ---- clauses
 
@@ -155,7 +155,7 @@ module _ (room : ℕ) where
   clause_told k.Delay = tell.worded k.Delay make_delay refl (rules.and (rules.word k.OpenParenthesis refl) (rules.and (rules.part (expr_lawful_at room)) (rules.and bound_read (rules.word k.CloseParenthesis refl) refl) refl) refl).rest (delay_clause room) delay_same
   clause_told x = tell.nowhere x
 
-  goes : (x : Kind) → of_all (λ y. goes_on_clause y || not ((forms.clause_by room x).on y)) ≡ true
+  pub goes : (x : Kind) → of_all (λ y. goes_on_clause y || not ((forms.clause_by room x).on y)) ≡ true
   goes k.From = refl
   goes _ = refl
 

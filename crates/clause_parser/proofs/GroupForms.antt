@@ -18,33 +18,33 @@ use Rattle.estelle_tree.specs.Spans.{TransBodyLayer}
 use Rattle.estelle_tree.specs.Spelling.{Spelling, Chain, Several}
 use Rattle.estelle_tree.specs.Beginning.{Beginning}
 use Rattle.estelle_tree.specs.Clauses.{IsClause, of_clause, clause_kinds, stands, way_of, Follows, MoreGroups, AreGroups, TransBodyLayerOf, TransBodyOf, GroupOf, GroupWithin, IsTransBody}
+use Rattle.estelle_tree.specs.BeginsClauses.{last_of}
 use Rattle.token_reader.specs.Reader.{Parser, and_then, pure, refuse}
 use Rattle.token_reader.specs.Lists.{several}
 use Rattle.syntax_forms.specs.Kinds.{of_all, never}
 use Rattle.syntax_forms.specs.Form as form
-use Rattle.syntax_forms.specs.Form.{Form, ◌▸◌, ◌⊕◌, part, known, told}
+use Rattle.syntax_forms.specs.Form.{Form, ◌▸◌, ◌⊕◌, part, known, told, only_if, whole}
 use Rattle.syntax_forms.specs.Reading.{one, chosen, choose, closed}
 use Rattle.syntax_forms.specs.Places.{Reach}
-use Rattle.syntax_forms.proofs.KindLaws.{each, neither, or_left, within}
+use Rattle.syntax_forms.proofs.KindLaws.{each, neither, or_left, within, all_of}
 use Rattle.syntax_forms.proofs.Local.{upto, reach_left, upto_span}
 use Rattle.syntax_forms.proofs.Steps.{Reached}
-use Rattle.syntax_forms.proofs.Firsts.{in_a_row}
+use Rattle.syntax_forms.proofs.Firsts.{in_a_row, alike_where}
 use Rattle.syntax_forms.proofs.RowForms.{then_form}
 use Rattle.syntax_forms.proofs.ChoiceForms.{choice_form}
 use Rattle.syntax_forms.proofs.SeveralForms.{several_form}
-use Rattle.syntax_forms.proofs.NodeForms.{IsNode, node_form, known_lawful, never_lawful, one_lawful}
+use Rattle.syntax_forms.proofs.NodeForms.{IsNode, node_form, known_lawful, never_lawful, one_lawful, known_form}
 use Rattle.syntax_forms.proofs.Lawful.{begins_so, IsForm, IsLawful}
 use Rattle.syntax_forms.proofs.ToldForms as tell
 use Rattle.syntax_forms.proofs.ToldForms.{IsTold}
 use Rattle.syntax_forms.proofs.Rules as rules
+use Rattle.syntax_forms.proofs.WholeForms.{whole_lawful, goes_behind}
 use Rattle.clause_parser.specs.Block.{begins_block, block}
 use Rattle.clause_parser.specs.Clause.{begins_clause, goes_on_clause, clause, clause_by}
 use Rattle.clause_parser.specs.Group.{OnWay, with_clause, begins_group, unless, groups_over, block_body, body_if, body_over, group_behind, group_over, group_within}
 use Rattle.clause_parser.specs.TransBody.{begins_trans_body, trans_body}
-use Rattle.clause_parser.specs.Laws.{IsEnded}
 use Rattle.clause_parser.specs.Forms as forms
-use Rattle.clause_parser.specs.Forms.{on, whole, only_if, make_body, make_group, EndsLayer, EndsBody, EndsGroup, WholeBody, WholeGroup, BeginsWithin}
-use Rattle.clause_parser.proofs.FormLaws.{all_of, alike_where, known_form, whole_lawful, goes_behind}
+use Rattle.clause_parser.specs.Forms.{on, make_body, make_group, EndsLayer, EndsBody, EndsGroup, WholeBody, WholeGroup, BeginsWithin}
 use Rattle.clause_parser.proofs.ClauseForms.{clause_kind, clause_told, of_clause_begins, clause_lawful}
 use Rattle.clause_parser.proofs.BlockForms.{block_lawful}
 
@@ -58,15 +58,15 @@ on_behind c way = refl
 abbrev clause_of : Group → Clause
 clause_of g = (out-Group g).clause
 
-begun : (way : List Kind) (c : Clause) → stands (of_clause c) way ≡ false → begins_group (on way) (of_clause c) ≡ true
+pub begun : (way : List Kind) (c : Clause) → stands (of_clause c) way ≡ false → begins_group (on way) (of_clause c) ≡ true
 begun way c e = rw (e, of_clause_begins c)
 
-on_it : (stand begin : Bool) → (if stand then false else begin) ≡ false → begin ≡ true → stand ≡ true
+pub on_it : (stand begin : Bool) → (if stand then false else begin) ≡ false → begin ≡ true → stand ≡ true
 on_it true begin e begins = refl
 on_it false begin e begins = sym e ∙ begins
 
 -- where a group begins, its clause is new to the way, and a clause
-fresh : (stand begin : Bool) → (if stand then false else begin) ≡ true → (stand ≡ false) × (begin ≡ true)
+pub fresh : (stand begin : Bool) → (if stand then false else begin) ≡ true → (stand ≡ false) × (begin ≡ true)
 fresh true begin e = absurd (cc)
 fresh false begin e = (refl, e)
 
@@ -101,7 +101,7 @@ abbrev one_if_free : Bool → ℕ → ℕ
 one_if_free true n = n
 one_if_free false n = suc n
 
-abbrev free : List Kind → List Kind → ℕ
+abbrev pub free : List Kind → List Kind → ℕ
 free [] way = 0
 free (x ∷ xs) way = one_if_free (stands x way) (free xs way)
 
@@ -121,7 +121,7 @@ abbrev among : Kind → List Kind → Bool
 among x [] = false
 among x (y ∷ ys) = sameb the_type y x || among x ys
 
-fewer : (xs way : List Kind) (x : Kind) → among x xs ≡ true → stands x way ≡ false → free xs (x ∷ way) < free xs way
+pub fewer : (xs way : List Kind) (x : Kind) → among x xs ≡ true → stands x way ≡ false → free xs (x ∷ way) < free xs way
 unfolding stands
 fewer [] way x e new = absurd (cc)
 fewer (y ∷ xs) way x e new = go (sameb the_type y x) refl (stands y way) refl (no_more xs way x) (fewer xs way x) e
@@ -143,7 +143,7 @@ none_free (y ∷ xs) way x none e = go (sameb the_type y x) refl (stands y way) 
     go true s true t none more e = ap (λ y. stands y way) (sym (same_true the_type tt y x s)) ∙ t
     go false s true t none more e = more none e
 
-is_clause : (x : Kind) → begins_clause x ≡ true → among x clause_kinds ≡ true
+pub is_clause : (x : Kind) → begins_clause x ≡ true → among x clause_kinds ≡ true
 is_clause = within begins_clause (λ x. among x clause_kinds) refl
 
 -- ---- what the terminals that begin blocks, clauses and groups have in common
@@ -176,20 +176,20 @@ clause_ends way room = all_of _ (λ x. go (goes_on_clause x) ((forms.block room)
 -- Where this many more levels of nesting may open.
 module _ (room : ℕ) where
   -- the groups begin with their clauses, whose kinds do not stand on the way
-  abbrev Clausal : (List Kind → Spelling Group) → Type 0
+  abbrev pub Clausal : (List Kind → Spelling Group) → Type 0
   Clausal G = (way : List Kind) (g : Group) (i j : Input) → G way g i j → (kind i ≡ of_clause (clause_of g)) × (stands (of_clause (clause_of g)) way ≡ false)
 
   -- laws of the groups of a way
-  record IsLevel (G : List Kind → Spelling Group) (B : List Kind → Beginning) (way : List Kind) (p : Parser Group) : Type 1 where
-    law : IsLawful (forms.group_below room G B way) p
+  pub record IsLevel (G : List Kind → Spelling Group) (B : List Kind → Beginning) (way : List Kind) (p : Parser Group) : Type 1 where
+    pub law : IsLawful (forms.group_below room G B way) p
     -- also where what stands next goes on with it
-    form : IsForm (known false (G way) (B way) (begins_group (on way)) never)
-    takes : (i : Input) → begins_group (on way) (kind i) ≡ true → B way i (next i)
-    longer : (i m : Input) (g : Group) → G way g i m → EndsGroup way g m ⊎ B way i (next m)
+    pub form : IsForm (known false (G way) (B way) (begins_group (on way)) never)
+    pub takes : (i : Input) → begins_group (on way) (kind i) ≡ true → B way i (next i)
+    pub longer : (i m : Input) (g : Group) → G way g i m → EndsGroup way g m ⊎ B way i (next m)
 
   -- ---- whole groups, and groups that follow one another
   module _ (G : List Kind → Spelling Group) (clausal : Clausal G) where
-    ended_by : (way : List Kind) (before g : Group) (i j : Input) → Follows way before g → G way g i j → EndsGroup way before i
+    pub ended_by : (way : List Kind) (before g : Group) (i j : Input) → Follows way before g → G way g i j → EndsGroup way before i
     ended_by way before g i j (inl ended) h = inl ended
     ended_by way before g i j (inr stand) h = let f = clausal way g i j h in inr (rw (f.0, stand))
 
@@ -211,7 +211,7 @@ module _ (room : ℕ) where
     to_several way [] i j h stop = h
     to_several way (g ∷ gs) i j h stop = let more = to_chain way g gs h.0 j h.2 stop in (h.0, (h.1, more.0), more.1)
 
-    from_chain : (way : List Kind) (before : Group) (gs : List Group) (i j : Input) → EndsGroup way before i → Chain (WholeGroup room G way) gs i j → MoreGroups room G way before gs i j
+    pub from_chain : (way : List Kind) (before : Group) (gs : List Group) (i j : Input) → EndsGroup way before i → Chain (WholeGroup room G way) gs i j → MoreGroups room G way before gs i j
     from_chain way before [] i j ended same = same
     from_chain way before (g ∷ gs) i j ended h = (follows way before g i h.0 ended h.1.0, (h.0, h.1.0, from_chain way g gs h.0 j h.1.1 h.2))
 
@@ -242,7 +242,7 @@ module _ (room : ℕ) where
 
     -- ---- over the groups of one way
     module _ (B : List Kind → Beginning) (way : List Kind) (p : Parser Group) (level : IsLevel G B way p) where
-      abbrev Groups : Form (List Group)
+      abbrev pub Groups : Form (List Group)
       Groups = form.several (forms.group_below room G B way)
 
       -- `{Group}+`
@@ -261,13 +261,13 @@ module _ (room : ℕ) where
       whole_groups = whole_lawful groups_lawful refl (or_none _ (nothing_begins way)) more
 
       -- what begins the last group begins them all
-      chain_begins : (m n : Input) → ((i : Input) (g : Group) → G way g i m → (EndsGroup way g m × B way m n) ⊎ B way i n) → (g : Group) (gs : List Group) (i a : Input) → G way g i a → MoreGroups room G way g gs a m → Groups.begins i n
-      chain_begins m n last g [] i a h same = by (last i g (subst (λ a. G way g i a) same h))
+      pub chain_begins : (m n : Input) (g : Group) (gs : List Group) → ((i : Input) → G way (last_of g gs) i m → (EndsGroup way (last_of g gs) m × B way m n) ⊎ B way i n) → (i a : Input) → G way g i a → MoreGroups room G way g gs a m → Groups.begins i n
+      chain_begins m n g [] last i a h same = by (last i (subst (λ a. G way g i a) same h))
         where
           by : (EndsGroup way g m × B way m n) ⊎ B way i n → Groups.begins i n
           by (inr b) = inl b
           by (inl e) = inr (g, m, (subst (λ a. G way g i a) same h, e.0), ([], m, refl, inl e.1))
-      chain_begins m n last g (x ∷ xs) i a h r = by (chain_begins m n last x xs a r.1.0 r.1.1 r.1.2)
+      chain_begins m n g (x ∷ xs) last i a h r = by (chain_begins m n x xs last a r.1.0 r.1.1 r.1.2)
         where
           ended : EndsGroup way g a
           ended = ended_by way g x a r.1.0 r.0 r.1.1
@@ -278,13 +278,13 @@ module _ (room : ℕ) where
 
       begin_groups : (m n : Input) → ((i : Input) (g : Group) → G way g i m → (EndsGroup way g m × B way m n) ⊎ B way i n) → (gs : List Group) (i : Input) → AreGroups room G way gs i m → Groups.begins i n
       begin_groups m n last [] i h = absurd h
-      begin_groups m n last (g ∷ gs) i h = chain_begins m n last g gs i h.0 h.1 h.2
+      begin_groups m n last (g ∷ gs) i h = chain_begins m n g gs (λ i. last i (last_of g gs)) i h.0 h.1 h.2
 
       -- also where what stands next goes on with the last one
-      abbrev Open : Form (List Group)
+      abbrev pub Open : Form (List Group)
       Open = known false (AreGroups room G way) Groups.begins (begins_group (on way)) never
 
-      open_form : IsForm Open
+      pub open_form : IsForm Open
       open_form =
           let all = several_form (known false (G way) (B way) (begins_group (on way)) never) level.form refl in
           known_form (AreGroups room G way) Groups.begins (begins_group (on way)) never
@@ -295,6 +295,7 @@ module _ (room : ℕ) where
           (λ i m gs h. all.reach i m gs (loose way gs i m h))
           (λ i m gs h. all.advances refl i m gs (loose way gs i m h))
           (λ c i m gs h r. tight way gs i m (upto c i) (upto c m) h (all.local c i m gs (loose way gs i m h) r))
+          groups_lawful.form.shut
 
       -- ---- TransBody = Block | {Group}+
 
@@ -480,7 +481,7 @@ module _ (room : ℕ) where
       level_over : IsLevel (GroupOf room G) (λ way. (forms.group_parts room G B way).begins) way (group_over (block room) (clause room) (on way) inner)
       level_over = record {
         law = known_lawful _ _ group_lawful (begins_group (on way)) never (all_of _ (λ x. begins (begins_group (on way) x) x)) refl;
-        form = known_form (GroupOf room G way) (forms.group_parts room G B way).begins (begins_group (on way)) never whole' parts_lawful.form.nothing (λ i m g h. starts i m g h) first reach advances local;
+        form = known_form (GroupOf room G way) (forms.group_parts room G B way).begins (begins_group (on way)) never whole' parts_lawful.form.nothing (λ i m g h. starts i m g h) first reach advances local parts_lawful.form.shut;
         takes = λ i e. (told_by (kind i)).takes e i refl;
         longer = longer;
       }
@@ -530,11 +531,11 @@ module _ (room : ℕ) where
 
   -- ---- where this many more clauses may stand on a way
 
-  within_clausal : (n : ℕ) → Clausal (GroupWithin room n)
+  pub within_clausal : (n : ℕ) → Clausal (GroupWithin room n)
   within_clausal zero way g i j h = absurd h
   within_clausal (suc n) way g i j h = (clause_kind room i h.mid (clause_of g) h.clause, h.fresh)
 
-  level_within : (n : ℕ) (way : List Kind) → free clause_kinds way ≤ n → IsLevel (GroupWithin room n) (BeginsWithin room n) way (group_within (block room) (clause room) n (on way))
+  pub level_within : (n : ℕ) (way : List Kind) → free clause_kinds way ≤ n → IsLevel (GroupWithin room n) (BeginsWithin room n) way (group_within (block room) (clause room) n (on way))
   unfolding group_within
   level_within zero way fits = record {
     law = never_lawful false (WholeGroup room (GroupWithin room zero) way) (begins_group (on way)) never (λ i j g h. h.0);
@@ -548,27 +549,39 @@ module _ (room : ℕ) where
 
   -- ---- behind `trans`
 
-  first_level : IsLevel (GroupWithin room (length clause_kinds)) (BeginsWithin room (length clause_kinds)) [] (group_within (block room) (clause room) (length clause_kinds) (on []))
-  unfolding stands
-  first_level = level_within (length clause_kinds) [] (omega arith)
+  abbrev pub Outer : List Kind → Spelling Group
+  Outer = GroupWithin room (length clause_kinds)
 
-  whole_lawful_there : IsLawful (forms.whole_body room (GroupWithin room (length clause_kinds)) (BeginsWithin room (length clause_kinds)) []) (trans_body room)
+  abbrev pub BeginsOuter : List Kind → Beginning
+  BeginsOuter = BeginsWithin room (length clause_kinds)
+
+  abbrev pub outer : Parser Group
+  outer = group_within (block room) (clause room) (length clause_kinds) (on [])
+
+  pub outer_clausal : Clausal Outer
+  outer_clausal = within_clausal (length clause_kinds)
+
+  pub outer_level : IsLevel Outer BeginsOuter [] outer
+  unfolding stands
+  outer_level = level_within (length clause_kinds) [] (omega arith)
+
+  outer_lawful : IsLawful (forms.whole_body room Outer BeginsOuter []) (trans_body room)
   unfolding trans_body stands
-  whole_lawful_there = whole_body_lawful (GroupWithin room (length clause_kinds)) (within_clausal (length clause_kinds)) (BeginsWithin room (length clause_kinds)) [] (group_within (block room) (clause room) (length clause_kinds) (on [])) first_level
+  outer_lawful = whole_body_lawful Outer outer_clausal BeginsOuter [] outer outer_level
 
   -- TransBody = Block | {Group}+
   pub trans_body_lawful : IsLawful (forms.trans_body room) (trans_body room)
   unfolding stands
   trans_body_lawful = record {
-    form = known_form (IsTransBody room) (forms.trans_body room).begins begins_trans_body begins_clause open_laws.whole open_laws.nothing (λ i m b h. wider (kind i) (begins_so _ open_laws refl i m b h)) first open_laws.reach (open_laws.advances refl) open_laws.local;
-    placed = whole_lawful_there.placed;
-    sound = λ i j b h. (whole_lawful_there.sound i j b h).0;
-    complete = λ i j b h end. whole_lawful_there.complete i j b (h, inr end) refl;
+    form = known_form (IsTransBody room) (forms.trans_body room).begins begins_trans_body begins_clause open_laws.whole open_laws.nothing (λ i m b h. wider (kind i) (begins_so _ open_laws refl i m b h)) first open_laws.reach (open_laws.advances refl) open_laws.local open_laws.shut;
+    placed = outer_lawful.placed;
+    sound = λ i j b h. (outer_lawful.sound i j b h).0;
+    complete = λ i j b h end. outer_lawful.complete i j b (h, inr end) refl;
     reaches = λ i m b h. reaches i m b h (begins_clause (kind m)) refl;
   }
     where
-      open_laws : IsForm (open_body (GroupWithin room (length clause_kinds)) (within_clausal (length clause_kinds)) (BeginsWithin room (length clause_kinds)) [])
-      open_laws = body_form (GroupWithin room (length clause_kinds)) (within_clausal (length clause_kinds)) (BeginsWithin room (length clause_kinds)) [] (group_within (block room) (clause room) (length clause_kinds) (on [])) first_level
+      open_laws : IsForm (open_body Outer outer_clausal BeginsOuter [])
+      open_laws = body_form Outer outer_clausal BeginsOuter [] outer outer_level
 
       wider : (x : Kind) → ((forms.block room).first x || begins_group (on []) x) ≡ true → begins_trans_body x ≡ true
       wider = within _ begins_trans_body refl
@@ -581,18 +594,9 @@ module _ (room : ℕ) where
           by (inr s) = inr (wider (kind i) s)
 
       reaches : (i m : Input) (b : TransBody) → IsTransBody room b i m → (here : Bool) → begins_clause (kind m) ≡ here → Reached i b m (trans_body room i)
-      reaches i m b h false e = inl (whole_lawful_there.complete i m b (h, inr e) refl)
-      reaches i m b h true e = by (body_longer (GroupWithin room (length clause_kinds)) (within_clausal (length clause_kinds)) (BeginsWithin room (length clause_kinds)) [] (group_within (block room) (clause room) (length clause_kinds) (on [])) first_level i m b h)
+      reaches i m b h false e = inl (outer_lawful.complete i m b (h, inr e) refl)
+      reaches i m b h true e = by (body_longer Outer outer_clausal BeginsOuter [] outer outer_level i m b h)
         where
           by : EndsBody [] b m ⊎ (forms.trans_body room).begins i (next m) → Reached i b m (trans_body room i)
-          by (inl ends) = inl (whole_lawful_there.complete i m b (h, ends) refl)
-          by (inr longer) = goes_behind whole_lawful_there i m b (λ n. let no : true ≡ false = sym e ∙ ap begins_clause n in cc) longer
-
-  -- all of it is read, and it is read where nothing that stands next goes on with it
-  pub trans_body_whole : (i j : Input) (b : TransBody) → trans_body room i ≡ Ok (b, j) → IsEnded b j
-  unfolding stands
-  trans_body_whole i j b h = (whole_lawful_there.sound i j b h).1
-
-  pub trans_body_ended : (i j : Input) (b : TransBody) → IsTransBody room b i j → IsEnded b j → trans_body room i ≡ Ok (b, j)
-  unfolding stands
-  trans_body_ended i j b h end = whole_lawful_there.complete i j b (h, end) refl
+          by (inl ends) = inl (outer_lawful.complete i m b (h, ends) refl)
+          by (inr longer) = goes_behind outer_lawful i m b (λ n. let no : true ≡ false = sym e ∙ ap begins_clause n in cc) longer

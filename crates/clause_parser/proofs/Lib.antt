@@ -1,5 +1,5 @@
-pub mod FormLaws
 pub mod ClauseForms
 pub mod BlockForms
 pub mod GroupForms
 pub mod WayLaws
+pub mod Begins

@@ -1,5 +1,5 @@
 -- Labels and clauses, read from left to right. The *room* is how many more levels of nesting may open.
-use Rattle.std.specs.Prelude.{◌≡◌, ℕ, Bool, true, false}
+use Rattle.std.specs.Prelude.{ℕ, Bool, true, false}
 use Rattle.estelle_tree.specs.declared.kind.Kind.{Kind}
 use Rattle.estelle_tree.specs.declared.kind.Kind.TheVariants as k
 use Rattle.estelle_tree.specs.declared.tree.name.NameList.{NameList}
@@ -11,7 +11,6 @@ use Rattle.estelle_tree.specs.declared.tree.clause.DelayHigh.{DelayHigh}
 use Rattle.estelle_tree.specs.declared.tree.clause.DelayHigh.TheVariants as a_high
 use Rattle.estelle_tree.specs.declared.tree.clause.Clause.{Clause}
 use Rattle.estelle_tree.specs.declared.tree.clause.Clause.TheVariants as a_clause
-use Rattle.estelle_tree.specs.Input.{Input, kind}
 use Rattle.token_reader.specs.Reader.{Parser, ◌>>=◌, ◌>>◌, pure, refuse, peek, here, since, take, expect, name}
 use Rattle.token_reader.specs.Lists.{optional, behind, ended, separated}
 use Rattle.type_parser.specs.Types.{names, constant, ordinal}
@@ -173,7 +172,3 @@ clause_by room _ = refuse
 
 unfoldable pub clause : ℕ → Parser Clause
 clause room = peek >>= clause_by room
-
--- ---- places where nothing that stands next goes on with the clause before
-abbrev pub EndsClause : Input → Type 0
-EndsClause j = goes_on_clause (kind j) ≡ false

@@ -1,5 +1,5 @@
 -- Labels, blocks, clauses and groups of clauses, as forms.
-use Rattle.std.specs.Prelude.{◌≡◌, ℕ, zero, suc, Bool, true, false, List, [], ◌∷◌, length, Option, Some, None, ◌⊎◌}
+use Rattle.std.specs.Prelude.{◌≡◌, ℕ, zero, suc, true, false, List, [], ◌∷◌, length, Option, Some, None, ◌⊎◌}
 use Rattle.std.proofs.Common.{inl, inr}
 use Rattle.estelle_tree.specs.declared.kind.Kind.{Kind}
 use Rattle.estelle_tree.specs.declared.kind.Kind.TheVariants as k
@@ -27,7 +27,7 @@ use Rattle.estelle_tree.specs.Beginning.{Beginning, Nothing}
 use Rattle.estelle_tree.specs.Types.{IsNames}
 use Rattle.estelle_tree.specs.Clauses.{IsLabel, IsAnyDom, IsNextState, IsDelayHigh, IsClause, IsBlock, clause_kinds, stands, way_of, holds_block_layer, TransBodyOf, GroupWithin, IsTransBody}
 use Rattle.syntax_forms.specs.Kinds.{never}
-use Rattle.syntax_forms.specs.Form.{Form, word, name, ◌▸◌, ◌⊕◌, separated, several, part, node, built, known, told}
+use Rattle.syntax_forms.specs.Form.{Form, word, name, ◌▸◌, ◌⊕◌, separated, several, part, node, built, known, told, only_if, whole}
 use Rattle.syntax_forms.specs.Repeats.{may, many}
 use Rattle.syntax_forms.specs.Types.{names, constant, ordinal}
 use Rattle.syntax_forms.specs.Definitions.{block_decl}
@@ -139,15 +139,6 @@ EndsBody way b j = EndsLayer way (out-TransBody b) j
 
 abbrev pub EndsGroup : List Kind → Group → Input → Type 0
 EndsGroup way g j = EndsBody (way_of way g) (out-Group g).body j
-
--- the same form, with which nothing that stands next goes on
-abbrev pub whole : {A : Type 0} → Form A → Form A
-whole F = known F.empty (λ x i j. F.spells x i j × (F.on (kind j) ≡ false)) F.begins F.first never
-
--- the form, where it can stand
-abbrev pub only_if : {A : Type 0} → Bool → Form A → Form A
-only_if true F = F
-only_if false F = known false Never Nothing never never
 
 -- What a body and a group are made of, and the two.
 abbrev pub make_body : Block ⊎ List Group → Span → TransBody

@@ -5,4 +5,3 @@ pub mod Group
 pub mod Way
 pub mod Place
 pub mod TransBody
-pub mod Laws

@@ -1,8 +1,7 @@
 -- What stands behind `trans`, where this many more levels of nesting may open.
-use Rattle.std.specs.Prelude.{◌≡◌, ℕ, Bool, false, ◌||◌, length}
+use Rattle.std.specs.Prelude.{ℕ, Bool, ◌||◌, length}
 use Rattle.estelle_tree.specs.declared.kind.Kind.{Kind}
 use Rattle.estelle_tree.specs.declared.tree.clause.TransBody.{TransBody}
-use Rattle.estelle_tree.specs.Input.{Input, kind}
 use Rattle.estelle_tree.specs.Clauses.{clause_kinds}
 use Rattle.token_reader.specs.Reader.{Parser}
 use Rattle.clause_parser.specs.Block.{begins_block, block}
@@ -14,7 +13,3 @@ trans_body room = body_within (block room) (clause room) (length clause_kinds) n
 
 abbrev pub begins_trans_body : Kind → Bool
 begins_trans_body kind' = begins_block kind' || begins_clause kind'
-
--- a place where no clause comes
-abbrev pub EndsTransBody : Input → Type 0
-EndsTransBody j = begins_clause (kind j) ≡ false

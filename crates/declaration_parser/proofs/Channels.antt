@@ -1,30 +1,27 @@
 -- The laws of parameters, interactions and channels.
-use Rattle.std.proofs.Common.{◌≡◌, Bool, true, false, sym, refl, ap, inl, inr}
-use Rattle.std.specs.Prelude.{◌||◌, not}
-use Rattle.estelle_tree.specs.declared.kind.Kind.{Kind}
+use Rattle.std.proofs.Common.{sym, refl, ap, inl, inr}
 use Rattle.estelle_tree.specs.declared.kind.Kind.TheVariants as k
-use Rattle.estelle_tree.specs.Input.{Input, kind, next}
+use Rattle.estelle_tree.specs.Input.{next}
 use Rattle.estelle_tree.specs.Spelling.{Behind}
 use Rattle.estelle_tree.specs.Specification.{AreParams, IsParams, IsInter, AreInters, IsChannel}
 use Rattle.token_reader.specs.Reader.{name}
 use Rattle.token_reader.specs.Lists.{several}
-use Rattle.syntax_forms.specs.Kinds.{of_all}
 use Rattle.syntax_forms.specs.Form as form
 use Rattle.syntax_forms.specs.Form.{◌▸◌}
 use Rattle.syntax_forms.specs.Reading.{one}
 use Rattle.syntax_forms.specs.Types as types
-use Rattle.syntax_forms.proofs.KindLaws.{ends_by}
+use Rattle.syntax_forms.proofs.KindLaws.{agree}
 use Rattle.syntax_forms.proofs.NodeForms.{IsNode}
 use Rattle.syntax_forms.proofs.Lawful.{IsRead, IsLawful}
 use Rattle.syntax_forms.proofs.Rules as rules
+use Rattle.syntax_forms.proofs.Words.{takes_first}
 use Rattle.type_parser.specs.Types.{begins_name, names}
 use Rattle.type_parser.specs.Definitions.{part}
 use Rattle.type_parser.proofs.TypeForms.{names_lawful}
 use Rattle.declaration_parser.specs.Forms.{enclosed, joined}
 use Rattle.declaration_parser.specs.Channels.{begins_parenthesis, begins_group, param_group, params, may_be_params, inter, group, channel}
 use Rattle.declaration_parser.specs.Productions as forms
-use Rattle.declaration_parser.specs.Laws.{EndsChannel}
-use Rattle.declaration_parser.proofs.Forms.{agree, takes_first, enclosed_lawful, joined_lawful, part_lawful}
+use Rattle.declaration_parser.proofs.Forms.{enclosed_lawful, joined_lawful, part_lawful}
 
 -- ---- parameters
 
@@ -108,7 +105,3 @@ channel_lawful =
           let g = r.2 in
           record { after_name = n.0; after_open = r.1.at; after_roles = r.1.mid; after_close = r.0; after_head = g.0; name = record { at = h.0; mark = h.1; item = n.1 }; opens = r.1.opens; roles = r.1.inside; closes = r.1.closes; semicolon = g.1; groups = g.2; span = refl };
     }
-
--- it goes on with a NAME or a group alone
-pub ends_named : (on : Kind → Bool) → of_all (λ x. (begins_name x || begins_group x) || not (on x)) ≡ true → (j : Input) → EndsChannel j → on (kind j) ≡ false
-ends_named on all j end = ends_by on (λ x. begins_name x || begins_group x) all (kind j) (rw end.0 end.1)

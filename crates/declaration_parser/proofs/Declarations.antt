@@ -30,6 +30,7 @@ use Rattle.syntax_forms.specs.Definitions as definitions
 use Rattle.syntax_forms.proofs.NodeForms.{IsNode}
 use Rattle.syntax_forms.proofs.Lawful.{IsRead, IsLawful}
 use Rattle.syntax_forms.proofs.Rules as rules
+use Rattle.syntax_forms.proofs.KindLaws.{agree}
 use Rattle.type_parser.specs.Types.{begins_name, names, typed_names}
 use Rattle.type_parser.specs.Definitions.{part, block_decl}
 use Rattle.type_parser.proofs.TypeForms.{names_lawful}
@@ -38,9 +39,9 @@ use Rattle.declaration_parser.specs.Forms.{enclosed, may_be_part}
 use Rattle.declaration_parser.specs.Attributes.{begins_attr, begins_disc, attr, queue}
 use Rattle.declaration_parser.specs.Channels.{channel}
 use Rattle.declaration_parser.specs.Declarations.{ip_decl, modvar_decl, stateset_def, header, of_block_decl, definition_part, channel_part, header_part, ip_part, modvar_part, state_part, stateset_part, plain_decl}
-use Rattle.declaration_parser.specs.Laws.{IsPlainLayer, IsPlainDecl}
+use Rattle.declaration_parser.specs.Plain.{IsPlainLayer, IsPlainDecl}
 use Rattle.declaration_parser.specs.Productions as forms
-use Rattle.declaration_parser.proofs.Forms.{agree, enclosed_lawful, joined_lawful, part_lawful, may_be_part_read}
+use Rattle.declaration_parser.proofs.Forms.{enclosed_lawful, joined_lawful, part_lawful, may_be_part_read}
 use Rattle.declaration_parser.proofs.Attributes.{attr_lawful, queue_lawful}
 use Rattle.declaration_parser.proofs.Channels.{named_lawful, may_be_params_read, channel_lawful}
 

@@ -1,58 +1,27 @@
--- The laws of forms that stand in one another, and what the law of a form says of its parser.
-use Rattle.std.proofs.Common.{◌≡◌, Bool, true, false, List, [], ◌∷◌, Option, Some, None, Ok, Err, sym, refl, ap, ◌∙◌, inl, inr}
-use Rattle.std.specs.Prelude.{◌||◌, ◌&&◌, not}
+-- The laws of forms that stand in one another.
+use Rattle.std.proofs.Common.{◌≡◌, Bool, true, false, List, [], ◌∷◌, Option, Some, None, Ok, Err, sym, refl, ◌∙◌, inl, inr}
+use Rattle.std.specs.Prelude.{◌||◌}
 use Rattle.estelle_tree.specs.declared.kind.Kind.{Kind}
 use Rattle.estelle_tree.specs.declared.kind.Kind.TheVariants as k
 use Rattle.estelle_tree.specs.Input.{Input, kind, next}
-use Rattle.estelle_tree.specs.Spelling.{Spelling, Takes, Behind, Enclosed, Joined, Lines, MayBeLines}
-use Rattle.token_reader.specs.Reader.{Parser, ReadResult, and_then, pure, refuse, sees, expect}
+use Rattle.estelle_tree.specs.Spelling.{Takes, Behind, Enclosed, Joined, Lines, MayBeLines}
+use Rattle.token_reader.specs.Reader.{Parser, ReadResult, and_then, pure, sees, expect}
 use Rattle.token_reader.specs.Lists.{optional_if, optional, several, ended}
-use Rattle.token_reader.proofs.Sound.{Sound}
-use Rattle.token_reader.proofs.Complete.{After, Anything, Complete, unique, unseen, expect_complete}
-use Rattle.syntax_forms.specs.Kinds.{is, of_all}
+use Rattle.syntax_forms.specs.Kinds.{is}
 use Rattle.syntax_forms.specs.Form as form
 use Rattle.syntax_forms.specs.Form.{Form, ◌▸◌}
 use Rattle.syntax_forms.specs.Repeats as repeats
 use Rattle.syntax_forms.specs.Reading.{one}
-use Rattle.syntax_forms.proofs.KindLaws.{is_it, not_is, each, within, ends_always}
-use Rattle.syntax_forms.proofs.Firsts.{in_a_row}
+use Rattle.syntax_forms.proofs.KindLaws.{is_it, agree}
+use Rattle.syntax_forms.proofs.Firsts.{in_a_row, kept}
+use Rattle.syntax_forms.proofs.Words.{takes_first}
 use Rattle.syntax_forms.proofs.NodeForms.{IsNode}
-use Rattle.syntax_forms.proofs.Lawful.{IsRead, IsLawful, Ends, Starts, Follows}
+use Rattle.syntax_forms.proofs.Lawful.{IsRead, IsLawful, Starts, Follows}
 use Rattle.syntax_forms.proofs.Rules as rules
 use Rattle.type_parser.specs.Types.{begins_name}
 use Rattle.type_parser.specs.Definitions.{part}
 use Rattle.declaration_parser.specs.Forms.{enclosed, joined, part_if, may_be_part}
 use Rattle.declaration_parser.specs.Productions as forms
-use Rattle.declaration_parser.specs.Laws.{IsClosed, IsOpen}
-
--- ---- tests and terminals
-
--- what agrees on all terminals agrees on each
-pub agree : (p q : Kind → Bool) → of_all (λ x. (p x && q x) || not (p x || q x)) ≡ true → (x : Kind) → p x ≡ q x
-agree p q all x = by (p x) (q x) (each (λ x. (p x && q x) || not (p x || q x)) all x)
-  where
-    by : (a b : Bool) → ((a && b) || not (a || b)) ≡ true → a ≡ b
-    by true true e = refl
-    by false false e = refl
-    by true false e = absurd (cc)
-    by false true e = absurd (cc)
-
--- the terminal that alone begins a form
-pub takes_first : {A : Type 0} (F : Form A) (word : Kind) → of_all (λ x. is word x || not (F.first x)) ≡ true → (i : Input) → Starts F i → Takes word i (next i)
-takes_first F word only i s = record { kind = is_it word (kind i) (within F.first (is word) only (kind i) s); next = refl }
-
--- it comes, or another one is refused
-pub there : (word : Kind) (i : Input) → kind i ≡ word → expect word i ≡ Ok (tt, next i)
-there word i e = expect_complete word i (next i) (record { kind = e; next = refl })
-
-pub refused : (word : Kind) (i : Input) → is word (kind i) ≡ false → expect word i ≡ refuse i
-unfolding expect
-refused word i e = rw (unseen word i (not_is word (kind i) e)) refl
-
--- what is read and kept as it is
-pub kept : {A : Type 0} (o : ReadResult A) → o ≡ and_then o (λ x. pure x)
-kept (Ok p) = refl
-kept (Err e) = refl
 
 -- ---- forms in one another
 
@@ -129,22 +98,3 @@ module _ {A : Type 0} {F : Form A} {p : Parser A} (law : IsLawful F p) (some : F
           by : (b : Bool) → part_if b (part word begins_name p) i ≡ and_then (optional_if b (part word begins_name p) i) (λ o. pure (listed o))
           by true = there_is (part word begins_name p i)
           by false = refl
-
--- ---- the laws together
-
-pub ended_by_next : {A : Type 0} (p : Parser A) (P : Spelling A) (Ends : After) → Sound p P → Complete p P Ends → IsOpen p P Ends
-ended_by_next p P Ends sound complete = record {
-  only = sound;
-  all = complete;
-  one = λ i j m x y a b stop stop'. let same = unique p P Ends complete x y i j m a b stop stop' in (ap (λ p. p.0) same, ap (λ p. p.1) same);
-}
-
--- what the law of a form says
-module _ {A : Type 0} {F : Form A} {p : Parser A} (law : IsLawful F p) where
-  pub opened : (End : After) → ((j : Input) → End j → Ends F j) → IsOpen p F.spells End
-  opened End ends = ended_by_next p F.spells End law.sound (λ i j x h end. law.complete i j x h (ends j end))
-
-  pub closed : F.empty ≡ false → of_all (λ x. not (F.on x)) ≡ true → IsClosed p F.spells
-  closed some none =
-      let any : IsOpen p F.spells Anything = opened Anything (λ j end. ends_always F.on none (kind j)) in
-      record { only = any.only; all = λ i j x h. any.all i j x h tt; one = λ i j m x y a b. any.one i j m x y a b tt tt; some = law.form.advances some }

@@ -1,5 +1,5 @@
 -- Interaction points, module headers, and the declarations that hold no statements, read from left to right.
-use Rattle.std.specs.Prelude.{ℕ, Bool, true, false}
+use Rattle.std.specs.Prelude.{ℕ}
 use Rattle.estelle_tree.specs.declared.kind.Kind.{Kind}
 use Rattle.estelle_tree.specs.declared.kind.Kind.TheVariants as k
 use Rattle.estelle_tree.specs.declared.tree.declaration.BlockDecl.{BlockDecl}
@@ -17,18 +17,6 @@ use Rattle.type_parser.specs.Definitions.{part, block_decl}
 use Rattle.declaration_parser.specs.Forms.{enclosed, joined, may_be_part}
 use Rattle.declaration_parser.specs.Attributes.{begins_attr, begins_disc, attr, queue}
 use Rattle.declaration_parser.specs.Channels.{may_be_params, channel}
-
-abbrev pub begins_plain_decl : Kind → Bool
-begins_plain_decl k.Const = true
-begins_plain_decl k.Type = true
-begins_plain_decl k.Channel = true
-begins_plain_decl k.Module = true
-begins_plain_decl k.Ip = true
-begins_plain_decl k.Modvar = true
-begins_plain_decl k.Var = true
-begins_plain_decl k.State = true
-begins_plain_decl k.Stateset = true
-begins_plain_decl _ = false
 
 -- IpDecl = Names ":" NAME "(" NAME ")" [Disc queue]
 unfoldable pub ip_decl : Parser IpDecl

@@ -2,5 +2,5 @@ pub mod Forms
 pub mod Attributes
 pub mod Channels
 pub mod Declarations
-pub mod Laws
+pub mod Plain
 pub mod Productions

@@ -24,7 +24,7 @@ use Rattle.syntax_forms.specs.Form.{Form, word, name, ◌▸◌, ◌⊕◌, sepa
 use Rattle.syntax_forms.specs.Repeats.{may}
 use Rattle.syntax_forms.specs.Types.{names}
 use Rattle.syntax_forms.specs.Definitions.{var, block_decl}
-use Rattle.declaration_parser.specs.Laws.{IsPlainDecl}
+use Rattle.declaration_parser.specs.Plain.{IsPlainDecl}
 
 -- ---- forms that stand in one another
 

@@ -19,45 +19,44 @@ use Rattle.estelle_tree.specs.Input.{Input, kind, next, left, start, over}
 use Rattle.estelle_tree.specs.Spans.{DeclLayer}
 use Rattle.estelle_tree.specs.Spelling.{Spelling, Takes}
 use Rattle.estelle_tree.specs.Beginning.{Beginning}
-use Rattle.estelle_tree.specs.Specification.{IsInit, IsTrans, BodyOf, DeclLayerOf, DeclOf, PartsOf, PartsBelow, IsParts}
+use Rattle.estelle_tree.specs.Specification.{IsInit, IsTrans, BodyOf, DeclLayerOf, DeclOf, PartsOf, PartsBelow}
 use Rattle.token_reader.specs.Reader.{Parser, ReadResult, and_then, pure, refusal, refuse, ◌>>=◌, span_over, expect, name}
 use Rattle.token_reader.specs.Lists.{optional_if, optional, behind, turn, repeated_from, repeated}
-use Rattle.token_reader.proofs.Sound.{Sound, ok_pair}
-use Rattle.token_reader.proofs.Complete.{Complete}
 use Rattle.syntax_forms.specs.Kinds.{is}
 use Rattle.syntax_forms.specs.Form as form
 use Rattle.syntax_forms.specs.Form.{◌▸◌, ◌⊕◌}
 use Rattle.syntax_forms.specs.Repeats as repeats
 use Rattle.syntax_forms.specs.Reading.{Reading, one, ◌then◌, chosen, choose, opening, enclosed}
-use Rattle.syntax_forms.proofs.KindLaws.{is_it, both_of, not_true, when, apart, within}
+use Rattle.syntax_forms.proofs.KindLaws.{is_it, both_of, not_true, when, apart, within, agree}
 use Rattle.syntax_forms.proofs.ChoiceForms.{some_room, has_room, chosen_one, chosen_other}
 use Rattle.syntax_forms.proofs.StepForms.{IsStep, told_step, many_read}
 use Rattle.syntax_forms.proofs.NodeForms.{IsSpanned, IsNode, known_lawful, never_lawful}
 use Rattle.syntax_forms.proofs.Lawful.{begins_so, IsRead, IsLawful}
 use Rattle.syntax_forms.proofs.Rules as rules
+use Rattle.syntax_forms.proofs.Words.{takes_first, refused}
+use Rattle.syntax_forms.proofs.Firsts.{alike, kept}
+use Rattle.syntax_forms.proofs.SeveralForms.{as_none}
 use Rattle.type_parser.proofs.TypeForms.{names_lawful}
 use Rattle.statement_parser.specs.Forms as statements
 use Rattle.statement_parser.specs.Forms.{Word}
 use Rattle.statement_parser.specs.Routine.{routine}
-use Rattle.statement_parser.proofs.StatementForms.{alike}
 use Rattle.statement_parser.proofs.RoutineForms.{routine_lawful}
 use Rattle.declaration_parser.specs.Forms.{joined}
 use Rattle.declaration_parser.specs.Declarations.{plain_decl}
-use Rattle.declaration_parser.specs.Laws.{IsPlainLayer}
+use Rattle.declaration_parser.specs.Plain.{IsPlainLayer}
 use Rattle.declaration_parser.specs.Productions as declarations
-use Rattle.declaration_parser.proofs.Forms.{agree, takes_first, refused, joined_lawful}
+use Rattle.declaration_parser.proofs.Forms.{joined_lawful}
 use Rattle.declaration_parser.proofs.Declarations.{ip_decl_lawful, modvar_decl_lawful, stateset_def_lawful, plain_decl_lawful}
 use Rattle.clause_parser.specs.Forms as clauses
-use Rattle.clause_parser.proofs.FormLaws.{kept, as_none, behind_read}
 use Rattle.clause_parser.proofs.BlockForms.{block_lawful}
 use Rattle.clause_parser.proofs.GroupForms.{trans_body_lawful}
-use Rattle.estelle_parser.specs.Bodies.{EndsParts, begins_decl, begins_init, begins_trans, opens, body_over, body_part, init, trans, routine_part, decl_by, decl_over, parts_over, parts_below, parts}
+use Rattle.estelle_parser.specs.Bodies.{begins_decl, begins_init, begins_trans, opens, body_over, body_part, init, trans, routine_part, decl_by, decl_over, parts_over, parts_below, parts}
 use Rattle.estelle_parser.specs.Forms as forms
 use Rattle.estelle_parser.specs.Forms.{begins_parts, goes_on_parts, BeginsBelow}
 
 -- `[to NAME]`
 state_read : IsRead (repeats.may forms.state) (one (behind k.To name))
-state_read = behind_read name k.To refl rules.name
+state_read = rules.behind name k.To refl rules.name
 
 -- `NAME for NAME`
 for_lawful : IsLawful (declarations.joined k.For form.name form.name) (joined k.For name name)
@@ -379,20 +378,3 @@ pub near_below : (room : ℕ) (i : Input) → Nearly (parts_below room i) (parts
 unfolding parts_below parts_at
 near_below zero i = inl refl
 near_below (suc room) i = parts_near room (parts_below room) (parts_at room) (near_below room) i
-
-pub parts_sound : (room : ℕ) → Sound (parts room) (IsParts room)
-parts_sound room i j ps h = by (near_below (suc room) i)
-  where
-    by : Nearly (parts room i) (parts_at (suc room) i) → IsParts room ps i j
-    by (inl e) = (parts_at_lawful (suc room)).sound i j ps (sym e ∙ h)
-    by (inr (x, m, e, there, r)) = absurd (let no : Err (refusal m) ≡ Ok (ps, j) = sym r ∙ h in cc)
-
-pub parts_complete : (room : ℕ) → Complete (parts room) (IsParts room) EndsParts
-parts_complete room i j ps h end = by (near_below (suc room) i)
-  where
-    read : parts_at (suc room) i ≡ Ok (ps, j)
-    read = (parts_at_lawful (suc room)).complete i j ps h (ap goes_on_parts end)
-
-    by : Nearly (parts room i) (parts_at (suc room) i) → parts room i ≡ Ok (ps, j)
-    by (inl e) = e ∙ read
-    by (inr (x, m, e, there, r)) = absurd (let no : k.Body ≡ k.End = sym there ∙ (ap (λ (p : Parts × Input). kind p.1) (ok_pair x ps m j (sym e ∙ read)) ∙ end) in cc)

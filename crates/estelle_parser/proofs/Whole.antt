@@ -1,35 +1,47 @@
 -- The laws of specifications.
-use Rattle.std.proofs.Common.{◌≡◌, ℕ, zero, suc, Bool, true, false, List, [], ◌∷◌, length, Ok, Err, sym, refl, ap, ◌∙◌, subst, inl, inr, arith}
+use Rattle.std.proofs.Common.{◌≡◌, ◌<◌, ◌≤◌, ◌+◌, ◌-◌, ℕ, zero, suc, Bool, true, false, List, [], ◌∷◌, length, Ok, Err, sym, refl, ap, ◌∙◌, subst, inl, inr, ◌⊎◌, arith}
 use Rattle.std.specs.Prelude.{◌==◌, if◌then◌else◌}
 use Rattle.std.proofs.lemmas.Bool.{eqb-true}
 use Rattle.estelle_tree.specs.declared.kind.Kind.{Kind}
 use Rattle.estelle_tree.specs.declared.kind.Kind.TheVariants as k
 use Rattle.estelle_tree.specs.declared.token.Placed.{Placed}
 use Rattle.estelle_tree.specs.declared.tree.specification.Spec.{Spec}
-use Rattle.estelle_tree.specs.Input.{Input, input, kind, next, left}
+use Rattle.estelle_tree.specs.Input.{Input, input, kind, next, left, skip}
 use Rattle.estelle_tree.specs.Specification.{IsSpec}
 use Rattle.estelle_tree.specs.Spells.{max_nesting, Spells}
+use Rattle.estelle_tree.specs.BeginsSpecification.{BeginsSpec, Begins}
+use Rattle.estelle_tree.proofs.Cuts.{Out, begun, past}
 use Rattle.token_reader.specs.declared.error.ReadError.{ReadError}
-use Rattle.token_reader.specs.Reader.{ReadResult, pure, refuse, expect, name}
+use Rattle.token_reader.specs.declared.error.ReadError.TheVariants.{Refused}
+use Rattle.token_reader.specs.Reader.{ReadResult, and_then, pure, refusal, refuse, ◌>>◌, expect, name}
 use Rattle.token_reader.specs.Lists.{optional}
 use Rattle.token_reader.proofs.Sound.{Sound, through, answered, ok_pair}
 use Rattle.syntax_forms.specs.Form as form
 use Rattle.syntax_forms.specs.Form.{◌▸◌}
 use Rattle.syntax_forms.specs.Repeats as repeats
 use Rattle.syntax_forms.specs.Reading.{one}
+use Rattle.syntax_forms.specs.Onward.{Below}
+use Rattle.syntax_forms.specs.Placed.{stop, Begun, Placed as IsPlaced}
+use Rattle.syntax_forms.proofs.Local.{reach_left}
+use Rattle.syntax_forms.proofs.Numbers.{skip_left, place_of}
+use Rattle.syntax_forms.proofs.Prefixes as prefixes
+use Rattle.syntax_forms.proofs.Prefixes.{Shut}
+use Rattle.syntax_forms.proofs.Steps.{stays, refuses}
+use Rattle.syntax_forms.proofs.Placing.{same, on_more, stop_more, refused_by}
 use Rattle.syntax_forms.proofs.NodeForms.{IsNode}
 use Rattle.syntax_forms.proofs.Lawful.{IsRead, IsLawful}
 use Rattle.syntax_forms.proofs.Rules as rules
-use Rattle.statement_parser.proofs.StatementForms.{alike}
+use Rattle.syntax_forms.proofs.KindLaws.{agree}
+use Rattle.syntax_forms.proofs.Firsts.{alike}
 use Rattle.declaration_parser.specs.Attributes.{begins_sys_attr, sys_attr, heads}
 use Rattle.declaration_parser.specs.Productions as declarations
-use Rattle.declaration_parser.proofs.Forms.{agree}
 use Rattle.declaration_parser.proofs.Attributes.{sys_attr_lawful, heads_lawful}
 use Rattle.estelle_parser.specs.Bodies.{parts}
 use Rattle.estelle_parser.specs.Forms as forms
 use Rattle.estelle_parser.specs.Whole.{specification, finish, whole}
-use Rattle.estelle_parser.specs.Answers.{AreTokens}
+use Rattle.estelle_parser.specs.Answers.{AreTokens, IsFirstRefused}
 use Rattle.estelle_parser.proofs.BodyForms.{before_end, near_below, parts_at, parts_at_lawful}
+use Rattle.estelle_parser.proofs.Begins.{specification_begins}
 
 none_left : (n : ℕ) → (n == 0) ≡ true → n ≡ 0
 none_left zero e = refl
@@ -116,9 +128,109 @@ module _ (room : ℕ) where
   unfolding whole finish
   whole_complete i j s h none = rw (specification_lawful.complete i j s h refl, none)
 
+  -- ---- the place of a refusal
+
+  -- each prefix of what begins a specification begins one
+  specification_shut : Shut (BeginsSpec room)
+  specification_shut = prefixes.alike (specification_begins room).to (specification_begins room).back specification_lawful.form.shut
+
+  -- behind a specification no token is taken, and one may be refused
+  behind : (s : Spec) (a : Input) → ((finish >> pure s) a ≡ Ok (s, a)) ⊎ ((finish >> pure s) a ≡ Err (Refused (left a)))
+  unfolding finish refusal
+  behind s a = by (left a == 0)
+    where
+      by : (b : Bool) → (and_then (if b then pure tt a else refuse a) (λ (u : Unit {0}). pure s) ≡ Ok (s, a)) ⊎ (and_then (if b then pure tt a else refuse a) (λ (u : Unit {0}). pure s) ≡ Err (Refused (left a)))
+      by true = inl refl
+      by false = inr refl
+
+  -- it takes no less than the longest beginning of a specification, and refuses only behind one
+  pub whole_placed : (i : Input) → IsPlaced (BeginsSpec room) i (whole room i)
+  unfolding whole refusal
+  whole_placed i = same (forms.specification room).begins (BeginsSpec room) i (whole room i) (λ m b. (specification_begins room).to i m b) (λ m b. (specification_begins room).back i m b) (record { on = on; longest = longest; begun = begun })
+    where
+      read : IsPlaced (forms.specification room).begins i (specification room i)
+      read = specification_lawful.placed i
+
+      there : (s : Spec) (a : Input) → specification room i ≡ Ok (s, a) → Below a (suc (left a)) ((finish >> pure s) a)
+      there s a e = by (behind s a)
+        where
+          by : ((finish >> pure s) a ≡ Ok (s, a)) ⊎ ((finish >> pure s) a ≡ Err (Refused (left a))) → Below a (suc (left a)) ((finish >> pure s) a)
+          by (inl e) = subst (λ (o : ReadResult Spec). Below a (suc (left a)) o) (sym e) (stays s a)
+          by (inr e) = subst (λ (o : ReadResult Spec). Below a (suc (left a)) o) (sym e) (refuses a)
+
+      on : Below i (suc (left i)) (whole room i)
+      on = on_more i (suc (left i)) (specification room i) (λ s. finish >> pure s) read.on there
+
+      longest : (m : Input) → (forms.specification room).begins i m → stop (whole room i) ≤ left m
+      longest m b =
+          let less : stop (whole room i) ≤ stop (specification room i) = stop_more (specification room i) (λ s. finish >> pure s) there in
+          let short = read.longest m b in
+          omega arith
+
+      begun : (l : ℕ) → whole room i ≡ Err (Refused l) → Begun (forms.specification room).begins i l
+      begun l e = refused_by (specification room i) (λ s. finish >> pure s) l e (read.begun l) (λ s a is r. by s a is r (behind s a))
+        where
+          by : (s : Spec) (a : Input) → specification room i ≡ Ok (s, a) → (finish >> pure s) a ≡ Err (Refused l) → ((finish >> pure s) a ≡ Ok (s, a)) ⊎ ((finish >> pure s) a ≡ Err (Refused (left a))) → Begun (forms.specification room).begins i l
+          by s a is r (inl ends) = absurd (let no : Ok (s, a) ≡ Err (Refused l) = sym ends ∙ r in cc)
+          by s a is r (inr stops) =
+              let spelled = specification_lawful.sound i a s is in
+              let same : Err (Refused (left a)) ≡ Err (Refused l) = sym stops ∙ r in
+              let count : left a ≡ l = cc in
+              record { at = a; reach = specification_lawful.form.reach i a s spelled; begins = specification_lawful.form.whole i a s spelled; count = count }
+
+-- ---- the first token that goes on with nothing
+
+module _ (tokens : List Placed) (l : ℕ) (refused : whole 200 (input tokens 0) ≡ Err (Refused l)) where
+  stopped : IsPlaced (BeginsSpec 200) (input tokens 0) (whole 200 (input tokens 0))
+  stopped = whole_placed 200 (input tokens 0)
+
+  piece : Begun (BeginsSpec 200) (input tokens 0) l
+  piece = stopped.begun l refused
+
+  fits : l ≤ length tokens
+  unfolding left
+  fits =
+      let below : Below {A = Spec} (input tokens 0) (suc (left (input tokens 0))) (Err (Refused l)) = subst (λ (o : ReadResult Spec). Below (input tokens 0) (suc (left (input tokens 0))) o) refused stopped.on in
+      let less : l < suc (left (input tokens 0)) = below.fits in
+      let all : left (input tokens 0) ≡ length tokens = refl in
+      omega arith
+
+  there : (n : ℕ) → n + l ≡ length tokens → BeginsSpec 200 (input tokens 0) (skip n (input tokens 0))
+  there n count = subst (λ j. BeginsSpec 200 (input tokens 0) j) (place_of tokens 0 piece.at n (omega arith) piece.reach (ap (λ l. n + l) piece.count ∙ count)) piece.begins
+
+  -- a cut before the end of what begins a sentence
+  cut : (m n : ℕ) → m ≤ n → n ≤ length tokens → BeginsSpec 200 (input tokens 0) (skip n (input tokens 0)) → BeginsSpec 200 (input tokens 0) (skip m (input tokens 0))
+  cut m n less inside b = by (specification_shut 200 (input tokens 0) (skip n (input tokens 0)) (skip m (input tokens 0)) b (m, refl))
+    where
+      by : Out (BeginsSpec 200) (input tokens 0) (skip n (input tokens 0)) (skip m (input tokens 0)) → BeginsSpec 200 (input tokens 0) (skip m (input tokens 0))
+      by (begun b) = b
+      by (past r) =
+          let lefts = reach_left (skip n (input tokens 0)) (skip m (input tokens 0)) r in
+          let here = skip_left m tokens 0 (omega arith) in
+          let end = skip_left n tokens 0 inside in
+          let same : n ≡ m = omega arith in
+          subst (λ n. BeginsSpec 200 (input tokens 0) (skip n (input tokens 0))) same b
+
+  pub first_refused : IsFirstRefused tokens (length tokens - l)
+  unfolding Begins max_nesting
+  first_refused = record {
+    inside = omega arith;
+    before = λ m less. let inside = fits in cut m (length tokens - l) less (omega arith) (there (length tokens - l) (omega arith));
+    behind = λ m more inside b.
+        let short : stop (whole 200 (input tokens 0)) ≤ left (skip m (input tokens 0)) = stopped.longest (skip m (input tokens 0)) b in
+        let stops : stop (whole 200 (input tokens 0)) ≡ l = ap (λ (o : ReadResult Spec). stop o) refused in
+        let here = skip_left m tokens 0 inside in
+        let within = fits in
+        omega arith;
+  }
+
 -- ---- lists of tokens
 
 module _ (tokens : List Placed) (i : Input) (at : i ≡ input tokens 0) where
+  -- where it is refused with so many tokens left
+  pub wrong : (l : ℕ) → whole 200 i ≡ Err (Refused l) → IsFirstRefused tokens (length tokens - l)
+  wrong l e = first_refused tokens l (subst (λ i. whole 200 i ≡ Err (Refused l)) at e)
+
   pub spelled : (s : Spec) (j : Input) → AreTokens tokens → whole 200 i ≡ Ok (s, j) → Spells s tokens
   unfolding max_nesting
   spelled s j forms h =

@@ -1,9 +1,10 @@
 -- What `parse` answers.
-use Rattle.std.specs.Prelude.{◌≡◌, ℕ, List, All, drop, Result, Ok, Err}
+use Rattle.std.specs.Prelude.{◌≡◌, ◌<◌, ◌≤◌, ℕ, List, All, drop, length, Result, Ok, Err}
 use Rattle.estelle_tree.specs.declared.token.Placed.{Placed}
 use Rattle.estelle_tree.specs.declared.tree.specification.Spec.{Spec}
 use Rattle.estelle_tree.specs.Input.{first_start}
 use Rattle.estelle_tree.specs.Spells.{IsToken}
+use Rattle.estelle_tree.specs.BeginsSpecification.{Begins}
 use Rattle.estelle_parser.specs.declared.error.SyntaxError.{SyntaxError}
 use Rattle.estelle_parser.specs.declared.error.SyntaxError.TheVariants.{At, Memory}
 
@@ -17,7 +18,15 @@ Gives spec (Ok found) = found ≡ spec
 Gives spec (Err Memory) = Unit {0}
 Gives spec (Err (At place)) = ⊥
 
--- the place is where one of the tokens starts, or the end of the input
-abbrev pub IsPlaceIn : List Placed → ℕ → SyntaxError → Type 0
-IsPlaceIn tokens rest Memory = Unit {0}
-IsPlaceIn tokens rest (At place) = (n : ℕ) × (place ≡ first_start rest (drop n tokens))
+-- The token before which so many stand is the first that goes on with no beginning of a sentence: what stands
+-- before it begins one, as each part of that from the first token on does, and no more tokens do. There is no such
+-- token where the number is that of all tokens.
+pub record IsFirstRefused (tokens : List Placed) (n : ℕ) : Type 0 where
+  pub inside : n ≤ length tokens
+  pub before : (m : ℕ) → m ≤ n → Begins tokens m
+  pub behind : (m : ℕ) → n < m → m ≤ length tokens → Begins tokens m → ⊥
+
+-- the place is where that token starts, or the end of the input where there is none
+abbrev pub IsRefusedAt : List Placed → ℕ → SyntaxError → Type 0
+IsRefusedAt tokens rest Memory = Unit {0}
+IsRefusedAt tokens rest (At place) = (n : ℕ) × (place ≡ first_start rest (drop n tokens)) × IsFirstRefused tokens n

@@ -1,5 +1,5 @@
 -- Bodies and their parts, read from left to right. The *room* is how many more levels of nesting may open.
-use Rattle.std.specs.Prelude.{◌≡◌, ℕ, zero, suc, ◌==◌, Bool, true, false, if◌then◌else◌, []}
+use Rattle.std.specs.Prelude.{ℕ, zero, suc, ◌==◌, Bool, true, false, if◌then◌else◌, []}
 use Rattle.estelle_tree.specs.declared.kind.Kind.{Kind}
 use Rattle.estelle_tree.specs.declared.kind.Kind.TheVariants as k
 use Rattle.estelle_tree.specs.declared.tree.specification.Body.{Body, roll-Body}
@@ -8,7 +8,7 @@ use Rattle.estelle_tree.specs.declared.tree.specification.Decl.TheVariants as a_
 use Rattle.estelle_tree.specs.declared.tree.specification.Init.{Init}
 use Rattle.estelle_tree.specs.declared.tree.specification.Parts.{Parts, roll-Parts}
 use Rattle.estelle_tree.specs.declared.tree.specification.Trans.{Trans}
-use Rattle.estelle_tree.specs.Input.{Input, kind}
+use Rattle.estelle_tree.specs.Input.{kind}
 use Rattle.token_reader.specs.Reader.{Parser, ◌>>=◌, ◌>>◌, pure, refuse, peek, here, remaining, since, since_over, expect, name}
 use Rattle.token_reader.specs.Lists.{optional, behind, repeated}
 use Rattle.declaration_parser.specs.Forms.{joined}
@@ -125,9 +125,3 @@ parts_below (suc room) = parts_over room (parts_below room)
 -- where this many more levels of nesting may open
 abbrev pub parts : ℕ → Parser Parts
 parts room = parts_below (suc room)
-
--- ---- places where nothing that stands next goes on with the parts before
-
--- the word `end` stands behind the parts of a body
-abbrev pub EndsParts : Input → Type 0
-EndsParts j = kind j ≡ k.End

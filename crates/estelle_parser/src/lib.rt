@@ -10,5 +10,5 @@ mod transition;
 
 pub use body::parts;
 pub use error::SyntaxError;
-pub use laws::{one_tree, parts_are_read};
+pub use laws::one_tree;
 pub use specification::parse;

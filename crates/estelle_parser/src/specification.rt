@@ -4,7 +4,7 @@ ghost use Rattle.std.specs.Prelude.{◌≡◌, IfOk, IfErr};
 ghost use Rattle.estelle_tree.specs.declared.tree.specification.Spec.{Spec};
 ghost use Rattle.estelle_tree.specs.Spells.{Spells};
 ghost use Rattle.token_reader.specs.Reader.{Reads};
-ghost use Rattle.estelle_parser.specs.Answers.{AreTokens, Gives, IsPlaceIn};
+ghost use Rattle.estelle_parser.specs.Answers.{AreTokens, Gives, IsRefusedAt};
 ghost use Rattle.estelle_parser.specs.Whole as spec;
 
 use crate::body::parts;
@@ -80,7 +80,8 @@ pub fn parse(alloc: Global, tokens: &Tokens) -> Result<Spec, SyntaxError>
     // What is answered is spelled so, and no other tree is.
     ensures spelled { IfOk result (λ found. Spells found tokens.now.items) }
     ensures only { (found : Spec) → Spells found tokens.now.items → Gives found result }
-    ensures place { IfErr result (IsPlaceIn tokens.now.items tokens.now.rest) }
+    // It is refused where the first token starts with which the tokens up to it begin no sentence.
+    ensures place { IfErr result (IsRefusedAt tokens.now.items tokens.now.rest) }
 {
     let mut place = Cursor::new(tokens.items(), 0);
     match whole(alloc, &mut place, MAX_NESTING) {

@@ -1,6 +1,6 @@
 -- The laws of selectors and variables: each form is read by its parser.
 use Rattle.std.specs.Prelude.{◌==◌, ◌&&◌, ◌||◌, not}
-use Rattle.std.proofs.Common.{◌≡◌, ℕ, zero, suc, Ok, arith, Bool, true, false, List, Some, None, sym, refl, ap, ◌∙◌, subst, inl, inr, ◌⊎◌}
+use Rattle.std.proofs.Common.{◌≡◌, ℕ, zero, suc, Ok, Bool, true, false, List, Some, None, sym, refl, ap, ◌∙◌, subst, inl, inr, ◌⊎◌}
 use Rattle.estelle_tree.specs.declared.kind.Kind.{Kind}
 use Rattle.estelle_tree.specs.declared.kind.Kind.TheVariants as k
 use Rattle.estelle_tree.specs.declared.tree.name.Name.{Name}
@@ -12,13 +12,13 @@ use Rattle.estelle_tree.specs.declared.tree.expression.Selector.TheVariants.{rol
 use Rattle.estelle_tree.specs.declared.tree.expression.Factor.TheViews.{roll-out-Variable, roll-out-Selector}
 use Rattle.estelle_tree.specs.declared.tree.expression.Expr.{Expr}
 use Rattle.estelle_tree.specs.declared.tree.expression.Variable.{out-Variable, roll-Variable}
-use Rattle.estelle_tree.specs.Input.{Input, kind, next, left}
+use Rattle.estelle_tree.specs.Input.{Input, kind, next}
 use Rattle.estelle_tree.specs.Spans.{SelectorLayer}
 use Rattle.estelle_tree.specs.Spelling.{Spelling}
 use Rattle.estelle_tree.specs.Beginning.{Beginning}
 use Rattle.estelle_tree.specs.Expressions.{SelectorLayerOf, SelectorOf, VariableOf}
 use Rattle.token_reader.specs.Reader.{Parser, ◌>>=◌, and_then, pure, take, expect, name}
-use Rattle.token_reader.proofs.Complete.{expect_complete, next_left_more}
+use Rattle.token_reader.proofs.Complete.{expect_complete}
 use Rattle.token_reader.specs.Lists.{separated}
 use Rattle.syntax_forms.specs.Kinds.{is}
 use Rattle.syntax_forms.specs.Form as form
@@ -28,10 +28,8 @@ use Rattle.syntax_forms.specs.Reading.{Reading, one, ◌then◌, choose, levelle
 use Rattle.expression_parser.specs.Forms as forms
 use Rattle.expression_parser.specs.Expression.{expr_over, nest, index_over, field, selector_by, selector_over, variable_after, variable_over}
 use Rattle.syntax_forms.proofs.KindLaws.{when, not_true, not_false}
-use Rattle.syntax_forms.specs.Onward.{Below}
 use Rattle.syntax_forms.proofs.ChoiceForms.{chosen_one, chosen_other, some_room, has_room}
 use Rattle.syntax_forms.proofs.StepForms.{IsStep, told_step, many_read}
-use Rattle.syntax_forms.proofs.Firsts.{stops_below}
 use Rattle.syntax_forms.proofs.NodeForms.{IsNode}
 use Rattle.syntax_forms.proofs.Lawful.{IsLawful}
 use Rattle.syntax_forms.proofs.Rules as rules
@@ -158,13 +156,6 @@ module _ (room : ℕ) (F : Spelling Factor) (B : Beginning) (factor : Parser Fac
           by k.Dot s e = cc
           by k.OpenBracket s e = cc
           by x s e = cc
-
-  pub selector_takes : (i : Input) → selects i ≡ true → Below i (left i) (selector_over room factor i)
-  selector_takes i e =
-      let placed = selector_step.placed i in
-      let short = placed.longest (next i) (selector_piece i e) in
-      let less = next_left_more i (selector_token i e) in
-      stops_below i (suc (left i)) (left i) (selector_over room factor i) placed.on (omega arith)
 
   variable_is : IsNode (VariableOf room F) (form.name ▸ repeats.many (forms.selector room F B)).spells (λ p span. roll-Variable (record { name = p.0; selectors = p.1; span = span }))
   variable_is = record {

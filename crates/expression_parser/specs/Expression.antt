@@ -82,17 +82,6 @@ goes_on_expr k.OpenBracket = true
 goes_on_expr k.Dot = true
 goes_on_expr _ = false
 
--- with these a list of expressions can go on where it could end
-abbrev pub goes_on_args : Kind → Bool
-goes_on_args k.Comma = true
-goes_on_args kind' = goes_on_expr kind'
-
--- with these a variable can go on where it could end
-abbrev pub goes_on_variable : Kind → Bool
-goes_on_variable k.OpenBracket = true
-goes_on_variable k.Dot = true
-goes_on_variable _ = false
-
 -- ---- expressions, over the parser of the factors in them
 module _ (factor : Parser Factor) where
   -- Term = Factor {("*" | div | mod | and) Factor}
@@ -296,12 +285,6 @@ args room = args_over (factor room)
 unfoldable pub variable : ℕ → Parser Variable
 variable room = variable_over room (factor_below room)
 
--- ---- places where nothing that stands next goes on with the piece before
+-- a place where nothing that comes next goes on with the expression before
 abbrev pub EndsExpr : Input → Type 0
 EndsExpr j = goes_on_expr (kind j) ≡ false
-
-abbrev pub EndsArgs : Input → Type 0
-EndsArgs j = goes_on_args (kind j) ≡ false
-
-abbrev pub EndsVariable : Input → Type 0
-EndsVariable j = goes_on_variable (kind j) ≡ false

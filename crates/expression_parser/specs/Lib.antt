@@ -1,3 +1,2 @@
 pub mod Expression
-pub mod Laws
 pub mod Forms

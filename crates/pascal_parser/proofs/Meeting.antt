@@ -15,7 +15,7 @@ use Rattle.pascal_parser.specs.Places.{place}
 use Rattle.syntax_forms.specs.Onward.{Below}
 use Rattle.pascal_parser.specs.Answers.{IsSpelled, IsAnswered, Answers}
 use Rattle.pascal_parser.specs.Longest.{IsLongest, IsExact, IsRefused}
-use Rattle.pascal_parser.proofs.Numbers.{skip_left, place_of}
+use Rattle.syntax_forms.proofs.Numbers.{skip_left, place_of}
 use Rattle.syntax_forms.specs.Form.{Form}
 use Rattle.syntax_forms.proofs.Lawful.{IsLawful}
 use Rattle.syntax_forms.proofs.Steps.{Reached}

@@ -15,7 +15,7 @@ ghost use Rattle.estelle_tree.specs.BeginsTypes.{BeginsType};
 ghost use Rattle.estelle_tree.specs.BeginsExpressions.{BeginsExpr};
 ghost use Rattle.estelle_tree.specs.BeginsStatements.{BeginsStmts};
 ghost use Rattle.estelle_tree.specs.BeginsDeclarations.{BeginsRoutine};
-ghost use Rattle.type_parser.specs.Laws.{EndsOrdinal};
+ghost use Rattle.type_parser.specs.Types.{EndsOrdinal};
 ghost use Rattle.expression_parser.specs.Expression.{EndsExpr};
 ghost use Rattle.statement_parser.specs.Statement.{EndsStmts};
 ghost use Rattle.pascal_parser.specs.Places.{place};

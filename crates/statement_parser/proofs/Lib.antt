@@ -2,4 +2,3 @@ pub mod PartForms
 pub mod Whole
 pub mod StatementForms
 pub mod RoutineForms
-pub mod Complete

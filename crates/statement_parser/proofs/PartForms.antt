@@ -22,7 +22,7 @@ use Rattle.token_reader.specs.Reader.{Parser, refuse, expect, name}
 use Rattle.token_reader.proofs.Complete.{next_left_more}
 use Rattle.syntax_forms.specs.Kinds.{is}
 use Rattle.syntax_forms.specs.Form as form
-use Rattle.syntax_forms.specs.Form.{Form, ◌▸◌, built, unless}
+use Rattle.syntax_forms.specs.Form.{◌▸◌, built, unless}
 use Rattle.syntax_forms.specs.Repeats as repeats
 use Rattle.syntax_forms.specs.Reading.{Reading, one, ◌then◌, chosen, looked, closed}
 use Rattle.syntax_forms.specs.Onward.{Below, IsOnward}
@@ -37,11 +37,10 @@ use Rattle.syntax_forms.proofs.AheadForms.{IsAhead, unless_last}
 use Rattle.syntax_forms.proofs.ToldForms.{IsTold}
 use Rattle.syntax_forms.proofs.Lawful.{IsLast, IsRead, IsLawful, Starts}
 use Rattle.syntax_forms.proofs.Rules as rules
-use Rattle.expression_parser.specs.Expression.{goes_on_variable, factor_below, expr, variable}
+use Rattle.expression_parser.specs.Expression.{factor_below, expr, variable}
 use Rattle.expression_parser.specs.Forms as expressions
 use Rattle.expression_parser.proofs.TermForms.{expr_lawful}
 use Rattle.expression_parser.proofs.FactorForms.{factor_below_lawful, expr_lawful_at, args_lawful_at, variable_lawful_at}
-use Rattle.expression_parser.proofs.Complete.{variable_complete}
 use Rattle.statement_parser.specs.Statement.{begins_args, ip, given_args, may_be_args, assignment, call, named_by, expr_below, direction_by, direction_word}
 use Rattle.statement_parser.specs.Forms as forms
 use Rattle.statement_parser.specs.Forms.{Word, direction_of, make_named, assigns}
@@ -190,7 +189,7 @@ module _ (room : ℕ) where
               let n = name_known.there i name_here.kind in
               let v = roll-Variable (record { name = n.0; selectors = []; span = between i (next i) }) in
               exact_below (variable room) _ i (next i) (left (next i)) v (lawful_onward _ (variable room) (variable_lawful_at room))
-              (variable_complete room i (next i) v (record { mid = next i; name = name_known.sound i (next i) n.0 n.1; selectors = refl; span = refl }) (ap goes_on_variable d))
+              ((variable_lawful_at room).complete i (next i) v (record { mid = next i; name = name_known.sound i (next i) n.0 n.1; selectors = refl; span = refl }) (ap (expressions.variable room (FactorBelow room) (BeginsFactorBelow room)).on d))
               (step (next i) (left (next i)) (expect k.Becomes (next i)) _ (expects_one k.Becomes (next i) (λ e. cc) d) (λ u. (rules.part (expr_lawful_at room)).onward C _ (λ x. on (v, (u, x)))))
           by x d t = absurd (cc)
 

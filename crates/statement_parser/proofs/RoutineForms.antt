@@ -19,22 +19,23 @@ use Rattle.token_reader.specs.Reader.{expect, name}
 use Rattle.token_reader.specs.Lists.{optional}
 use Rattle.token_reader.proofs.Complete.{expect_complete}
 use Rattle.syntax_forms.specs.Form as form
-use Rattle.syntax_forms.specs.Form.{Form, ◌▸◌, ◌⊕◌}
+use Rattle.syntax_forms.specs.Form.{◌▸◌, ◌⊕◌}
 use Rattle.syntax_forms.specs.Kinds.{is}
 use Rattle.syntax_forms.specs.Repeats as repeats
 use Rattle.syntax_forms.specs.Definitions as definitions
 use Rattle.syntax_forms.specs.Reading.{Reading, one, ◌then◌, choose, closed}
 use Rattle.syntax_forms.proofs.KindLaws.{is_it, within}
 use Rattle.syntax_forms.proofs.TokenForms.{word_known}
-use Rattle.syntax_forms.proofs.NodeForms.{IsNode, one_lawful}
+use Rattle.syntax_forms.proofs.NodeForms.{IsNode}
 use Rattle.syntax_forms.proofs.Lawful.{IsRead, IsLawful, Starts}
 use Rattle.syntax_forms.proofs.Rules as rules
+use Rattle.syntax_forms.proofs.Firsts.{alike, regrouped}
 use Rattle.type_parser.specs.Definitions.{begins_formals, formals, begins_block_decl}
 use Rattle.type_parser.proofs.DefinitionForms.{formal_lawful, formals_lawful, block_decl_lawful}
 use Rattle.statement_parser.specs.Routine.{statement_part, routine_word, function_result, block_decls, routine}
 use Rattle.statement_parser.specs.Forms as forms
 use Rattle.statement_parser.specs.Forms.{Word}
-use Rattle.statement_parser.proofs.StatementForms.{opens_same, alike, regrouped, stmts_lawful_at}
+use Rattle.statement_parser.proofs.StatementForms.{opens_same, stmts_lawful_at}
 
 -- `[Formals]`
 formals_read : IsRead (repeats.may definitions.formals) (one (optional begins_formals formals))
@@ -80,9 +81,6 @@ module _ (room : ℕ) where
           by k.Type e s = inr (inl (inr (next i, record { kind = e; next = refl }, inl (inl (inl refl)))))
           by k.Var e s = inr (inr (inr (next i, record { kind = e; next = refl }, inl (inl (inl (inl (inl refl)))))))
           by _ e s = absurd (cc)
-
-  pub block_decls_lawful : IsLawful (repeats.many (definitions.block_decl room)) (block_decls room)
-  block_decls_lawful = one_lawful decls_read.rest
 
   -- `";" {BlockDecl} begin Stmts end ";"`
   block_read : IsRead (form.word k.Semicolon ▸ forms.block room) (one (expect k.Semicolon) then one (block_decls room) then one (statement_part room))

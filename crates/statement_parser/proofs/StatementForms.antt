@@ -31,7 +31,7 @@ use Rattle.syntax_forms.specs.Repeats as repeats
 use Rattle.syntax_forms.specs.Types as types
 use Rattle.syntax_forms.specs.Reading.{Reading, one, ◌then◌, chosen, opening, closed}
 use Rattle.syntax_forms.proofs.KindLaws.{within, ends_by}
-use Rattle.syntax_forms.proofs.Firsts.{in_a_row}
+use Rattle.syntax_forms.proofs.Firsts.{alike, regrouped}
 use Rattle.syntax_forms.proofs.ChoiceForms.{some_room}
 use Rattle.syntax_forms.proofs.NodeForms.{IsSpanned, IsNode, begun_lawful, known_lawful, never_lawful}
 use Rattle.syntax_forms.proofs.ListForms.{sections_read}
@@ -45,7 +45,7 @@ use Rattle.type_parser.specs.Types.{begins_constant}
 use Rattle.type_parser.proofs.TypeForms.{constant_lawful}
 use Rattle.statement_parser.specs.Statement.{begins_stmt, goes_on_whole, goes_on_stmt, opens, expr_below, direction_word, start_bound, end_bound, bounds, stmts_over, else_over, case_over, begin_over, if_over, while_over, repeat_over, for_over, case_stmt_over, init, release, connect, disconnect, attach, detach, output, stmt_by, stmt_over, stmt_below, EndsWhole}
 use Rattle.statement_parser.specs.Forms as forms
-use Rattle.statement_parser.specs.Forms.{Word, direction_of, make_begin, make_if, make_while, make_repeat, make_for, make_case, make_init, make_release, make_connect, make_disconnect, make_attach, make_detach, make_output}
+use Rattle.statement_parser.specs.Forms.{Word, make_begin, make_if, make_while, make_repeat, make_for, make_case, make_init, make_release, make_connect, make_disconnect, make_attach, make_detach, make_output}
 use Rattle.statement_parser.proofs.PartForms.{ip_lawful, direction_read, expr_below_lawful, may_be_args_read, named, named_told, named_same}
 use Rattle.statement_parser.proofs.Whole.{IsLevel, branches_last}
 
@@ -54,14 +54,6 @@ pub opens_same : {C : Type 0} (room : ℕ) (word : Kind) (f : Unit {0} → Parse
 unfolding opens
 opens_same zero word f i = refl
 opens_same (suc room) word f i = rw (some_room (suc room) (omega arith)) refl
-
-pub alike : {A C : Type 0} (o : ReadResult A) (f g : A → Parser C) → ((x : A) (a : Input) → f x a ≡ g x a) → and_then o f ≡ and_then o g
-alike (Ok p) f g same = same p.0 p.1
-alike (Err e) f g same = refl
-
--- steps in a row are a first step and the rest
-pub regrouped : {A B C : Type 0} (o : ReadResult A) (f : A → Parser B) (g : B → Parser C) (h : A → Parser C) → ((x : A) (a : Input) → and_then (f x a) g ≡ h x a) → and_then (and_then o f) g ≡ and_then o h
-regrouped o f g h same = sym (in_a_row o f g) ∙ alike o (λ x a. and_then (f x a) g) h same
 
 -- `NAME ":=" Expr (to | downto) Expr do`, part by part
 bounds_same : {C : Type 0} (room : ℕ) (g : Name × Expr × Direction × Expr → Parser C) (i : Input)
@@ -525,11 +517,5 @@ stmt_level zero = record {
 }
 stmt_level (suc room) = level_over room (stmt_below room) (StmtBelow room) (BeginsStmtBelow room) (stmt_level room)
 
-pub stmt_lawful : (room : ℕ) → IsLawful (forms.below (StmtBelow room) (BeginsStmtBelow room)) (stmt_below room)
-stmt_lawful room = (stmt_level room).law
-
 pub stmts_lawful_at : (room : ℕ) → IsLawful (forms.stmts (StmtBelow room) (BeginsStmtBelow room)) (stmts_over (stmt_below room))
 stmts_lawful_at room = stmts_lawful room (stmt_below room) (StmtBelow room) (BeginsStmtBelow room) (stmt_level room)
-
-pub case_lawful_at : (room : ℕ) → IsLawful (forms.case (StmtBelow room) (BeginsStmtBelow room)) (case_over (stmt_below room))
-case_lawful_at room = case_lawful room (stmt_below room) (StmtBelow room) (BeginsStmtBelow room) (stmt_level room)

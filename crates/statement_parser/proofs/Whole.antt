@@ -21,6 +21,8 @@ use Rattle.syntax_forms.proofs.Local.{upto, upto_takes}
 use Rattle.syntax_forms.proofs.Firsts.{first_after}
 use Rattle.syntax_forms.proofs.Steps.{Reached, reach_on, step, either}
 use Rattle.syntax_forms.proofs.Placing.{followed_where}
+use Rattle.syntax_forms.proofs.Prefixes as prefixes
+use Rattle.syntax_forms.proofs.Prefixes.{Shut}
 use Rattle.syntax_forms.proofs.NodeForms.{lawful_onward}
 use Rattle.syntax_forms.proofs.Lawful.{IsForm, IsLast, IsLawful, Starts, Ends, Got, Keeps}
 use Rattle.syntax_forms.proofs.Rules as rules
@@ -72,11 +74,12 @@ module _ (below : Parser Stmt) (S : Bool → Spelling Stmt) (B : Beginning) (lev
   branches_form = record {
     whole = whole;
     whole_onto = λ rest i m j x h n. inr (x, m, h, n);
+    apart = λ rest i m b. b;
+    short = λ rest i m n b. inl b;
     nothing = λ i. inl (level.law.form.nothing i);
-    nothing_onto = λ rest i n. inl (inl (level.law.form.nothing i));
+    shut = shut;
     starts = starts;
     first = first;
-    first_onto = first_onto;
     reach = reach;
     advances = λ e. absurd (let no : true ≡ false = e in cc);
     local = local;
@@ -85,6 +88,9 @@ module _ (below : Parser Stmt) (S : Bool → Spelling Stmt) (B : Beginning) (lev
       whole : (i j : Input) (x : Stmt × Option Stmt) → forms.Branches S B x i j → (forms.branches S B).begins i j
       whole i j (s, None) h = inl (level.law.form.whole i j s h)
       whole i j (s, Some t) h = inr (s, h.0, h.1, inr (h.2.at, h.2.mark, level.law.form.whole h.2.at j t h.2.item))
+
+      shut : Shut (forms.branches S B).begins
+      shut = prefixes.part (λ i j s h. level.law.form.whole i j s (loose i j s h)) level.law.form.shut (prefixes.after k.Else level.law.form.shut)
 
       at_else : (a m : Input) → After k.Else B a m → (a ≡ m) ⊎ Starts (forms.branches S B) a
       at_else a m (inl same) = inl same
@@ -111,18 +117,6 @@ module _ (below : Parser Stmt) (S : Bool → Spelling Stmt) (B : Beginning) (lev
           by : (i ≡ m) ⊎ Starts (forms.below S B) i → (i ≡ m) ⊎ Starts (forms.branches S B) i
           by (inl e) = inl e
           by (inr s) = inr (or_left _ (is k.Else (kind i)) s)
-
-      first_onto : (rest : Beginning) (i m : Input) → (forms.branches S B).onto rest i m → (i ≡ m) ⊎ (Starts (forms.branches S B) i ⊎ ((true ≡ true) × rest i m))
-      first_onto rest i m (inl b) = by (first i m b)
-        where
-          by : (i ≡ m) ⊎ Starts (forms.branches S B) i → (i ≡ m) ⊎ (Starts (forms.branches S B) i ⊎ ((true ≡ true) × rest i m))
-          by (inl e) = inl e
-          by (inr s) = inr (inl s)
-      first_onto rest i m (inr (x, a, h, n)) = by (starts i a x h)
-        where
-          by : ((i ≡ a) × (true ≡ true)) ⊎ Starts (forms.branches S B) i → (i ≡ m) ⊎ (Starts (forms.branches S B) i ⊎ ((true ≡ true) × rest i m))
-          by (inl e) = inr (inr (refl, subst (λ a. rest a m) (sym e.0) n))
-          by (inr s) = inr (inl s)
 
       reach : (i m : Input) (x : Stmt × Option Stmt) → forms.Branches S B x i m → Reach i m
       reach i m (s, None) h = level.law.form.reach i m s h

@@ -1,4 +1,3 @@
 pub mod Statement
 pub mod Routine
-pub mod Laws
 pub mod Forms

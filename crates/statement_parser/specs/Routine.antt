@@ -1,5 +1,5 @@
 -- The statement part of a block, and routines, read from left to right.
-use Rattle.std.specs.Prelude.{◌≡◌, ℕ, Bool, true, false, List, []}
+use Rattle.std.specs.Prelude.{ℕ, Bool, true, false, List, []}
 use Rattle.estelle_tree.specs.declared.kind.Kind.{Kind}
 use Rattle.estelle_tree.specs.declared.kind.Kind.TheVariants as k
 use Rattle.estelle_tree.specs.declared.tree.statement.Stmts.{Stmts}
@@ -9,8 +9,6 @@ use Rattle.estelle_tree.specs.declared.tree.declaration.RoutineForm.{RoutineForm
 use Rattle.estelle_tree.specs.declared.tree.declaration.RoutineForm.TheVariants as form
 use Rattle.token_reader.specs.Reader.{Parser, ◌>>=◌, ◌>>◌, pure, refuse, peek, here, since, take, expect, name}
 use Rattle.token_reader.specs.Lists.{optional, repeated}
-use Rattle.estelle_tree.specs.Input.{Input, kind}
-use Rattle.type_parser.specs.Types.{begins_name}
 use Rattle.type_parser.specs.Definitions.{begins_formals, formals, begins_block_decl, block_decl}
 use Rattle.statement_parser.specs.Statement.{opens, stmts_over, stmt_below}
 
@@ -55,10 +53,6 @@ result true = function_result
 -- `{BlockDecl}`
 abbrev pub block_decls : ℕ → Parser (List BlockDecl)
 block_decls room = repeated (optional begins_block_decl (block_decl room)) []
-
--- neither a name nor a definition part comes, with which they could go on
-abbrev pub EndsBlockDecls : Input → Type 0
-EndsBlockDecls j = (begins_name (kind j) ≡ false) × (begins_block_decl (kind j) ≡ false)
 
 -- Routine = procedure NAME [Formals] ";" {BlockDecl} begin Stmts end ";"
 --         | function NAME [Formals] ":" NAME ";" {BlockDecl} begin Stmts end ";"

@@ -374,8 +374,5 @@ stmts room = stmts_over (stmt room)
 abbrev pub EndsWhole : Input → Type 0
 EndsWhole j = goes_on_whole (kind j) ≡ false
 
-abbrev pub EndsStmt : Input → Type 0
-EndsStmt j = goes_on_stmt (kind j) ≡ false
-
 abbrev pub EndsStmts : Input → Type 0
 EndsStmts j = goes_on_stmts (kind j) ≡ false

@@ -20,11 +20,12 @@ module _ {A B : Type 0} (ahead : Kind → Bool) (F : Form A) (G : Form B) (one :
   unless_form = let c = choice_form F G one other in record {
     whole = c.whole;
     whole_onto = c.whole_onto;
+    apart = c.apart;
+    short = c.short;
     nothing = c.nothing;
-    nothing_onto = c.nothing_onto;
+    shut = c.shut;
     starts = c.starts;
     first = c.first;
-    first_onto = c.first_onto;
     reach = c.reach;
     advances = c.advances;
     local = c.local;

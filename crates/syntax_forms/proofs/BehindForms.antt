@@ -5,7 +5,7 @@ use Rattle.estelle_tree.specs.declared.kind.Kind.{Kind}
 use Rattle.estelle_tree.specs.declared.kind.Kind.TheVariants as k
 use Rattle.estelle_tree.specs.Input.{Input, kind}
 use Rattle.estelle_tree.specs.Spelling as spelling
-use Rattle.estelle_tree.specs.Beginning.{Beginning, After, AfterOne}
+use Rattle.estelle_tree.specs.Beginning.{Beginning, Then, After, AfterOne}
 use Rattle.token_reader.specs.Reader.{Parser, pure}
 use Rattle.token_reader.specs.Lists.{behind, marked, marked_by}
 use Rattle.token_reader.proofs.Sound.{behind_sound, marked_sound}
@@ -13,6 +13,7 @@ use Rattle.token_reader.proofs.Complete.{takes_advances, sees_takes, unseen}
 use Rattle.syntax_forms.specs.Repeats as repeats
 use Rattle.syntax_forms.specs.Form.{Form}
 use Rattle.syntax_forms.specs.Kinds.{is}
+use Rattle.syntax_forms.proofs.Prefixes as prefixes
 use Rattle.syntax_forms.proofs.Local.{upto, upto_takes}
 use Rattle.syntax_forms.proofs.KindLaws.{it_is, not_is}
 use Rattle.syntax_forms.proofs.Steps.{Reached, reach_on, reached_from, last, stays}
@@ -42,11 +43,12 @@ module _ {O A : Type 0} (of : Kind → Option O) (kinds : O → Kind) (forth : (
   marked_form law = record {
     whole = λ i j x h. inr (x.0, h.at, h.mark, law.whole h.at j x.1 h.item);
     whole_onto = λ rest i m j x h n. inr (x.0, h.at, h.mark, law.whole_onto rest h.at m j x.1 h.item n);
+    apart = apart;
+    short = short;
     nothing = λ i. inl refl;
-    nothing_onto = λ rest i n. inl refl;
+    shut = prefixes.after_one kinds law.shut;
     starts = λ i m x h. inr (some x.0 i h.mark.kind);
     first = first F.begins;
-    first_onto = λ rest i m h. also (first (F.onto rest) i m h);
     reach = λ i m x h. reach_on i h.at m (1, h.mark.next) (law.reach h.at m x.1 h.item);
     advances = λ e i m x h. let a = takes_advances (kinds x.0) (token x.0) i h.at h.mark in let b = shrinks law h.at m x.1 h.item in omega arith;
     local = λ c i m x h r. record { at = upto c h.at; mark = upto_takes c (kinds x.0) i h.at (token x.0) h.mark (reach_on h.at m c (law.reach h.at m x.1 h.item) r); item = law.local c h.at m x.1 h.item r };
@@ -56,9 +58,17 @@ module _ {O A : Type 0} (of : Kind → Option O) (kinds : O → Kind) (forth : (
       first rest i m (inl e) = inl e
       first rest i m (inr t) = inr (some t.0 i t.2.kind)
 
-      also : {N : Type 0} {i m : Input} → (i ≡ m) ⊎ (is_some (of (kind i)) ≡ true) → (i ≡ m) ⊎ ((is_some (of (kind i)) ≡ true) ⊎ N)
-      also (inl e) = inl e
-      also (inr s) = inr (inl s)
+      apart : (rest : Beginning) (i m : Input) → AfterOne kinds (F.onto rest) i m → Then (AfterOne kinds F.begins) (repeats.marked of kinds F).spells rest i m
+      apart rest i m (inl e) = inl (inl e)
+      apart rest i m (inr t) = by (law.apart rest t.1 m t.3)
+        where
+          by : Then F.begins F.spells rest t.1 m → Then (AfterOne kinds F.begins) (repeats.marked of kinds F).spells rest i m
+          by (inl b) = inl (inr (t.0, t.1, t.2, b))
+          by (inr h) = inr ((t.0, h.0), h.1, record { at = t.1; mark = t.2; item = h.2 }, h.3)
+
+      short : (rest : Beginning) (i m : Input) → rest m m → AfterOne kinds F.begins i m → AfterOne kinds (F.onto rest) i m
+      short rest i m n (inl e) = inl e
+      short rest i m n (inr t) = inr (t.0, t.1, t.2, law.short rest t.1 m n t.3)
 
   module _ (p : Parser A) (law : IsLawful F p) where
     there : (i m : Input) (x : O × A) → spelling.Behind (kinds x.0) F.spells x.1 i m → Ends F m → marked of p i ≡ Ok (Some x, m)
@@ -93,11 +103,12 @@ module _ {A : Type 0} (kind' : Kind) (is_token : is kind' k.Nothing ≡ false) (
   behind_form law = record {
     whole = λ i j x h. inr (h.at, h.mark, law.whole h.at j x h.item);
     whole_onto = λ rest i m j x h n. inr (h.at, h.mark, law.whole_onto rest h.at m j x h.item n);
+    apart = apart;
+    short = short;
     nothing = λ i. inl refl;
-    nothing_onto = λ rest i n. inl refl;
+    shut = prefixes.after kind' law.shut;
     starts = λ i m x h. inr (it_is kind' (kind i) h.mark.kind);
     first = first F.begins;
-    first_onto = λ rest i m h. also (first (F.onto rest) i m h);
     reach = λ i m x h. reach_on i h.at m (1, h.mark.next) (law.reach h.at m x h.item);
     advances = λ e i m x h. let a = takes_advances kind' (not_is kind' k.Nothing is_token) i h.at h.mark in let b = shrinks law h.at m x h.item in omega arith;
     local = λ c i m x h r. record { at = upto c h.at; mark = upto_takes c kind' i h.at (not_is kind' k.Nothing is_token) h.mark (reach_on h.at m c (law.reach h.at m x h.item) r); item = law.local c h.at m x h.item r };
@@ -107,9 +118,17 @@ module _ {A : Type 0} (kind' : Kind) (is_token : is kind' k.Nothing ≡ false) (
       first rest i m (inl e) = inl e
       first rest i m (inr t) = inr (it_is kind' (kind i) t.1.kind)
 
-      also : {N : Type 0} {i m : Input} → (i ≡ m) ⊎ (is kind' (kind i) ≡ true) → (i ≡ m) ⊎ ((is kind' (kind i) ≡ true) ⊎ N)
-      also (inl e) = inl e
-      also (inr s) = inr (inl s)
+      apart : (rest : Beginning) (i m : Input) → After kind' (F.onto rest) i m → Then (After kind' F.begins) (repeats.behind kind' F).spells rest i m
+      apart rest i m (inl e) = inl (inl e)
+      apart rest i m (inr t) = by (law.apart rest t.0 m t.2)
+        where
+          by : Then F.begins F.spells rest t.0 m → Then (After kind' F.begins) (repeats.behind kind' F).spells rest i m
+          by (inl b) = inl (inr (t.0, t.1, b))
+          by (inr h) = inr (h.0, h.1, record { at = t.0; mark = t.1; item = h.2 }, h.3)
+
+      short : (rest : Beginning) (i m : Input) → rest m m → After kind' F.begins i m → After kind' (F.onto rest) i m
+      short rest i m n (inl e) = inl e
+      short rest i m n (inr t) = inr (t.0, t.1, law.short rest t.0 m n t.2)
 
   pub behind_step : (p : Parser A) → IsLawful F p → IsStep (repeats.behind kind' F) (behind kind' p)
   unfolding behind

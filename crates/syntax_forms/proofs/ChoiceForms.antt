@@ -1,11 +1,11 @@
 -- Alternatives, and forms that open a level of nesting.
-use Rattle.std.proofs.Common.{◌≡◌, ◌<◌, ℕ, zero, suc, Bool, true, false, Ok, sym, refl, ap, ◌∙◌, inl, inr, ◌⊎◌, arith}
+use Rattle.std.proofs.Common.{subst, ◌≡◌, ◌<◌, ℕ, zero, suc, Bool, true, false, Ok, sym, refl, ap, ◌∙◌, inl, inr, ◌⊎◌, arith}
 use Rattle.std.specs.Prelude.{◌==◌, if◌then◌else◌}
 use Rattle.std.proofs.lemmas.Bool.{ne_eqb}
 use Rattle.estelle_tree.specs.declared.kind.Kind.{Kind}
 use Rattle.estelle_tree.specs.declared.kind.Kind.TheVariants as k
 use Rattle.estelle_tree.specs.Input.{Input, kind, next, left}
-use Rattle.estelle_tree.specs.Beginning.{Beginning, ◌or◌, Opens}
+use Rattle.estelle_tree.specs.Beginning.{Beginning, ◌or◌, Then, Opens}
 use Rattle.token_reader.specs.Reader.{Parser, expect, refuse, ◌>>=◌}
 use Rattle.token_reader.proofs.Sound.{through, expect_sound}
 use Rattle.token_reader.proofs.Complete.{takes_advances, expect_complete, unseen}
@@ -15,12 +15,14 @@ use Rattle.syntax_forms.specs.Reading.{Reading, opening, levelled, chosen, choos
 use Rattle.syntax_forms.specs.Onward.{Below, IsOnward}
 use Rattle.syntax_forms.specs.Placed.{Placed}
 use Rattle.syntax_forms.specs.Places.{Reach}
+use Rattle.estelle_tree.proofs.Cuts.{past}
+use Rattle.syntax_forms.proofs.Prefixes as prefixes
 use Rattle.syntax_forms.proofs.Local.{upto, upto_takes}
 use Rattle.syntax_forms.proofs.Firsts.{First}
 use Rattle.syntax_forms.proofs.KindLaws.{it_is, not_is, neither, or_left, or_right, when, apart}
 use Rattle.syntax_forms.proofs.Steps.{Reached, reach_on, exact, step, expects, refuses}
 use Rattle.syntax_forms.proofs.Placing.{left_of, right_of, opened, expected, no_room}
-use Rattle.syntax_forms.proofs.Lawful.{shrinks, IsForm, IsLast, IsRead, Starts, Ends, Got, Keeps}
+use Rattle.syntax_forms.proofs.Lawful.{first_onto, shrinks, IsForm, IsLast, IsRead, Starts, Ends, Got, Keeps}
 
 -- ---- the one or the other
 
@@ -37,11 +39,12 @@ module _ {A B : Type 0} (F : Form A) (G : Form B) (one : IsForm F) (other : IsFo
   choice_form = record {
     whole = whole;
     whole_onto = onto;
+    apart = apart;
+    short = short;
     nothing = λ i. inl (one.nothing i);
-    nothing_onto = λ next i n. inl (one.nothing_onto next i n);
+    shut = prefixes.choice one.shut other.shut;
     starts = starts;
     first = first;
-    first_onto = first_onto;
     reach = reach;
     advances = advances;
     local = local;
@@ -71,19 +74,21 @@ module _ {A B : Type 0} (F : Form A) (G : Form B) (one : IsForm F) (other : IsFo
           by (inl e) = inl e
           by (inr s) = inr (or_right (F.first (kind i)) _ s)
 
-      first_onto : (next : Beginning) (i m : Input) → (F.onto next or G.onto next) i m → (i ≡ m) ⊎ (Starts (F ⊕ G) i ⊎ (((F ⊕ G).empty ≡ true) × next i m))
-      first_onto next i m (inl b) = by (one.first_onto next i m b)
-        where
-          by : (i ≡ m) ⊎ (Starts F i ⊎ ((F.empty ≡ true) × next i m)) → (i ≡ m) ⊎ (Starts (F ⊕ G) i ⊎ (((F ⊕ G).empty ≡ true) × next i m))
-          by (inl e) = inl e
-          by (inr (inl s)) = inr (inl (or_left (F.first (kind i)) _ s))
-          by (inr (inr n)) = inr (inr (or_left F.empty _ n.0, n.1))
-      first_onto next i m (inr b) = by (other.first_onto next i m b)
-        where
-          by : (i ≡ m) ⊎ (Starts G i ⊎ ((G.empty ≡ true) × next i m)) → (i ≡ m) ⊎ (Starts (F ⊕ G) i ⊎ (((F ⊕ G).empty ≡ true) × next i m))
-          by (inl e) = inl e
-          by (inr (inl s)) = inr (inl (or_right (F.first (kind i)) _ s))
-          by (inr (inr n)) = inr (inr (or_right F.empty _ n.0, n.1))
+      of_one : (next : Beginning) (i m : Input) → Then F.begins F.spells next i m → Then (F ⊕ G).begins (F ⊕ G).spells next i m
+      of_one next i m (inl b) = inl (inl b)
+      of_one next i m (inr h) = inr (inl h.0, h.1, h.2, h.3)
+
+      of_other : (next : Beginning) (i m : Input) → Then G.begins G.spells next i m → Then (F ⊕ G).begins (F ⊕ G).spells next i m
+      of_other next i m (inl b) = inl (inr b)
+      of_other next i m (inr h) = inr (inr h.0, h.1, h.2, h.3)
+
+      apart : (next : Beginning) (i m : Input) → (F.onto next or G.onto next) i m → Then (F ⊕ G).begins (F ⊕ G).spells next i m
+      apart next i m (inl b) = of_one next i m (one.apart next i m b)
+      apart next i m (inr b) = of_other next i m (other.apart next i m b)
+
+      short : (next : Beginning) (i m : Input) → next m m → (F ⊕ G).begins i m → (F ⊕ G).onto next i m
+      short next i m n (inl b) = inl (one.short next i m n b)
+      short next i m n (inr b) = inr (other.short next i m n b)
 
       reach : (i j : Input) (x : A ⊎ B) → Either F.spells G.spells x i j → Reach i j
       reach i j (inl x) h = one.reach i j x h
@@ -200,8 +205,8 @@ module _ {A B : Type 0} (F : Form A) (G : Form B) (one : IsForm F) (other : IsFo
             no_more some m (inr (inr n)) = absurd (let no : true ≡ false = sym n.0 ∙ some in cc)
 
             by : (b : Bool) → F.first (kind i) ≡ b → Placed (F.onto next or G.onto next) i (chosen b (s C (λ x. f (inl x))) (t C (λ y. f (inr y))) i)
-            by true e = left_of (F.onto next) (G.onto next) i _ (first.goes C _ next blank (λ i m n. fore i m (ends i m n)) (λ x. more (inl x)) i) (λ m h. no_other i m e (no_more (neither F.empty _ some).1 m (other.first_onto next i m h)))
-            by false e = right_of (F.onto next) (G.onto next) i _ (second.goes C _ next blank (λ i m n. back i m (ends i m n)) (λ y. more (inr y)) i) (λ m h. no_one i m e (no_next (neither F.empty _ some).0 m (one.first_onto next i m h)))
+            by true e = left_of (F.onto next) (G.onto next) i _ (first.goes C _ next blank (λ i m n. fore i m (ends i m n)) (λ x. more (inl x)) i) (λ m h. no_other i m e (no_more (neither F.empty _ some).1 m (first_onto other next i m h)))
+            by false e = right_of (F.onto next) (G.onto next) i _ (second.goes C _ next blank (λ i m n. back i m (ends i m n)) (λ y. more (inr y)) i) (λ m h. no_one i m e (no_next (neither F.empty _ some).0 m (first_onto one next i m h)))
 
 -- ---- `k x`, where k opens a level of nesting
 
@@ -217,11 +222,12 @@ module _ {A : Type 0} (room : ℕ) (kind' : Kind) (F : Form A) (form : IsForm F)
   level_form is_token = record {
     whole = λ i j x h. inr (h.0, (h.1.0, h.1.1, form.whole h.1.0 j x h.1.2));
     whole_onto = λ next i m j x h n. inr (h.0, (h.1.0, h.1.1, form.whole_onto next h.1.0 m j x h.1.2 n));
+    apart = apart;
+    short = short;
     nothing = λ i. inl refl;
-    nothing_onto = λ next i n. inl refl;
+    shut = prefixes.opens room kind' form.shut;
     starts = λ i m x h. inr (it_is kind' (kind i) h.1.1.kind);
     first = λ i m h. first F.begins i m h;
-    first_onto = λ next i m h. onto i m (first (F.onto next) i m h);
     reach = λ i m x h. reach_on i h.1.0 m (1, h.1.1.next) (form.reach h.1.0 m x h.1.2);
     local = λ c i m x h r. (h.0, (upto c h.1.0, upto_takes c kind' i h.1.0 (not_is kind' k.Nothing is_token) h.1.1 (reach_on h.1.0 m c (form.reach h.1.0 m x h.1.2) r), form.local c h.1.0 m x h.1.2 r));
     advances = λ e i m x h. let a = takes_advances kind' (not_is kind' k.Nothing is_token) i h.1.0 h.1.1 in let b = shrinks form h.1.0 m x h.1.2 in omega arith;
@@ -231,9 +237,17 @@ module _ {A : Type 0} (room : ℕ) (kind' : Kind) (F : Form A) (form : IsForm F)
       first rest i m (inl e) = inl e
       first rest i m (inr h) = inr (it_is kind' (kind i) h.1.1.kind)
 
-      onto : {N : Type 0} (i m : Input) → (i ≡ m) ⊎ (is kind' (kind i) ≡ true) → (i ≡ m) ⊎ ((is kind' (kind i) ≡ true) ⊎ N)
-      onto i m (inl e) = inl e
-      onto i m (inr s) = inr (inl s)
+      apart : (next : Beginning) (i m : Input) → Opens room kind' (F.onto next) i m → Then (Opens room kind' F.begins) (level room kind' F).spells next i m
+      apart next i m (inl e) = inl (inl e)
+      apart next i m (inr h) = by (form.apart next h.1.0 m h.1.2)
+        where
+          by : Then F.begins F.spells next h.1.0 m → Then (Opens room kind' F.begins) (level room kind' F).spells next i m
+          by (inl b) = inl (inr (h.0, (h.1.0, h.1.1, b)))
+          by (inr r) = inr (r.0, r.1, (h.0, (h.1.0, h.1.1, r.2)), r.3)
+
+      short : (next : Beginning) (i m : Input) → next m m → Opens room kind' F.begins i m → Opens room kind' (F.onto next) i m
+      short next i m n (inl e) = inl e
+      short next i m n (inr h) = inr (h.0, (h.1.0, h.1.1, form.short next h.1.0 m n h.1.2))
 
   module _ (s : Reading A) (is_token : is kind' k.Nothing ≡ false) where
     levels : (C : Type 0) (f : A → Parser C) (rest : Beginning) → ((i : Input) → Placed rest i (s C f i)) → (i : Input) → Placed (Opens room kind' rest) i (levelled room kind' s C f i)
@@ -277,11 +291,12 @@ level_never kind' F s = record {
   form = record {
     whole = λ i j x h. absurd (none h.0);
     whole_onto = λ next i m j x h n. absurd (none h.0);
+    apart = λ next i m b. inl (inl (first (F.onto next) i m b));
+    short = λ next i m n b. inl (first F.begins i m b);
     nothing = λ i. inl refl;
-    nothing_onto = λ next i n. inl refl;
+    shut = λ i j c b r. past (subst (λ i. Reach i c) (first F.begins i j b) r);
     starts = λ i m x h. absurd (none h.0);
     first = λ i m b. inl (first F.begins i m b);
-    first_onto = λ next i m b. inl (first (F.onto next) i m b);
     reach = λ i m x h. absurd (none h.0);
     advances = λ e i m x h. absurd (none h.0);
     local = λ c i m x h r. absurd (none h.0);

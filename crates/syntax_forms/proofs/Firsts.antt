@@ -5,7 +5,7 @@ use Rattle.estelle_tree.specs.Input.{Input, kind, left}
 use Rattle.estelle_tree.specs.Spelling.{Spelling, Chain}
 use Rattle.estelle_tree.specs.Beginning.{Beginning, Nothing, ◌or◌, Then, After, AfterOne, OneToken, Opens, Many}
 use Rattle.token_reader.specs.declared.error.ReadError.TheVariants.{Refused, Memory}
-use Rattle.token_reader.specs.Reader.{Parser, ReadResult, and_then}
+use Rattle.token_reader.specs.Reader.{Parser, ReadResult, and_then, pure}
 use Rattle.syntax_forms.specs.Places.{Reach}
 use Rattle.syntax_forms.specs.Onward.{Below}
 use Rattle.syntax_forms.specs.Placed.{stop, Begun}
@@ -47,6 +47,25 @@ refused_by (Err Memory) f l h first second = absurd (cc)
 pub in_a_row : {A C D : Type 0} (o : ReadResult A) (f : A → Parser C) (g : C → Parser D) → and_then o (λ x a. and_then (f x a) g) ≡ and_then (and_then o f) g
 in_a_row (Ok p) f g = refl
 in_a_row (Err e) f g = refl
+
+-- what comes next answers the same
+pub alike : {A C : Type 0} (o : ReadResult A) (f g : A → Parser C) → ((x : A) (a : Input) → f x a ≡ g x a) → and_then o f ≡ and_then o g
+alike (Ok p) f g same = same p.0 p.1
+alike (Err e) f g same = refl
+
+-- and the same of what is read
+pub alike_where : {A C : Type 0} (o : ReadResult A) (f g : A → Parser C) → ((x : A) (a : Input) → o ≡ Ok (x, a) → f x a ≡ g x a) → and_then o f ≡ and_then o g
+alike_where (Ok p) f g same = same p.0 p.1 refl
+alike_where (Err e) f g same = refl
+
+-- steps in a row are a first step and the rest
+pub regrouped : {A B C : Type 0} (o : ReadResult A) (f : A → Parser B) (g : B → Parser C) (h : A → Parser C) → ((x : A) (a : Input) → and_then (f x a) g ≡ h x a) → and_then (and_then o f) g ≡ and_then o h
+regrouped o f g h same = sym (in_a_row o f g) ∙ alike o (λ x a. and_then (f x a) g) h same
+
+-- what is read and kept as it is
+pub kept : {A : Type 0} (o : ReadResult A) → o ≡ and_then o (λ x. pure x)
+kept (Ok p) = refl
+kept (Err e) = refl
 
 -- ---- what begins
 

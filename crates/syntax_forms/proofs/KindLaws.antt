@@ -115,3 +115,21 @@ back_of {O} of kinds told x o e = by (told x)
     by : (of x ≡ None) ⊎ ((o : O) × (of x ≡ Some o) × (x ≡ kinds o)) → x ≡ kinds o
     by (inl n) = absurd (let no : None ≡ Some o = sym n ∙ e in cc)
     by (inr t) = t.2 ∙ ap kinds (let same : Some t.0 ≡ Some o = sym t.1 ∙ e in cc)
+
+-- what holds of each terminal is computed over all of them
+pub all_of : (test : Kind → Bool) → ((x : Kind) → test x ≡ true) → of_all test ≡ true
+all_of test holds = go kinds
+  where
+    go : (ks : List Kind) → list_all test ks ≡ true
+    go [] = refl
+    go (x ∷ ks) = rw (holds x) (go ks)
+
+-- what agrees on all terminals agrees on each
+pub agree : (p q : Kind → Bool) → of_all (λ x. (p x && q x) || not (p x || q x)) ≡ true → (x : Kind) → p x ≡ q x
+agree p q all x = by (p x) (q x) (each (λ x. (p x && q x) || not (p x || q x)) all x)
+  where
+    by : (a b : Bool) → ((a && b) || not (a || b)) ≡ true → a ≡ b
+    by true true e = refl
+    by false false e = refl
+    by true false e = absurd (cc)
+    by false true e = absurd (cc)

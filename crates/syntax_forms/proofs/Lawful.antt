@@ -1,8 +1,8 @@
 -- The laws of a form and of a parser of it.
-use Rattle.std.proofs.Common.{◌≡◌, ◌<◌, true, false, Ok, sym, ◌∙◌, inl, inr, ◌⊎◌}
+use Rattle.std.proofs.Common.{◌≡◌, ◌<◌, true, false, Ok, sym, ◌∙◌, subst, inl, inr, ◌⊎◌}
 use Rattle.estelle_tree.specs.Input.{Input, kind, left}
 use Rattle.estelle_tree.specs.Spelling.{Spelling}
-use Rattle.estelle_tree.specs.Beginning.{Beginning}
+use Rattle.estelle_tree.specs.Beginning.{Beginning, Then}
 use Rattle.token_reader.specs.Reader.{Parser}
 use Rattle.token_reader.proofs.Sound.{Sound}
 use Rattle.token_reader.proofs.Complete as reader
@@ -16,6 +16,8 @@ use Rattle.syntax_forms.specs.Places.{Reach}
 use Rattle.syntax_forms.proofs.Local.{upto, reach_left}
 use Rattle.syntax_forms.proofs.Firsts.{First}
 use Rattle.syntax_forms.proofs.Steps.{Reached, Reaches}
+use Rattle.syntax_forms.proofs.Prefixes as prefixes
+use Rattle.syntax_forms.proofs.Prefixes.{Shut}
 
 -- nothing that comes next goes on with it
 abbrev pub Ends : {A : Type 0} → Form A → reader.After
@@ -31,21 +33,47 @@ Follows F G = Apart F.on G.first
 
 -- laws of the form alone
 pub record IsForm {A : Type 0} (F : Form A) : Type 1 where
-  -- what is spelled so also begins it, and with what comes next the two
+  -- what is spelled so also begins it
   pub whole : (i j : Input) (x : A) → F.spells x i j → F.begins i j
-  pub whole_onto : (next : Beginning) (i m j : Input) (x : A) → F.spells x i m → next m j → F.onto next i j
   -- the empty piece begins it
   pub nothing : (i : Input) → F.begins i i
-  pub nothing_onto : (next : Beginning) (i : Input) → next i i → F.onto next i i
   -- its first terminal
   pub starts : (i m : Input) (x : A) → F.spells x i m → ((i ≡ m) × (F.empty ≡ true)) ⊎ Starts F i
   pub first : First F.begins (Starts F)
-  pub first_onto : (next : Beginning) (i m : Input) → F.onto next i m → (i ≡ m) ⊎ (Starts F i ⊎ ((F.empty ≡ true) × next i m))
   -- it ends at the place where it begins or behind it
   pub reach : (i m : Input) (x : A) → F.spells x i m → Reach i m
   pub advances : F.empty ≡ false → (i m : Input) (x : A) → F.spells x i m → left m < left i
+  -- each prefix of what begins it begins it
+  pub shut : Shut F.begins
   -- what stands behind it is nothing to it
   pub local : (c i m : Input) (x : A) → F.spells x i m → Reach m c → F.spells x (upto c i) (upto c m)
+  -- it and what comes next are begun by what begins it, and by what spells it with what begins that
+  pub apart : (next : Beginning) (i m : Input) → F.onto next i m → Then F.begins F.spells next i m
+  pub short : (next : Beginning) (i m : Input) → next m m → F.begins i m → F.onto next i m
+  pub whole_onto : (next : Beginning) (i m j : Input) (x : A) → F.spells x i m → next m j → F.onto next i j
+
+module _ {A : Type 0} {F : Form A} (law : IsForm F) (next : Beginning) where
+  pub first_onto : (i m : Input) → F.onto next i m → (i ≡ m) ⊎ (Starts F i ⊎ ((F.empty ≡ true) × next i m))
+  first_onto i m b = by (law.apart next i m b)
+    where
+      begun : (i ≡ m) ⊎ Starts F i → (i ≡ m) ⊎ (Starts F i ⊎ ((F.empty ≡ true) × next i m))
+      begun (inl e) = inl e
+      begun (inr s) = inr (inl s)
+
+      spelled : (a : Input) → next a m → ((i ≡ a) × (F.empty ≡ true)) ⊎ Starts F i → (i ≡ m) ⊎ (Starts F i ⊎ ((F.empty ≡ true) × next i m))
+      spelled a n (inl e) = inr (inr (e.1, subst (λ a. next a m) (sym e.0) n))
+      spelled a n (inr s) = inr (inl s)
+
+      by : Then F.begins F.spells next i m → (i ≡ m) ⊎ (Starts F i ⊎ ((F.empty ≡ true) × next i m))
+      by (inl b) = begun (law.first i m b)
+      by (inr h) = spelled h.1 h.3 (law.starts i h.1 h.0 h.2)
+
+  pub from_then : ((j : Input) → next j j) → (i m : Input) → Then F.begins F.spells next i m → F.onto next i m
+  from_then blank i m (inl b) = law.short next i m (blank m) b
+  from_then blank i m (inr h) = law.whole_onto next i h.1 m h.0 h.2 h.3
+
+  pub shut_onto : ((j : Input) → next j j) → Shut next → Shut (F.onto next)
+  shut_onto blank rest = prefixes.alike (from_then blank) (law.apart next) (prefixes.part law.whole law.shut rest)
 
 -- what is not spelled by nothing begins with one of the terminals
 pub begins_so : {A : Type 0} (F : Form A) → IsForm F → F.empty ≡ false → (i m : Input) (x : A) → F.spells x i m → Starts F i

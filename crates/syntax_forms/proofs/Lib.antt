@@ -6,12 +6,14 @@ pub mod Listing
 pub mod Tokens
 pub mod KindLaws
 pub mod Lawful
+pub mod Words
 pub mod TokenForms
 pub mod RowForms
 pub mod MarkForms
 pub mod ChoiceForms
 pub mod NodeForms
 pub mod ListForms
+pub mod WholeForms
 pub mod AheadForms
 pub mod SeveralForms
 pub mod StepForms
@@ -20,3 +22,6 @@ pub mod Rules
 pub mod Local
 pub mod ToldForms
 pub mod Signs
+pub mod Beginnings
+pub mod Prefixes
+pub mod Numbers

@@ -6,7 +6,7 @@ use Rattle.estelle_tree.specs.declared.kind.Kind.TheVariants as k
 use Rattle.estelle_tree.specs.Input.{Input, kind, next, left}
 use Rattle.estelle_tree.specs.Spelling as spelling
 use Rattle.estelle_tree.specs.Spelling.{Spelling, Takes, Chain, Separated, Flag}
-use Rattle.estelle_tree.specs.Beginning.{Beginning, Nothing, After, OneToken, MayBe, Separating}
+use Rattle.estelle_tree.specs.Beginning.{Beginning, Nothing, Then, After, OneToken, MayBe, Separating}
 use Rattle.token_reader.specs.Reader.{Parser, ReadResult, and_then, pure, sees, after, take, eat, ◌>>◌}
 use Rattle.token_reader.specs.Lists.{optional_if, behind_if, first_and, separated, separated_if}
 use Rattle.token_reader.proofs.Sound.{through, seen_is, eat_sound, separated_sound, separated_if_sound}
@@ -44,11 +44,12 @@ module _ {A : Type 0} (kind' : Kind) (F : Form A) (law : IsForm F) (is_token : i
   separated_form = record {
     whole = whole;
     whole_onto = whole_onto;
+    apart = apart;
+    short = parts.short;
     nothing = parts.nothing;
-    nothing_onto = parts.nothing_onto;
+    shut = parts.shut;
     starts = starts;
     first = parts.first;
-    first_onto = parts.first_onto;
     reach = reach;
     advances = advances;
     local = local;
@@ -61,6 +62,13 @@ module _ {A : Type 0} (kind' : Kind) (F : Form A) (law : IsForm F) (is_token : i
       whole_onto : (next : Beginning) (i m j : Input) (xs : List A) → Separated kind' F.spells xs i m → next m j → Separating kind' F.begins F.spells next i j
       whole_onto next i m j [] h n = absurd h
       whole_onto next i m j (x ∷ xs) h n = parts.whole_onto next i m j (x, xs) h n
+
+      apart : (next : Beginning) (i m : Input) → Separating kind' F.begins F.spells next i m → Then (Separating kind' F.begins F.spells Nothing) (Separated kind' F.spells) next i m
+      apart next i m b = by (parts.apart next i m b)
+        where
+          by : Then (Separating kind' F.begins F.spells Nothing) (form.part F ▸ many (behind kind' F)).spells next i m → Then (Separating kind' F.begins F.spells Nothing) (Separated kind' F.spells) next i m
+          by (inl b) = inl b
+          by (inr h) = inr (h.0.0 ∷ h.0.1, h.1, h.2, h.3)
 
       starts : (i m : Input) (xs : List A) → Separated kind' F.spells xs i m → ((i ≡ m) × ((F.empty && true) ≡ true)) ⊎ Starts (form.separated kind' F) i
       starts i m [] h = absurd h

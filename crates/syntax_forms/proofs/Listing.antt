@@ -5,14 +5,14 @@ use Rattle.estelle_tree.specs.declared.kind.Kind.{Kind}
 use Rattle.estelle_tree.specs.declared.kind.Kind.TheVariants as k
 use Rattle.estelle_tree.specs.Input.{Input, kind, next, left}
 use Rattle.estelle_tree.specs.Spelling as spelling
-use Rattle.estelle_tree.specs.Spelling.{Spelling, Takes, Chain, Separated}
+use Rattle.estelle_tree.specs.Spelling.{Spelling, Chain, Separated}
 use Rattle.estelle_tree.specs.Beginning.{Beginning, ◌or◌, Then, After, Many, Some as Several, Separating}
 use Rattle.token_reader.specs.declared.error.ReadError.TheVariants.{Refused}
 use Rattle.token_reader.specs.Reader.{Parser, ReadResult, and_then, sees, take, ◌>>◌}
 use Rattle.token_reader.specs.Lists.{optional, optional_if, behind, behind_if, turn, repeated_from, repeated, first_and, separated, separated_if, several}
 use Rattle.token_reader.proofs.Sound.{Sound, seen_is, optional_sound, behind_sound, behind_if_sound}
 use Rattle.token_reader.proofs.Complete as reader
-use Rattle.token_reader.proofs.Complete.{Complete, Advances, Shrinks, Anything, sees_takes, unseen, behind_advances, optional_complete, behind_complete, behind_if_complete, ended_complete}
+use Rattle.token_reader.proofs.Complete.{Advances, Shrinks, sees_takes, behind_advances, optional_complete, behind_complete, behind_if_complete}
 use Rattle.syntax_forms.specs.Onward.{Below, IsOnward}
 use Rattle.syntax_forms.specs.Placed.{stop, Begun, Placed}
 use Rattle.syntax_forms.proofs.Steps.{reads_on}

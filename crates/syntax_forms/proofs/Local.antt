@@ -9,7 +9,7 @@ use Rattle.estelle_tree.specs.declared.token.Placed.{Placed}
 use Rattle.estelle_tree.specs.Input.{Input, input, skip, kind, next, left, start, token_at, between, over, first_kind, first_token, first_start, after_first}
 use Rattle.estelle_tree.specs.Spelling.{Takes}
 use Rattle.estelle_tree.specs.Spans.{nowhere}
-use Rattle.token_reader.proofs.Complete.{next_left, next_left_more}
+use Rattle.token_reader.proofs.Complete.{empty_kind, next_left, next_left_more}
 use Rattle.syntax_forms.specs.Places.{Reach}
 
 -- the tokens from here to there, and no more
@@ -96,3 +96,14 @@ upto_over c i m r q = by (left i == left m) refl
         let there : (left (upto c i) == left (upto c m)) ≡ false = ne_eqb (left (upto c i)) (left (upto c m)) (λ s. differ (omega (arith, s, one, two, inside, more))) in
         let less : left c < left i = omega (arith, inside, more) in
         rw (e, there) (upto_span c i m less)
+
+-- what ends at a place ends at the end of the tokens before it
+pub ends_upto : (on : Kind → Bool) → on k.Nothing ≡ false → (c m : Input) → Reach m c → on (kind m) ≡ false → on (kind (upto c m)) ≡ false
+ends_upto on none c m r end = by (left m == left c) refl
+  where
+    le : left c ≤ left m
+    le = reach_left m c r
+
+    by : (b : Bool) → (left m == left c) ≡ b → on (kind (upto c m)) ≡ false
+    by true e = let same : left m ≡ left c = eqb-true (left m) (left c) e in let count = upto_left c m le in ap on (empty_kind (upto c m) (omega (arith, same, count))) ∙ none
+    by false e = let differ : left m ≡ left c → ⊥ = eqb-false (left m) (left c) e in ap on (upto_kind c m (omega (arith, le, differ))) ∙ end

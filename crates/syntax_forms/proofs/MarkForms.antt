@@ -6,7 +6,7 @@ use Rattle.estelle_tree.specs.declared.kind.Kind.{Kind}
 use Rattle.estelle_tree.specs.declared.kind.Kind.TheVariants as k
 use Rattle.estelle_tree.specs.Input.{Input, kind, next, left}
 use Rattle.estelle_tree.specs.Spelling.{Takes, Flag, Mark}
-use Rattle.estelle_tree.specs.Beginning.{Beginning, Nothing, AfterOne, OneToken, MayBe, MayBeOne}
+use Rattle.estelle_tree.specs.Beginning.{Beginning, Nothing, Then, AfterOne, OneToken, MayBe, MayBeOne}
 use Rattle.token_reader.specs.Reader.{Parser, ReadResult, and_then, eat, pure, refuse, sees, after}
 use Rattle.token_reader.specs.Lists.{mark, taking}
 use Rattle.token_reader.proofs.Sound.{seen_is, through, eat_sound, mark_sound}
@@ -17,6 +17,7 @@ use Rattle.syntax_forms.specs.Reading.{one}
 use Rattle.syntax_forms.specs.Onward.{Below, IsOnward}
 use Rattle.syntax_forms.specs.Placed.{Placed}
 use Rattle.syntax_forms.specs.Places.{Reach}
+use Rattle.syntax_forms.proofs.Prefixes as prefixes
 use Rattle.syntax_forms.proofs.Local.{upto, upto_takes}
 use Rattle.syntax_forms.proofs.Firsts.{First, first_nothing}
 use Rattle.syntax_forms.proofs.KindLaws.{it_is, not_is}
@@ -32,11 +33,12 @@ module _ (kind' : Kind) where
   flag_form is_token = record {
     whole = whole;
     whole_onto = onto;
+    apart = apart;
+    short = short;
     nothing = λ i. inl refl;
-    nothing_onto = λ next i n. inl n;
+    shut = prefixes.token kind';
     starts = starts;
     first = first;
-    first_onto = first_onto;
     reach = reach;
     local = local;
     advances = λ e. absurd (let no : true ≡ false = e in cc);
@@ -58,10 +60,14 @@ module _ (kind' : Kind) where
       first i m (inl e) = inl e
       first i m (inr t) = inr (it_is kind' (kind i) t.kind)
 
-      first_onto : (next : Beginning) (i m : Input) → MayBe kind' next i m → (i ≡ m) ⊎ ((is kind' (kind i) ≡ true) ⊎ ((true ≡ true) × next i m))
-      first_onto next i m (inl n) = inr (inr (refl, n))
-      first_onto next i m (inr (inl e)) = inl e
-      first_onto next i m (inr (inr t)) = inr (inl (it_is kind' (kind i) t.1.kind))
+      apart : (next : Beginning) (i m : Input) → MayBe kind' next i m → Then (OneToken kind') (Flag kind') next i m
+      apart next i m (inl n) = inr (false, i, refl, n)
+      apart next i m (inr (inl e)) = inl (inl e)
+      apart next i m (inr (inr t)) = inr (true, t.0, t.1, t.2)
+
+      short : (next : Beginning) (i m : Input) → next m m → OneToken kind' i m → MayBe kind' next i m
+      short next i m n (inl e) = inr (inl e)
+      short next i m n (inr t) = inr (inr (m, t, n))
 
       reach : (i j : Input) (b : Bool) → Flag kind' b i j → Reach i j
       reach i j false e = (0, e)
@@ -122,11 +128,12 @@ module _ {O : Type 0} (of : Kind → Option O) (kinds : O → Kind) (forth : (o 
   mark_form is_token = record {
     whole = λ i j o h. onto Nothing i j j o h refl;
     whole_onto = onto;
+    apart = apart;
+    short = short;
     nothing = λ i. inl refl;
-    nothing_onto = λ next i n. inl n;
+    shut = prefixes.choice prefixes.nothing (prefixes.after_one kinds prefixes.nothing);
     starts = starts;
-    first = λ i m h. alone i m (first_onto Nothing i m h);
-    first_onto = first_onto;
+    first = first;
     reach = reach;
     local = local;
     advances = λ e. absurd (let no : true ≡ false = e in cc);
@@ -140,15 +147,20 @@ module _ {O : Type 0} (of : Kind → Option O) (kinds : O → Kind) (forth : (o 
       starts i m None e = inl (e, refl)
       starts i m (Some o) t = inr (some o i t.kind)
 
-      first_onto : (next : Beginning) (i m : Input) → MayBeOne kinds next i m → (i ≡ m) ⊎ ((is_some (of (kind i)) ≡ true) ⊎ ((true ≡ true) × next i m))
-      first_onto next i m (inl n) = inr (inr (refl, n))
-      first_onto next i m (inr (inl e)) = inl e
-      first_onto next i m (inr (inr t)) = inr (inl (some t.0 i t.2.kind))
+      first : (i m : Input) → MayBeOne kinds Nothing i m → (i ≡ m) ⊎ (is_some (of (kind i)) ≡ true)
+      first i m (inl e) = inl e
+      first i m (inr (inl e)) = inl e
+      first i m (inr (inr t)) = inr (some t.0 i t.2.kind)
 
-      alone : (i m : Input) → (i ≡ m) ⊎ ((is_some (of (kind i)) ≡ true) ⊎ ((true ≡ true) × (i ≡ m))) → (i ≡ m) ⊎ (is_some (of (kind i)) ≡ true)
-      alone i m (inl e) = inl e
-      alone i m (inr (inl s)) = inr s
-      alone i m (inr (inr n)) = inl n.1
+      apart : (next : Beginning) (i m : Input) → MayBeOne kinds next i m → Then (MayBeOne kinds Nothing) (Mark kinds) next i m
+      apart next i m (inl n) = inr (None, i, refl, n)
+      apart next i m (inr (inl e)) = inl (inl e)
+      apart next i m (inr (inr t)) = inr (Some t.0, t.1, t.2, t.3)
+
+      short : (next : Beginning) (i m : Input) → next m m → MayBeOne kinds Nothing i m → MayBeOne kinds next i m
+      short next i m n (inl e) = inr (inl e)
+      short next i m n (inr (inl e)) = inr (inl e)
+      short next i m n (inr (inr t)) = inr (inr (t.0, t.1, t.2, subst (λ a. next a m) (sym t.3) n))
 
       reach : (i j : Input) (o : Option O) → Mark kinds o i j → Reach i j
       reach i j None e = (0, e)
@@ -200,24 +212,28 @@ module _ {O : Type 0} (of : Kind → Option O) (kinds : O → Kind) (forth : (o 
   one_of_form = record {
     whole = λ i j o t. inr (o, j, t, refl);
     whole_onto = λ next i m j o t n. inr (o, m, t, n);
+    apart = apart;
+    short = short;
     nothing = λ i. inl refl;
-    nothing_onto = λ next i n. inl refl;
+    shut = prefixes.after_one kinds prefixes.nothing;
     starts = λ i m o t. inr (some of kinds forth back o i t.kind);
-    first = λ i m b. alone i m (first_onto Nothing i m b);
-    first_onto = first_onto;
+    first = first;
     reach = λ i m o t. (1, t.next);
     advances = λ e i m o t. takes_advances (kinds o) (one_token o) i m t;
     local = λ c i m o t r. upto_takes c (kinds o) i m (one_token o) t r;
   }
     where
-      first_onto : (next : Beginning) (i m : Input) → AfterOne kinds next i m → (i ≡ m) ⊎ ((is_some (of (kind i)) ≡ true) ⊎ ((false ≡ true) × next i m))
-      first_onto next i m (inl e) = inl e
-      first_onto next i m (inr t) = inr (inl (some of kinds forth back t.0 i t.2.kind))
+      first : (i m : Input) → AfterOne kinds Nothing i m → (i ≡ m) ⊎ (is_some (of (kind i)) ≡ true)
+      first i m (inl e) = inl e
+      first i m (inr t) = inr (some of kinds forth back t.0 i t.2.kind)
 
-      alone : (i m : Input) → (i ≡ m) ⊎ ((is_some (of (kind i)) ≡ true) ⊎ ((false ≡ true) × (i ≡ m))) → (i ≡ m) ⊎ (is_some (of (kind i)) ≡ true)
-      alone i m (inl e) = inl e
-      alone i m (inr (inl s)) = inr s
-      alone i m (inr (inr n)) = inl n.1
+      apart : (next : Beginning) (i m : Input) → AfterOne kinds next i m → Then (AfterOne kinds Nothing) (λ o. Takes (kinds o)) next i m
+      apart next i m (inl e) = inl (inl e)
+      apart next i m (inr t) = inr t
+
+      short : (next : Beginning) (i m : Input) → next m m → AfterOne kinds Nothing i m → AfterOne kinds next i m
+      short next i m n (inl e) = inl e
+      short next i m n (inr t) = inr (t.0, t.1, t.2, subst (λ a. next a m) (sym t.3) n)
 
   -- what a parser of them does
   module _ (p : Parser O) (there : (o : O) (i : Input) → kind i ≡ kinds o → p i ≡ Ok (o, next i)) (other : (i : Input) → of (kind i) ≡ None → p i ≡ refuse i) where

@@ -1,11 +1,11 @@
 -- Nodes, which are made of their parts and their span, and nodes as parts.
-use Rattle.std.proofs.Common.{◌≡◌, Bool, true, Ok, Err, sym, refl, ap, ◌∙◌, subst, inl, inr, ◌⊎◌}
+use Rattle.std.proofs.Common.{◌≡◌, ◌<◌, Bool, true, false, Ok, Err, sym, refl, ap, ◌∙◌, subst, inl, inr, ◌⊎◌}
 use Rattle.std.specs.Prelude.{not, ◌||◌}
 use Rattle.estelle_tree.specs.declared.kind.Kind.{Kind}
 use Rattle.estelle_tree.specs.declared.span.Span.{Span}
-use Rattle.estelle_tree.specs.Input.{Input, kind, next, between}
+use Rattle.estelle_tree.specs.Input.{Input, kind, next, left, between}
 use Rattle.estelle_tree.specs.Spelling.{Spelling}
-use Rattle.estelle_tree.specs.Beginning.{Beginning, Nothing, Then}
+use Rattle.estelle_tree.specs.Beginning.{Beginning, Nothing}
 use Rattle.token_reader.specs.Reader.{Parser, ReadResult, and_then, refuse, refusal}
 use Rattle.token_reader.proofs.Sound.{Sound, through, answered}
 use Rattle.token_reader.proofs.Complete.{Complete}
@@ -15,8 +15,11 @@ use Rattle.syntax_forms.specs.Reading.{Reading, one}
 use Rattle.syntax_forms.specs.Onward.{IsOnward}
 use Rattle.syntax_forms.specs.Placed.{Placed}
 use Rattle.syntax_forms.specs.Places.{Reach}
+use Rattle.syntax_forms.proofs.Prefixes as prefixes
+use Rattle.syntax_forms.proofs.Prefixes.{Shut}
 use Rattle.syntax_forms.proofs.KindLaws.{within, ends_by}
 use Rattle.syntax_forms.proofs.Local.{upto}
+use Rattle.syntax_forms.proofs.Firsts.{First}
 use Rattle.syntax_forms.proofs.Steps.{Reached, Reaches, step, stays, either}
 use Rattle.syntax_forms.proofs.Placing.{Piece, kept, followed, refused, same as same_pieces}
 use Rattle.syntax_forms.proofs.Lawful.{IsForm, IsLast, IsRead, IsLawful, Ends, Starts}
@@ -28,27 +31,16 @@ module _ {A : Type 0} (F : Form A) (form : IsForm F) where
   part_form = record {
     whole = form.whole;
     whole_onto = λ next i m j x h n. inr (x, m, h, n);
+    apart = λ next i m b. b;
+    short = λ next i m n b. inl b;
     nothing = form.nothing;
-    nothing_onto = λ next i n. inl (form.nothing i);
+    shut = form.shut;
     starts = form.starts;
     first = form.first;
-    first_onto = first_onto;
     reach = form.reach;
     advances = form.advances;
     local = form.local;
   }
-    where
-      first_onto : (next : Beginning) (i m : Input) → Then F.begins F.spells next i m → (i ≡ m) ⊎ (Starts F i ⊎ ((F.empty ≡ true) × next i m))
-      first_onto next i m (inl b) = by (form.first i m b)
-        where
-          by : (i ≡ m) ⊎ Starts F i → (i ≡ m) ⊎ (Starts F i ⊎ ((F.empty ≡ true) × next i m))
-          by (inl e) = inl e
-          by (inr s) = inr (inl s)
-      first_onto next i m (inr h) = by (form.starts i h.1 h.0 h.2)
-        where
-          by : ((i ≡ h.1) × (F.empty ≡ true)) ⊎ Starts F i → (i ≡ m) ⊎ (Starts F i ⊎ ((F.empty ≡ true) × next i m))
-          by (inl e) = inr (inr (e.1, subst (λ a. next a m) (sym e.0) h.3))
-          by (inr s) = inr (inl s)
 
 module _ {A : Type 0} (F : Form A) (p : Parser A) (law : IsLawful F p) where
   pub lawful_piece : Piece p F.spells F.begins (Ends F)
@@ -87,18 +79,19 @@ IsNode outer inner make = IsSpanned between outer inner make
 -- what stands behind a piece is nothing to its span
 module _ {P N : Type 0} (span : Input → Input → Span) (outer : Spelling N) (F : Form P) (make : P → Span → N) (is : IsSpanned span outer F.spells make) (far : (c i m : Input) (p : P) → F.spells p i m → Reach m c → make p (span (upto c i) (upto c m)) ≡ make p (span i m)) where
   pub node_form : IsForm F → IsForm (node outer F)
-  node_form form = part_form (record { spells = outer; begins = F.begins; onto = F.onto; first = F.first; empty = F.empty; on = F.on }) (record {
+  node_form form = record {
     whole = λ i j n h. let o = is.opened i j n h in form.whole i j o.0 o.1;
-    whole_onto = λ next i m j n h rest. let o = is.opened i m n h in form.whole_onto next i m j o.0 o.1 rest;
+    whole_onto = λ next i m j n h rest. inr (n, m, h, rest);
+    apart = λ next i m b. b;
+    short = λ next i m n b. inl b;
     nothing = form.nothing;
-    nothing_onto = form.nothing_onto;
+    shut = form.shut;
     starts = λ i m n h. let o = is.opened i m n h in form.starts i m o.0 o.1;
     first = form.first;
-    first_onto = form.first_onto;
     reach = λ i m n h. let o = is.opened i m n h in form.reach i m o.0 o.1;
     advances = λ e i m n h. let o = is.opened i m n h in form.advances e i m o.0 o.1;
     local = λ c i m n h r. let o = is.opened i m n h in subst (λ n. outer n (upto c i) (upto c m)) (far c i m o.0 o.1 r ∙ o.2) (is.made (upto c i) (upto c m) o.0 (form.local c i m o.0 o.1 r));
-  })
+  }
 
   module _ (s : Reading P) (read : IsLast F s) (p : Parser N) (f : Input → P → Parser N) (same : (i : Input) → p i ≡ s N (f i) i) (makes : (i m : Input) (x : P) → f i x m ≡ Ok (make x (span i m), m)) where
     pub node_lawful : IsLawful (node outer F) p
@@ -126,18 +119,19 @@ module _ {P N : Type 0} (span : Input → Input → Span) (outer : Spelling N) (
 module _ {A : Type 0} (B : Beginning) (F : Form A) (p : Parser A) (law : IsLawful F p) (to : (i m : Input) → F.begins i m → B i m) (back : (i m : Input) → B i m → F.begins i m) where
   pub begun_lawful : IsLawful (begun B F) p
   begun_lawful = record {
-    form = part_form (record { spells = F.spells; begins = B; onto = F.onto; first = F.first; empty = F.empty; on = F.on }) (record {
+    form = record {
       whole = λ i j x h. to i j (law.form.whole i j x h);
-      whole_onto = law.form.whole_onto;
+      whole_onto = λ next i m j x h n. inr (x, m, h, n);
+      apart = λ next i m b. b;
+      short = λ next i m n b. inl b;
       nothing = λ i. to i i (law.form.nothing i);
-      nothing_onto = law.form.nothing_onto;
+      shut = prefixes.alike to back law.form.shut;
       starts = law.form.starts;
       first = λ i m b. law.form.first i m (back i m b);
-      first_onto = law.form.first_onto;
       reach = law.form.reach;
       advances = law.form.advances;
       local = law.form.local;
-    });
+    };
     placed = λ i. same_pieces F.begins B i (p i) (to i) (back i) (law.placed i);
     sound = law.sound;
     complete = law.complete;
@@ -175,11 +169,12 @@ pub going_form : {A : Type 0} (on : Kind → Bool) (F : Form A) → IsForm F →
 going_form on F law = record {
   whole = law.whole;
   whole_onto = law.whole_onto;
+  apart = law.apart;
+  short = law.short;
   nothing = law.nothing;
-  nothing_onto = law.nothing_onto;
+  shut = law.shut;
   starts = law.starts;
   first = law.first;
-  first_onto = law.first_onto;
   reach = law.reach;
   advances = law.advances;
   local = law.local;
@@ -189,28 +184,49 @@ module _ {A : Type 0} (F : Form A) (p : Parser A) (law : IsLawful F p) (first on
   pub known_lawful : IsLawful (known F.empty F.spells F.begins first on) p
   known_lawful = record { form = form; placed = law.placed; sound = law.sound; complete = λ i j x h end. law.complete i j x h (ends_by F.on on goes (kind j) end); reaches = law.reaches }
     where
-      so : {M N : Type 0} (i : Input) → M ⊎ (Starts F i ⊎ N) → M ⊎ ((first (kind i) ≡ true) ⊎ N)
-      so i (inl e) = inl e
-      so i (inr (inl s)) = inr (inl (within F.first first begins (kind i) s))
-      so i (inr (inr n)) = inr (inr n)
-
       alone : {M : Type 0} (i : Input) → M ⊎ Starts F i → M ⊎ (first (kind i) ≡ true)
       alone i (inl e) = inl e
       alone i (inr s) = inr (within F.first first begins (kind i) s)
 
       form : IsForm (known F.empty F.spells F.begins first on)
-      form = part_form (record { spells = F.spells; begins = F.begins; onto = F.onto; first = first; empty = F.empty; on = on }) (record {
+      form = record {
         whole = law.form.whole;
-        whole_onto = law.form.whole_onto;
+        whole_onto = λ next i m j x h n. inr (x, m, h, n);
+        apart = λ next i m b. b;
+        short = λ next i m n b. inl b;
         nothing = law.form.nothing;
-        nothing_onto = law.form.nothing_onto;
+        shut = law.form.shut;
         starts = λ i m x h. alone i (law.form.starts i m x h);
         first = λ i m b. alone i (law.form.first i m b);
-        first_onto = λ next i m b. so i (law.form.first_onto next i m b);
         reach = law.form.reach;
         advances = law.form.advances;
         local = law.form.local;
-      })
+      }
+
+-- a form of which these laws are known
+pub known_form : {A : Type 0} (P : Spelling A) (B : Beginning) (first on : Kind → Bool)
+    → ((i j : Input) (x : A) → P x i j → B i j)
+    → ((i : Input) → B i i)
+    → ((i m : Input) (x : A) → P x i m → first (kind i) ≡ true)
+    → First B (λ i. first (kind i) ≡ true)
+    → ((i m : Input) (x : A) → P x i m → Reach i m)
+    → ((i m : Input) (x : A) → P x i m → left m < left i)
+    → ((c i m : Input) (x : A) → P x i m → Reach m c → P x (upto c i) (upto c m))
+    → Shut B
+    → IsForm (known false P B first on)
+known_form {A} P B first on whole nothing starts begun reach advances local shut = record {
+  whole = whole;
+  whole_onto = λ rest i m j x h n. inr (x, m, h, n);
+  apart = λ next i m b. b;
+  short = λ next i m n b. inl b;
+  nothing = nothing;
+  shut = shut;
+  starts = λ i m x h. inr (starts i m x h);
+  first = begun;
+  reach = reach;
+  advances = λ e. advances;
+  local = local;
+}
 
 -- a form that nothing spells
 pub never_lawful : {A : Type 0} (empty : Bool) (P : Spelling A) (first on : Kind → Bool) → ((i j : Input) (x : A) → P x i j → ⊥) → IsLawful (known empty P Nothing first on) refuse
@@ -219,11 +235,12 @@ never_lawful {A} empty P first on never = record {
   form = record {
     whole = λ i j x h. absurd (never i j x h);
     whole_onto = λ next i m j x h n. inr (x, m, h, n);
+    apart = λ next i m b. b;
+    short = λ next i m n b. inl b;
     nothing = λ i. refl;
-    nothing_onto = λ next i n. inl refl;
+    shut = prefixes.nothing;
     starts = λ i m x h. absurd (never i m x h);
     first = λ i m e. inl e;
-    first_onto = onto;
     reach = λ i j x h. absurd (never i j x h);
     advances = λ e i j x h. absurd (never i j x h);
     local = λ c i m x h r. absurd (never i m x h);
@@ -233,7 +250,3 @@ never_lawful {A} empty P first on never = record {
   complete = λ i j x h end. absurd (never i j x h);
   reaches = λ i m x h. absurd (never i m x h);
 }
-  where
-    onto : (next : Beginning) (i m : Input) → Then Nothing P next i m → (i ≡ m) ⊎ ((first (kind i) ≡ true) ⊎ ((empty ≡ true) × next i m))
-    onto next i m (inl e) = inl e
-    onto next i m (inr h) = absurd (never i h.1 h.0 h.2)

@@ -2,7 +2,7 @@
 use Rattle.std.proofs.Common.{◌≡◌, ◌<◌, Bool, true, false, sym, refl, ap, ◌∙◌, subst, inl, inr, ◌⊎◌, arith}
 use Rattle.std.specs.Prelude.{◌&&◌}
 use Rattle.estelle_tree.specs.Input.{Input, kind, next, left}
-use Rattle.estelle_tree.specs.Beginning.{Beginning}
+use Rattle.estelle_tree.specs.Beginning.{Beginning, Then}
 use Rattle.token_reader.specs.Reader.{Parser}
 use Rattle.syntax_forms.specs.Form.{Form, ◌▸◌}
 use Rattle.syntax_forms.specs.Reading.{Reading, ◌then◌}
@@ -11,7 +11,7 @@ use Rattle.syntax_forms.proofs.Firsts.{First}
 use Rattle.syntax_forms.proofs.KindLaws.{neither, or_left, or_right, when, apart}
 use Rattle.syntax_forms.proofs.Steps.{Reached, reach_on}
 use Rattle.syntax_forms.proofs.Local.{upto}
-use Rattle.syntax_forms.proofs.Lawful.{shrinks, IsForm, IsLast, IsRead, Starts, Ends, Follows}
+use Rattle.syntax_forms.proofs.Lawful.{first_onto, shut_onto, shrinks, IsForm, IsLast, IsRead, Starts, Ends, Follows}
 
 -- ---- the one and then the other
 
@@ -20,11 +20,12 @@ module _ {A B : Type 0} (F : Form A) (G : Form B) (one : IsForm F) (other : IsFo
   then_form = record {
     whole = λ i j x h. one.whole_onto G.begins i h.0 j x.0 h.1 (other.whole h.0 j x.1 h.2);
     whole_onto = λ next i m j x h n. one.whole_onto (G.onto next) i h.0 j x.0 h.1 (other.whole_onto next h.0 m j x.1 h.2 n);
-    nothing = λ i. one.nothing_onto G.begins i (other.nothing i);
-    nothing_onto = λ next i n. one.nothing_onto (G.onto next) i (other.nothing_onto next i n);
+    apart = λ next i m b. apart next i m (one.apart (G.onto next) i m b);
+    short = λ next i m n b. short next i m n (one.apart G.begins i m b);
+    nothing = λ i. one.short G.begins i i (other.nothing i) (one.nothing i);
+    shut = shut_onto one G.begins other.nothing other.shut;
     starts = λ i m x h. starts i m x h (one.starts i h.0 x.0 h.1) (other.starts h.0 m x.1 h.2);
-    first = λ i m h. first_of i m (one.first_onto G.begins i m h);
-    first_onto = λ next i m h. onto_of next i m (one.first_onto (G.onto next) i m h);
+    first = λ i m h. first_of i m (first_onto one G.begins i m h);
     reach = λ i m x h. reach_on i h.0 m (one.reach i h.0 x.0 h.1) (other.reach h.0 m x.1 h.2);
     local = λ c i m x h r. (upto c h.0, one.local c i h.0 x.0 h.1 (reach_on h.0 m c (other.reach h.0 m x.1 h.2) r), other.local c h.0 m x.1 h.2 r);
     advances = advances;
@@ -44,15 +45,17 @@ module _ {A B : Type 0} (F : Form A) (G : Form B) (one : IsForm F) (other : IsFo
           by (inl e) = inl e
           by (inr s) = inr (or_right (F.first (kind i)) _ (rw h.0 s))
 
-      onto_of : (next : Beginning) (i m : Input) → (i ≡ m) ⊎ (Starts F i ⊎ ((F.empty ≡ true) × G.onto next i m)) → (i ≡ m) ⊎ (Starts (F ▸ G) i ⊎ (((F ▸ G).empty ≡ true) × next i m))
-      onto_of next i m (inl e) = inl e
-      onto_of next i m (inr (inl s)) = inr (inl (or_left (F.first (kind i)) _ s))
-      onto_of next i m (inr (inr h)) = by (other.first_onto next i m h.1)
+      apart : (next : Beginning) (i m : Input) → Then F.begins F.spells (G.onto next) i m → Then (F ▸ G).begins (F ▸ G).spells next i m
+      apart next i m (inl b) = inl (one.short G.begins i m (other.nothing m) b)
+      apart next i m (inr h) = by (other.apart next h.1 m h.3)
         where
-          by : (i ≡ m) ⊎ (Starts G i ⊎ ((G.empty ≡ true) × next i m)) → (i ≡ m) ⊎ (Starts (F ▸ G) i ⊎ (((F ▸ G).empty ≡ true) × next i m))
-          by (inl e) = inl e
-          by (inr (inl s)) = inr (inl (or_right (F.first (kind i)) _ (rw h.0 s)))
-          by (inr (inr n)) = inr (inr (rw (h.0, n.0) refl, n.1))
+          by : Then G.begins G.spells next h.1 m → Then (F ▸ G).begins (F ▸ G).spells next i m
+          by (inl b) = inl (one.whole_onto G.begins i h.1 m h.0 h.2 b)
+          by (inr r) = inr ((h.0, r.0), r.1, (h.1, h.2, r.2), r.3)
+
+      short : (next : Beginning) (i m : Input) → next m m → Then F.begins F.spells G.begins i m → F.onto (G.onto next) i m
+      short next i m n (inl b) = one.short (G.onto next) i m (other.short next m m n (other.nothing m)) b
+      short next i m n (inr h) = one.whole_onto (G.onto next) i h.1 m h.0 h.2 (other.short next h.1 m n h.3)
 
       advances : (F ▸ G).empty ≡ false → (i m : Input) (x : A × B) → (F ▸ G).spells x i m → left m < left i
       advances some i m x h = by F.empty refl some
@@ -80,7 +83,7 @@ module _ {A B : Type 0} (F : Form A) (G : Form B) (one : IsForm F) (other : IsFo
         by (inr begins) = ends_before m begins
 
     next_ends : (next : Beginning) → First next (Ends (F ▸ G)) → First (G.onto next) (Ends F)
-    next_ends next ends i m h = by (other.first_onto next i m h)
+    next_ends next ends i m h = by (first_onto other next i m h)
       where
         at : G.empty ≡ true → (i ≡ m) ⊎ Ends (F ▸ G) i → (i ≡ m) ⊎ Ends F i
         at none (inl e) = inl e
@@ -129,5 +132,5 @@ module _ {A B : Type 0} (F : Form A) (G : Form B) (one : IsForm F) (other : IsFo
     pub then_read : IsRead G t → IsRead (F ▸ G) (s then t)
     then_read second = record {
       rest = then_last second.rest;
-      goes = λ C f next blank ends more i. first.goes C _ (G.onto next) (λ j. other.nothing_onto next j (blank j)) (next_ends next ends) (λ x a. second.goes C _ next blank (λ i m n. at (ends i m n)) (λ y. more (x, y)) a) i;
+      goes = λ C f next blank ends more i. first.goes C _ (G.onto next) (λ j. other.short next j j (blank j) (other.nothing j)) (next_ends next ends) (λ x a. second.goes C _ next blank (λ i m n. at (ends i m n)) (λ y. more (x, y)) a) i;
     }

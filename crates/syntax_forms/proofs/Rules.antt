@@ -1,16 +1,17 @@
 -- The laws of each way of putting parts together, in the order in which a production has them.
-use Rattle.std.proofs.Common.{◌≡◌, ℕ, Bool, true, false, [], Option, Some, refl, sym, ap, ◌∙◌, arith}
+use Rattle.std.proofs.Common.{◌≡◌, ℕ, Bool, true, false, [], Option, Some, refl, sym, ap, ◌∙◌, subst, inr, arith}
+use Rattle.std.proofs.Math.Path.{fun_ext}
 use Rattle.std.specs.Option.{is_some}
 use Rattle.std.specs.Prelude.{◌||◌, not}
 use Rattle.estelle_tree.specs.declared.kind.Kind.{Kind}
 use Rattle.estelle_tree.specs.declared.kind.Kind.TheVariants as k
 use Rattle.estelle_tree.specs.declared.span.Span.{Span}
 use Rattle.estelle_tree.specs.Input.{Input, kind, next, start, between, over}
-use Rattle.estelle_tree.specs.Spelling.{Spelling, Ended}
-use Rattle.token_reader.specs.Reader.{Parser, pure}
+use Rattle.estelle_tree.specs.Spelling.{Spelling, Behind, Ended}
+use Rattle.token_reader.specs.Reader.{Parser, and_then, pure, sees, ◌>>◌, take, expect}
 use Rattle.token_reader.specs.Lists as lists
-use Rattle.token_reader.specs.Lists.{ended}
-use Rattle.token_reader.proofs.Sound.{ok_pair}
+use Rattle.token_reader.specs.Lists.{optional_if, ended}
+use Rattle.token_reader.proofs.Sound.{seen_is, ok_pair}
 use Rattle.syntax_forms.specs.Kinds.{is, of_all, Apart}
 use Rattle.syntax_forms.specs.Form as form
 use Rattle.syntax_forms.specs.Repeats as repeats
@@ -24,7 +25,9 @@ use Rattle.syntax_forms.proofs.ListForms.{separated_read}
 use Rattle.syntax_forms.proofs.StepForms.{may_last, many_read, optional_step, optional_read}
 use Rattle.syntax_forms.proofs.BehindForms.{marked_step, behind_step}
 use Rattle.syntax_forms.proofs.SeveralForms.{several_read}
-use Rattle.syntax_forms.proofs.KindLaws.{within}
+use Rattle.syntax_forms.proofs.KindLaws.{is_it, within}
+use Rattle.syntax_forms.proofs.Firsts.{alike, kept}
+use Rattle.syntax_forms.proofs.Words.{there}
 use Rattle.syntax_forms.proofs.Local.{upto, upto_end, reach_left, upto_span, upto_over}
 use Rattle.syntax_forms.proofs.NodeForms.{IsSpanned, IsNode, node_lawful, part_read}
 pub use Rattle.syntax_forms.proofs.TokenForms.{word_read as word, name_read as name, number_read as number, char_read as char}
@@ -129,3 +132,31 @@ may {F = F} {p = p} begins law some tells takes none = optional_read F p law som
 -- `{x}`
 pub many : {A : Type 0} {F : Form A} {p : Parser A} (begins : Kind → Bool) → IsLawful F p → F.empty ≡ false → ((x : Kind) → begins x ≡ F.first x) → ((i : Input) → Starts F i → F.begins i (next i)) → F.first k.Nothing ≡ false → Follows F F → IsRead (repeats.many (form.part F)) (one (lists.repeated (lists.optional begins p) []))
 many {F = F} {p = p} begins law some tells takes none follows = many_read (form.part F) (lists.optional begins p) (optional_step F p law some begins tells takes none) some follows
+
+-- `[k x]`, and what comes next
+pub behind : {A : Type 0} {F : Form A} (p : Parser A) (k' : Kind) → is k' k.Nothing ≡ false → IsRead F (one p) → IsRead (repeats.may (form.node (Behind k' F.spells) (form.word k' ▸ F))) (one (lists.behind k' p))
+unfolding lists.optional lists.behind sees
+behind {A} {F = F} p k' is_token read = subst (λ (q : Parser (Option A)). IsRead (repeats.may (form.node (Behind k' F.spells) (form.word k' ▸ F))) (one q)) (fun_ext same) (may (is k') law refl tells takes (sym (tells k.Nothing) ∙ is_token))
+  where
+    told : IsNode (Behind k' F.spells) (form.word k' ▸ F).spells (λ p span. p.1)
+    told = record { opened = λ i m x h. ((tt, x), (h.at, h.mark, h.item), refl); made = λ i m p h. record { at = h.0; mark = h.1; item = h.2 } }
+
+    law : IsLawful (form.node (Behind k' F.spells) (form.word k' ▸ F)) (λ i. and_then (expect k' i) (λ u. p))
+    law = made (λ i. and_then (expect k' i) (λ u. p)) told (and (word k' is_token) read refl).rest (λ i. alike (expect k' i) _ _ (λ u a. kept (p a)))
+
+    tells : (x : Kind) → is k' x ≡ (is k' x || false)
+    tells x = by (is k' x)
+      where
+        by : (b : Bool) → b ≡ (b || false)
+        by true = refl
+        by false = refl
+
+    takes : (i : Input) → (is k' (kind i) || false) ≡ true → (form.word k' ▸ F).begins i (next i)
+    takes i s = inr (next i, record { kind = is_it k' (kind i) (tells (kind i) ∙ s); next = refl }, read.form.nothing (next i))
+
+    same : (i : Input) → lists.optional (is k') (λ i. and_then (expect k' i) (λ u. p)) i ≡ lists.behind k' p i
+    same i = by (sees k' i) refl
+      where
+        by : (b : Bool) → sees k' i ≡ b → optional_if b (λ i. and_then (expect k' i) (λ u. p)) i ≡ optional_if b (take >> p) i
+        by true e = rw (there k' i (seen_is k' i e)) refl
+        by false e = refl

@@ -1,22 +1,23 @@
 -- `{x}+`, where the next kind tells whether another x comes.
-use Rattle.std.proofs.Common.{◌≡◌, ◌<◌, suc, Bool, true, false, List, [], ◌∷◌, Some, None, Ok, sym, refl, ap, ◌∙◌, inl, inr, ◌⊎◌, arith}
+use Rattle.std.proofs.Common.{◌≡◌, ◌<◌, ◌≤◌, ℕ, zero, suc, Bool, true, false, List, [], ◌∷◌, ◌++◌, Some, None, Ok, sym, refl, ap, ◌∙◌, subst, inl, inr, ◌⊎◌, arith}
 use Rattle.estelle_tree.specs.declared.kind.Kind.{Kind}
 use Rattle.estelle_tree.specs.declared.kind.Kind.TheVariants as k
 use Rattle.estelle_tree.specs.Input.{Input, kind, next, left}
 use Rattle.estelle_tree.specs.Spelling.{Chain, Several}
-use Rattle.estelle_tree.specs.Beginning.{Beginning, Nothing, Many, Some as BeginsSeveral}
-use Rattle.token_reader.specs.Reader.{Parser, and_then}
-use Rattle.token_reader.specs.Lists.{optional_if, optional, first_and, several}
+use Rattle.estelle_tree.specs.Beginning.{Beginning, Nothing, Then, Many, Some as BeginsSeveral}
+use Rattle.token_reader.specs.Reader.{Parser, and_then, pure}
+use Rattle.token_reader.specs.Lists.{optional_if, optional, turn, repeated_from, repeated, first_and, several}
 use Rattle.token_reader.proofs.Sound.{through, several_sound}
-use Rattle.token_reader.proofs.Complete.{Advances, chain_shrinks, several_complete, next_left_more}
+use Rattle.token_reader.proofs.Complete.{Advances, chain_shrinks, several_complete, empty_kind, next_left_more}
 use Rattle.syntax_forms.specs.Form as form
-use Rattle.syntax_forms.specs.Form.{Form, ◌▸◌}
+use Rattle.syntax_forms.specs.Form.{Form}
 use Rattle.syntax_forms.specs.Reading.{one}
 use Rattle.syntax_forms.specs.Onward.{Below}
 use Rattle.syntax_forms.specs.Placed.{Placed}
 use Rattle.syntax_forms.specs.Places.{Reach}
+use Rattle.syntax_forms.proofs.Prefixes as prefixes
 use Rattle.syntax_forms.proofs.Local.{upto}
-use Rattle.syntax_forms.proofs.Firsts.{stops_below, First, first_nothing, first_then}
+use Rattle.syntax_forms.proofs.Firsts.{stops_below, First, first_nothing, first_then, in_a_row, alike_where}
 use Rattle.syntax_forms.proofs.KindLaws.{neither, when, apart}
 use Rattle.syntax_forms.proofs.Steps.{Reached, Reaches, reach_on, step, stays, either, last}
 use Rattle.syntax_forms.proofs.Lists.{several_onward, repeated_onward, repeated_reached, optional_onward}
@@ -49,19 +50,26 @@ module _ {A : Type 0} (F : Form A) (law : IsForm F) (some : F.empty ≡ false) w
   several_form = record {
     whole = λ i j xs h. onto Nothing i j j xs h refl;
     whole_onto = onto;
+    apart = apart;
+    short = short;
     nothing = λ i. inl (law.nothing i);
-    nothing_onto = λ rest i n. inl (law.nothing i);
+    shut = prefixes.several law.whole law.shut prefixes.nothing;
     starts = λ i m xs h. inr (starts i m xs h);
     first = first Nothing;
-    first_onto = λ rest i m h. also (first rest i m h);
     reach = reach;
     advances = advances;
     local = local;
   }
     where
-      also : {N : Type 0} {i m : Input} → (i ≡ m) ⊎ Starts F i → (i ≡ m) ⊎ (Starts F i ⊎ N)
-      also (inl e) = inl e
-      also (inr s) = inr (inl s)
+      apart : (rest : Beginning) (i m : Input) → BeginsSeveral F.begins F.spells rest i m → Then (BeginsSeveral F.begins F.spells Nothing) (Several F.spells) rest i m
+      apart rest i m (inl b) = inl (inl b)
+      apart rest i m (inr (x, a, h, (xs, c, chain, inl b))) = inl (inr (x, a, h, (xs, c, chain, inl b)))
+      apart rest i m (inr (x, a, h, (xs, c, chain, inr n))) = inr (x ∷ xs, c, (a, h, chain), n)
+
+      short : (rest : Beginning) (i m : Input) → rest m m → BeginsSeveral F.begins F.spells Nothing i m → BeginsSeveral F.begins F.spells rest i m
+      short rest i m n (inl b) = inl b
+      short rest i m n (inr (x, a, h, (xs, c, chain, inl b))) = inr (x, a, h, (xs, c, chain, inl b))
+      short rest i m n (inr (x, a, h, (xs, c, chain, inr e))) = inr (x, a, h, (xs, c, chain, inr (subst (λ a. rest a m) (sym e) n)))
 
       reach : (i m : Input) (xs : List A) → Several F.spells xs i m → Reach i m
       reach i m [] h = absurd h
@@ -159,3 +167,45 @@ module _ {A : Type 0} (F : Form A) (p : Parser A) (law : IsLawful F p) (some : F
           at : {i m : Input} → (i ≡ m) ⊎ Ends (form.several F) i → (i ≡ m) ⊎ (Ends F i × (begins (kind i) ≡ false))
           at (inl e) = inl e
           at {i} (inr end) = inr (all_end i end)
+
+-- ---- `{x}`, where the next terminal tells whether an x stands there
+
+module _ {A : Type 0} {F : Form A} {p : Parser A} (law : IsLawful F p) (some : F.empty ≡ false) (begins : Kind → Bool) (nothing : begins k.Nothing ≡ false) where
+  abbrev turns : ℕ → List A → Parser (List A)
+  turns = repeated_from (optional begins p)
+
+  fewer : (i a : Input) (x : A) → p i ≡ Ok (x, a) → left a < left i
+  fewer i a x e = law.form.advances some i a x (law.sound i a x e)
+
+  -- more turns than there are tokens read no more
+  enough : (m n : ℕ) (found : List A) (i : Input) → left i ≤ m → left i ≤ n → turns m found i ≡ turns n found i
+  unfolding repeated_from optional
+  enough zero zero found i a b = refl
+  enough zero (suc n) found i a b = ap (λ b. and_then (optional_if b p i) (turn found (turns n))) (sym (ap begins (empty_kind i a) ∙ nothing))
+  enough (suc m) zero found i a b = ap (λ b. and_then (optional_if b p i) (turn found (turns m))) (ap begins (empty_kind i b) ∙ nothing)
+  enough (suc m) (suc n) found i a b = by (λ x c read. let less = fewer i c x read in enough m n (found ++ x ∷ []) c (omega arith) (omega arith)) (begins (kind i))
+    where
+      by : ((x : A) (c : Input) → p i ≡ Ok (x, c) → turns m (found ++ x ∷ []) c ≡ turns n (found ++ x ∷ []) c) → (b : Bool) → and_then (optional_if b p i) (turn found (turns m)) ≡ and_then (optional_if b p i) (turn found (turns n))
+      by more false = refl
+      by more true = sym (in_a_row (p i) (λ x. pure (Some x)) (turn found (turns m))) ∙ alike_where (p i) _ _ more ∙ in_a_row (p i) (λ x. pure (Some x)) (turn found (turns n))
+
+  -- where one stands, `{x}` is read as `{x}+` is
+  pub as_several : (i : Input) → begins (kind i) ≡ true → repeated (optional begins p) [] i ≡ several begins p i
+  unfolding repeated first_and repeated_from optional
+  as_several i e = by (left i) refl
+    where
+      by : (n : ℕ) → left i ≡ n → turns n [] i ≡ and_then (p i) (λ x. repeated (optional begins p) (x ∷ []))
+      by zero count = absurd (let no : true ≡ false = sym e ∙ (ap begins (empty_kind i (omega arith)) ∙ nothing) in cc)
+      by (suc n) count =
+          ap (λ b. and_then (optional_if b p i) (turn [] (turns n))) e
+          ∙ (sym (in_a_row (p i) (λ x. pure (Some x)) (turn [] (turns n)))
+          ∙ alike_where (p i) _ _ (λ x a read. let less = fewer i a x read in enough n (left a) (x ∷ []) a (omega arith) (omega arith)))
+
+  -- where none stands, nothing is read
+  pub as_none : (i : Input) → begins (kind i) ≡ false → repeated (optional begins p) [] i ≡ Ok ([], i)
+  unfolding repeated repeated_from optional
+  as_none i e = by (left i)
+    where
+      by : (n : ℕ) → turns n [] i ≡ Ok ([], i)
+      by zero = refl
+      by (suc n) = ap (λ b. and_then (optional_if b p i) (turn [] (turns n))) e

@@ -15,6 +15,7 @@ use Rattle.syntax_forms.specs.Reading.{one}
 use Rattle.syntax_forms.specs.Onward.{Below, IsOnward}
 use Rattle.syntax_forms.specs.Placed.{Placed}
 use Rattle.syntax_forms.specs.Places.{Reach}
+use Rattle.syntax_forms.proofs.Prefixes as prefixes
 use Rattle.syntax_forms.proofs.Local.{upto}
 use Rattle.syntax_forms.proofs.Firsts.{stops_below, in_a_row, First}
 use Rattle.syntax_forms.proofs.KindLaws.{neither, when, apart}
@@ -24,7 +25,7 @@ use Rattle.syntax_forms.proofs.Lists.{repeated_onward, repeated_reached}
 use Rattle.syntax_forms.proofs.Placing.{done, kept, left_of, right_of, ends as ends_here}
 use Rattle.syntax_forms.proofs.Listing.{Step, repeated_placed}
 use Rattle.syntax_forms.proofs.NodeForms.{part_form, part_read, lawful_onward}
-use Rattle.syntax_forms.proofs.Lawful.{begins_so, IsForm, IsLast, IsRead, IsLawful, Ends, Starts, Follows}
+use Rattle.syntax_forms.proofs.Lawful.{first_onto, begins_so, IsForm, IsLast, IsRead, IsLawful, Ends, Starts, Follows}
 
 -- laws of a step
 pub record IsStep {A : Type 0} (F : Form A) (p : Parser (Option A)) : Type 1 where
@@ -42,11 +43,12 @@ module _ {A : Type 0} (F : Form A) (law : IsForm F) (some : F.empty ≡ false) w
   may_form = record {
     whole = whole;
     whole_onto = onto;
+    apart = apart;
+    short = λ rest i m n b. inr (law.short rest i m n b);
     nothing = law.nothing;
-    nothing_onto = λ rest i n. inl n;
+    shut = law.shut;
     starts = starts;
     first = law.first;
-    first_onto = first_onto;
     reach = reach;
     advances = λ e. absurd (let no : true ≡ false = e in cc);
     local = local;
@@ -64,14 +66,13 @@ module _ {A : Type 0} (F : Form A) (law : IsForm F) (some : F.empty ≡ false) w
       starts i m None e = inl (e, refl)
       starts i m (Some x) h = inr (begins_so F law some i m x h)
 
-      first_onto : (rest : Beginning) (i m : Input) → (rest or F.onto rest) i m → (i ≡ m) ⊎ (Starts F i ⊎ ((true ≡ true) × rest i m))
-      first_onto rest i m (inl n) = inr (inr (refl, n))
-      first_onto rest i m (inr h) = by (law.first_onto rest i m h)
+      apart : (rest : Beginning) (i m : Input) → (rest or F.onto rest) i m → Then F.begins (Optional F.spells) rest i m
+      apart rest i m (inl n) = inr (None, i, refl, n)
+      apart rest i m (inr b) = by (law.apart rest i m b)
         where
-          by : (i ≡ m) ⊎ (Starts F i ⊎ ((F.empty ≡ true) × rest i m)) → (i ≡ m) ⊎ (Starts F i ⊎ ((true ≡ true) × rest i m))
-          by (inl e) = inl e
-          by (inr (inl s)) = inr (inl s)
-          by (inr (inr n)) = inr (inr (refl, n.1))
+          by : Then F.begins F.spells rest i m → Then F.begins (Optional F.spells) rest i m
+          by (inl b) = inl b
+          by (inr h) = inr (Some h.0, h.1, h.2, h.3)
 
       reach : (i m : Input) (x : Option A) → Optional F.spells x i m → Reach i m
       reach i m None e = (0, e)
@@ -93,11 +94,12 @@ module _ {A : Type 0} (F : Form A) (law : IsForm F) (some : F.empty ≡ false) w
   many_form = record {
     whole = λ i j xs h. (xs, j, h, inr refl);
     whole_onto = λ rest i m j xs h n. (xs, m, h, inr n);
+    apart = λ rest i m b. apart rest i m b;
+    short = λ rest i m n b. short rest i m n b;
     nothing = λ i. ([], i, refl, inl (law.nothing i));
-    nothing_onto = λ rest i n. ([], i, refl, inr n);
+    shut = prefixes.many law.whole law.shut prefixes.nothing;
     starts = starts;
-    first = λ i m h. alone i m (first_onto Nothing i m h);
-    first_onto = first_onto;
+    first = first;
     reach = chain_reach;
     advances = λ e. absurd (let no : true ≡ false = e in cc);
     local = chain_local;
@@ -107,19 +109,18 @@ module _ {A : Type 0} (F : Form A) (law : IsForm F) (some : F.empty ≡ false) w
       starts i m [] e = inl (e, refl)
       starts i m (x ∷ xs) h = inr (begins_so F law some i h.0 x h.1)
 
-      first_onto : (rest : Beginning) (i m : Input) → Many F.begins F.spells rest i m → (i ≡ m) ⊎ (Starts F i ⊎ ((true ≡ true) × rest i m))
-      first_onto rest i m (x ∷ xs, a, h, b) = inr (inl (begins_so F law some i h.0 x h.1))
-      first_onto rest i m ([], a, e, inr n) = inr (inr (refl, subst (λ a. rest a m) (sym e) n))
-      first_onto rest i m ([], a, e, inl b) = by (law.first i m (subst (λ a. F.begins a m) (sym e) b))
-        where
-          by : (i ≡ m) ⊎ Starts F i → (i ≡ m) ⊎ (Starts F i ⊎ ((true ≡ true) × rest i m))
-          by (inl e) = inl e
-          by (inr s) = inr (inl s)
+      first : (i m : Input) → Many F.begins F.spells Nothing i m → (i ≡ m) ⊎ Starts F i
+      first i m (x ∷ xs, a, h, b) = inr (begins_so F law some i h.0 x h.1)
+      first i m ([], a, e, inr n) = inl (e ∙ n)
+      first i m ([], a, e, inl b) = law.first i m (subst (λ a. F.begins a m) (sym e) b)
 
-      alone : (i m : Input) → (i ≡ m) ⊎ (Starts F i ⊎ ((true ≡ true) × (i ≡ m))) → (i ≡ m) ⊎ Starts F i
-      alone i m (inl e) = inl e
-      alone i m (inr (inl s)) = inr s
-      alone i m (inr (inr n)) = inl n.1
+      apart : (rest : Beginning) (i m : Input) → Many F.begins F.spells rest i m → Then (Many F.begins F.spells Nothing) (Chain F.spells) rest i m
+      apart rest i m (xs, a, h, inl b) = inl (xs, a, h, inl b)
+      apart rest i m (xs, a, h, inr n) = inr (xs, a, h, n)
+
+      short : (rest : Beginning) (i m : Input) → rest m m → Many F.begins F.spells Nothing i m → Many F.begins F.spells rest i m
+      short rest i m n (xs, a, h, inl b) = (xs, a, h, inl b)
+      short rest i m n (xs, a, h, inr e) = (xs, a, h, inr (subst (λ a. rest a m) (sym e) n))
 
 module _ {A : Type 0} (F : Form A) (p : Parser (Option A)) (law : IsStep F p) (some : F.empty ≡ false) where
   fore : (j : Input) → Ends (may F) j → (F.first (kind j) ≡ false) × Ends F j
@@ -301,4 +302,4 @@ module _ {A : Type 0} (F : Form A) (p : Parser A) (law : IsLawful F p) (some : F
           by : (b : Bool) → begins (kind i) ≡ b → Placed (rest or Then F.begins F.spells rest) i (and_then (optional_if b p i) f)
           by true e = right_of rest (Then F.begins F.spells rest) i _ (subst (λ o. Placed (Then F.begins F.spells rest) i o) (in_a_row (p i) (λ x. pure (Some x)) f) ((part_read F p law).goes C (λ x. f (Some x)) rest blank (λ i m n. after (ends i m n)) (λ x. more (Some x)) i))
               (λ m n. none e m (ends i m n))
-          by false e = left_of rest (Then F.begins F.spells rest) i (f None i) (more None i) (λ m h. no_more e m ((part_form F law.form).first_onto rest i m h))
+          by false e = left_of rest (Then F.begins F.spells rest) i (f None i) (more None i) (λ m h. no_more e m (first_onto (part_form F law.form) rest i m h))

@@ -1,5 +1,5 @@
 -- One token: a terminal, a name, a number, a character.
-use Rattle.std.proofs.Common.{◌≡◌, Bool, true, false, Ok, Option, Some, sym, refl, ap, ◌∙◌, inl, inr, ◌⊎◌}
+use Rattle.std.proofs.Common.{◌≡◌, Bool, true, false, Ok, Option, Some, sym, refl, ap, ◌∙◌, subst, inl, inr, ◌⊎◌}
 use Rattle.estelle_tree.specs.declared.kind.Kind.{Kind}
 use Rattle.estelle_tree.specs.declared.kind.Kind.TheVariants as k
 use Rattle.estelle_tree.specs.declared.token.Token.{Token}
@@ -7,17 +7,17 @@ use Rattle.estelle_tree.specs.declared.token.Token.TheVariants as token_is
 use Rattle.estelle_tree.specs.Input.{Input, kind, next, between, token_at}
 use Rattle.estelle_tree.specs.Spelling.{Spelling, Takes}
 use Rattle.estelle_tree.specs.Types.{IsName, IsNumber, IsChar}
-use Rattle.estelle_tree.specs.Beginning.{Beginning, Nothing, After, OneToken}
+use Rattle.estelle_tree.specs.Beginning.{Beginning, Nothing, Then, After, OneToken}
 use Rattle.token_reader.specs.Reader.{Parser, and_then, refuse, sees, expect, name, number, number_in, char, char_in}
 use Rattle.token_reader.proofs.Sound.{Sound, seen_is, through, expect_sound, name_sound, number_sound, char_sound}
 use Rattle.token_reader.proofs.Complete.{Complete, Anything, sees_takes, unseen, takes_advances, expect_complete, name_complete, number_complete, char_complete}
 use Rattle.syntax_forms.specs.Form as form
-use Rattle.syntax_forms.specs.Form.{Form}
 use Rattle.syntax_forms.specs.Kinds.{is}
 use Rattle.syntax_forms.specs.Reading.{one}
 use Rattle.syntax_forms.specs.Onward.{IsOnward}
 use Rattle.syntax_forms.specs.Placed.{Placed}
 use Rattle.syntax_forms.specs.Places.{Reach}
+use Rattle.syntax_forms.proofs.Prefixes as prefixes
 use Rattle.syntax_forms.proofs.Local.{upto, before, upto_kind, upto_token, upto_span, upto_next, upto_takes}
 use Rattle.syntax_forms.proofs.KindLaws.{it_is, not_is}
 use Rattle.syntax_forms.proofs.Steps.{step, exact, expects, names_one, numbers_one, chars_one, named_token}
@@ -35,49 +35,53 @@ pub record IsToken {A : Type 0} (kind' : Kind) (P : Spelling A) (p : Parser A) :
   pub sound : Sound p P
   pub complete : Complete p P Anything
 
-module _ {A : Type 0} (kind' : Kind) (P : Spelling A) where
-  pub token_form : ((i m : Input) (x : A) → P x i m → Takes kind' i m) → ((c i m : Input) (x : A) → P x i m → Reach m c → P x (upto c i) (upto c m)) → is kind' k.Nothing ≡ false → IsForm (form.token kind' P)
-  token_form token local is_token = record {
-    whole = λ i j x h. inr (token i j x h);
-    whole_onto = λ next i m j x h n. inr (m, token i m x h, n);
+module _ {A : Type 0} (kind' : Kind) (P : Spelling A) (p : Parser A) (known : IsToken kind' P p) where
+  pub token_form : is kind' k.Nothing ≡ false → IsForm (form.token kind' P)
+  token_form is_token = record {
+    whole = λ i j x h. inr (known.token i j x h);
+    whole_onto = λ next i m j x h n. inr (m, known.token i m x h, n);
+    apart = apart;
+    short = short;
     nothing = λ i. inl refl;
-    nothing_onto = λ next i n. inl refl;
-    starts = λ i m x h. inr (it_is kind' (kind i) (token i m x h).kind);
+    shut = prefixes.token kind';
+    starts = λ i m x h. inr (it_is kind' (kind i) (known.token i m x h).kind);
     first = first;
-    first_onto = first_onto;
-    reach = λ i m x h. (1, (token i m x h).next);
-    local = local;
-    advances = λ e i m x h. takes_advances kind' (not_is kind' k.Nothing is_token) i m (token i m x h);
+    reach = λ i m x h. (1, (known.token i m x h).next);
+    local = known.local;
+    advances = λ e i m x h. takes_advances kind' (not_is kind' k.Nothing is_token) i m (known.token i m x h);
   }
     where
       first : (i m : Input) → OneToken kind' i m → (i ≡ m) ⊎ (is kind' (kind i) ≡ true)
       first i m (inl e) = inl e
       first i m (inr t) = inr (it_is kind' (kind i) t.kind)
 
-      first_onto : (next : Beginning) (i m : Input) → After kind' next i m → (i ≡ m) ⊎ ((is kind' (kind i) ≡ true) ⊎ ((false ≡ true) × next i m))
-      first_onto next i m (inl e) = inl e
-      first_onto next i m (inr t) = inr (inl (it_is kind' (kind i) t.1.kind))
+      apart : (rest : Beginning) (i m : Input) → After kind' rest i m → Then (OneToken kind') P rest i m
+      apart rest i m (inl e) = inl (inl e)
+      apart rest i m (inr t) = let x = known.there i t.1.kind in inr (x.0, t.0, subst (λ a. P x.0 i a) t.1.next (known.sound i (next i) x.0 x.1), t.2)
 
-  module _ (p : Parser A) (known : IsToken kind' P p) where
-    goes : (C : Type 0) (f : A → Parser C) (rest : Beginning) (i : Input) → ((x : A) (a : Input) → Placed rest a (f x a)) → Placed (After kind' rest) i (and_then (p i) f)
-    goes C f rest i more = go (sees kind' i) refl
-      where
-        go : (b : Bool) → sees kind' i ≡ b → Placed (After kind' rest) i (and_then (p i) f)
-        go true e = let t = known.there i (seen_is kind' i e) in rw t.1 (taken kind' rest i (f t.0 (next i)) (seen_is kind' i e) (more t.0 (next i)))
-        go false e = rw (known.other i (unseen_is kind' i e)) (refused (After kind' rest) i (inl refl) (untaken kind' rest i (unseen_is kind' i e)))
+      short : (next : Beginning) (i m : Input) → next m m → OneToken kind' i m → After kind' next i m
+      short next i m n (inl e) = inl e
+      short next i m n (inr t) = inr (m, t, n)
 
-    pub token_read : is kind' k.Nothing ≡ false → IsRead (form.token kind' P) (one p)
-    token_read is_token = record {
-      rest = record {
-        form = token_form known.token known.local is_token;
-        onward = λ C f on i. step i _ (p i) f (known.on i) on;
-        sound = λ C f i j y h. through (p i) f (y, j) h (λ x m e h. (x, m, known.sound i m x e, h));
-        complete = λ C f i m x h end. rw (known.complete i m x h tt) refl;
-        reached = λ C f on i m n x y h end r. exact p f i m n x y known.on (known.complete i m x h tt) r;
-        last = λ C f keeps i. one_token kind' i _ (goes C f Nothing i (λ x a. let same = keeps x a in rw same.1 (done same.0 a)));
-      };
-      goes = λ C f rest blank first more i. goes C f rest i more;
-    }
+  goes : (C : Type 0) (f : A → Parser C) (rest : Beginning) (i : Input) → ((x : A) (a : Input) → Placed rest a (f x a)) → Placed (After kind' rest) i (and_then (p i) f)
+  goes C f rest i more = go (sees kind' i) refl
+    where
+      go : (b : Bool) → sees kind' i ≡ b → Placed (After kind' rest) i (and_then (p i) f)
+      go true e = let t = known.there i (seen_is kind' i e) in rw t.1 (taken kind' rest i (f t.0 (next i)) (seen_is kind' i e) (more t.0 (next i)))
+      go false e = rw (known.other i (unseen_is kind' i e)) (refused (After kind' rest) i (inl refl) (untaken kind' rest i (unseen_is kind' i e)))
+
+  pub token_read : is kind' k.Nothing ≡ false → IsRead (form.token kind' P) (one p)
+  token_read is_token = record {
+    rest = record {
+      form = token_form is_token;
+      onward = λ C f on i. step i _ (p i) f (known.on i) on;
+      sound = λ C f i j y h. through (p i) f (y, j) h (λ x m e h. (x, m, known.sound i m x e, h));
+      complete = λ C f i m x h end. rw (known.complete i m x h tt) refl;
+      reached = λ C f on i m n x y h end r. exact p f i m n x y known.on (known.complete i m x h tt) r;
+      last = λ C f keeps i. one_token kind' i _ (goes C f Nothing i (λ x a. let same = keeps x a in rw same.1 (done same.0 a)));
+    };
+    goes = λ C f rest blank first more i. goes C f rest i more;
+  }
 
 -- ---- the parsers
 

@@ -6,7 +6,7 @@ use Rattle.estelle_tree.specs.declared.kind.Kind.TheVariants as k
 use Rattle.estelle_tree.specs.declared.span.Span.{Span}
 use Rattle.estelle_tree.specs.Input.{Input, kind, next, left, start}
 use Rattle.estelle_tree.specs.Spelling.{Never}
-use Rattle.estelle_tree.specs.Beginning.{Beginning, Nothing}
+use Rattle.estelle_tree.specs.Beginning.{Nothing}
 use Rattle.token_reader.specs.Reader.{Parser, refuse, expect}
 use Rattle.token_reader.specs.Lists.{optional_if}
 use Rattle.syntax_forms.specs.Form as form
@@ -14,6 +14,8 @@ use Rattle.syntax_forms.specs.Form.{Form, ◌▸◌, known, built, told}
 use Rattle.syntax_forms.specs.Kinds.{is, never, of_all}
 use Rattle.syntax_forms.specs.Reading.{Reading, one, ◌then◌, levelled, closed}
 use Rattle.syntax_forms.specs.Places.{Reach}
+use Rattle.syntax_forms.proofs.Prefixes as prefixes
+use Rattle.syntax_forms.proofs.Prefixes.{Shut}
 use Rattle.syntax_forms.proofs.KindLaws.{it_is, is_it, or_left, not_true, within, ends_by, when}
 use Rattle.syntax_forms.proofs.Local.{upto, reach_left, upto_kind}
 use Rattle.syntax_forms.proofs.Placing.{same}
@@ -86,26 +88,22 @@ module _ {A : Type 0} (F : Kind → Form A) (on : Kind → Bool) (p : Kind → P
   told_form = record {
     whole = λ i j x h. (law (kind i)).form.whole i j x h;
     whole_onto = λ rest i m j x h n. inr (x, m, h, n);
+    apart = λ next i m b. b;
+    short = λ next i m n b. inl b;
     nothing = λ i. (law (kind i)).form.nothing i;
-    nothing_onto = λ rest i n. inl ((law (kind i)).form.nothing i);
+    shut = shut;
     starts = λ i m x h. inr (starts i m x h);
     first = λ i m b. (law (kind i)).form.first i m b;
-    first_onto = first_onto;
     reach = λ i m x h. (law (kind i)).form.reach i m x h;
     advances = λ e. advances;
     local = local;
   }
     where
+      shut : Shut (told F on).begins
+      shut i j c b r = prefixes.out (F (kind i)).begins (told F on).begins i j c (λ b. b) ((law (kind i)).form.shut i j c b r)
+
       starts : (i m : Input) (x : A) → (told F on).spells x i m → Starts (told F on) i
       starts i m x h = begins_so (F (kind i)) (law (kind i)).form (each (kind i)).some i m x h
-
-      first_onto : (rest : Beginning) (i m : Input) → (told F on).onto rest i m → (i ≡ m) ⊎ (Starts (told F on) i ⊎ ((false ≡ true) × rest i m))
-      first_onto rest i m (inr h) = inr (inl (starts i h.1 h.0 h.2))
-      first_onto rest i m (inl b) = by ((law (kind i)).form.first i m b)
-        where
-          by : (i ≡ m) ⊎ Starts (told F on) i → (i ≡ m) ⊎ (Starts (told F on) i ⊎ ((false ≡ true) × rest i m))
-          by (inl e) = inl e
-          by (inr s) = inr (inl s)
 
       local : (c i m : Input) (x : A) → (told F on).spells x i m → Reach m c → (told F on).spells x (upto c i) (upto c m)
       local c i m x h r =

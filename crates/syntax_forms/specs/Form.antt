@@ -8,7 +8,7 @@ use Rattle.estelle_tree.specs.declared.kind.Kind.TheVariants as k
 use Rattle.estelle_tree.specs.declared.tree.name.Name.{Name}
 use Rattle.estelle_tree.specs.declared.span.Span.{Span}
 use Rattle.estelle_tree.specs.Input.{Input, kind, between}
-use Rattle.estelle_tree.specs.Spelling.{Spelling, Takes, Flag, Mark, Ended, Several, Separated}
+use Rattle.estelle_tree.specs.Spelling.{Spelling, Takes, Flag, Mark, Ended, Several, Separated, Never}
 use Rattle.estelle_tree.specs.Types.{IsName, IsNumber, IsChar}
 use Rattle.estelle_tree.specs.Beginning.{Beginning, Nothing, ◌or◌, Then, After, AfterOne, OneToken, Opens, MayBe, MayBeOne, Some as BeginsSeveral, Separating}
 use Rattle.syntax_forms.specs.Kinds.{is, never}
@@ -180,6 +180,15 @@ told F on = known false (λ x i j. (F (kind i)).spells x i j) (λ i j. (F (kind 
 -- the same, where what begins it is said in other words
 abbrev pub begun : {A : Type 0} → Beginning → Form A → Form A
 begun B F = record { spells = F.spells; begins = B; onto = Then B F.spells; first = F.first; empty = F.empty; on = F.on }
+
+-- the form, where it can stand
+abbrev pub only_if : {A : Type 0} → Bool → Form A → Form A
+only_if true F = F
+only_if false F = known false Never Nothing never never
+
+-- the same form, with which nothing that stands next goes on
+abbrev pub whole : {A : Type 0} → Form A → Form A
+whole F = known F.empty (λ x i j. F.spells x i j × (F.on (kind j) ≡ false)) F.begins F.first never
 
 -- `x ";"`
 abbrev pub line : {A : Type 0} → Form A → Form A

@@ -21,7 +21,6 @@ use Rattle.syntax_forms.specs.Form.{Form, ◌▸◌, ◌⊕◌}
 use Rattle.syntax_forms.specs.Reading.{Reading, one, ◌then◌, choose, closed}
 use Rattle.syntax_forms.specs.Types as types
 use Rattle.syntax_forms.specs.Definitions as forms
-use Rattle.syntax_forms.proofs.KindLaws.{when, within}
 use Rattle.syntax_forms.proofs.Firsts.{in_a_row}
 use Rattle.syntax_forms.proofs.TokenForms.{word_known}
 use Rattle.syntax_forms.proofs.NodeForms.{IsNode}
@@ -152,7 +151,3 @@ module _ (room : ℕ) where
 
   pub block_decl_lawful : IsLawful (forms.block_decl room) (block_decl room)
   block_decl_lawful = rules.spanned (block_decl room) part_is refl (rules.or const_lines (rules.or type_lines var_lines refl refl) refl refl).rest part_same
-
-  -- it goes on with a name alone
-  pub named_ends : (x : Kind) → begins_name x ≡ false → (forms.block_decl room).on x ≡ false
-  named_ends x end = when ((forms.block_decl room).on x) (λ e. let no : true ≡ false = sym (within (forms.block_decl room).on begins_name refl x e) ∙ end in cc)

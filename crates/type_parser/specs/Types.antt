@@ -1,5 +1,5 @@
 -- Names, constants and types, read from left to right.
-use Rattle.std.specs.Prelude.{ℕ, zero, suc, ◌==◌, Bool, if◌then◌else◌, true, false, Option, None}
+use Rattle.std.specs.Prelude.{◌≡◌, ℕ, zero, suc, ◌==◌, Bool, if◌then◌else◌, true, false, Option, None}
 use Rattle.estelle_tree.specs.declared.kind.Kind.{Kind}
 use Rattle.estelle_tree.specs.declared.kind.Kind.TheVariants as k
 use Rattle.estelle_tree.specs.declared.tree.name.NameList.{NameList}
@@ -12,6 +12,7 @@ use Rattle.estelle_tree.specs.declared.tree.type_expr.TypeExpr.{TypeExpr}
 use Rattle.estelle_tree.specs.declared.tree.type_expr.TypeExpr.TheVariants as a_type
 use Rattle.estelle_tree.specs.declared.tree.type_expr.Fields.{Fields, roll-Fields}
 use Rattle.estelle_tree.specs.declared.tree.type_expr.TypedNames.{TypedNames, roll-TypedNames}
+use Rattle.estelle_tree.specs.Input.{Input, kind}
 pub use Rattle.syntax_forms.specs.Types.{sign_of}
 use Rattle.token_reader.specs.Reader.{Parser, ◌>>=◌, ◌>>◌, pure, refuse, peek, peek_second, here, since, eat, expect, name, number, char}
 use Rattle.token_reader.specs.Lists.{mark, separated, separated_if}
@@ -224,3 +225,7 @@ type_expr room = type_below (suc room)
 
 abbrev pub typed_names : ℕ → Parser TypedNames
 typed_names room = typed_over (type_expr room)
+
+-- a name that is a type goes on with `..`
+abbrev pub EndsOrdinal : Input → Type 0
+EndsOrdinal j = kind j ≡ k.Dots → ⊥

@@ -4,16 +4,11 @@
 #![tactic(auto)]
 
 mod definition;
-mod laws;
 mod scalar;
 mod structured;
 
 pub use definition::{
     BlockDeclForm, FormalsForm, block_decl, const_def, formal, formals, part, type_def,
-};
-pub use laws::{
-    block_decls_are_read, constants_are_read, formals_are_read, names_are_read, ordinals_are_read,
-    typed_names_are_read, types_are_read,
 };
 pub use scalar::{ConstantForm, NameForm, NamesForm, constant, names, ordinal};
 pub use structured::{TypeForm, TypedNamesForm, type_expr, typed_names};

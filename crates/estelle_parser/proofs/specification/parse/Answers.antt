@@ -1,7 +1,7 @@
-use Rattle.std.proofs.Common.{◌≡◌, ◌∙◌, ap, sym}
+use Rattle.std.proofs.Common.{◌≡◌, ◌∙◌, ◌-◌, Err, length, ap, sym}
 use Rattle.estelle_tree.specs.Input.{input}
 use Rattle.token_reader.specs.declared.error.ReadError.TheVariants.{Refused, Memory}
-use Rattle.estelle_parser.proofs.Whole.{spelled, no_other, none_refused}
+use Rattle.estelle_parser.proofs.Whole.{spelled, no_other, none_refused, wrong}
 use Rattle.estelle_parser.proofs.specification.parse.Goals as goal
 
 pub returns-in-Ok-clause-spelled : goal.returns-in-Ok-clause-spelled
@@ -19,3 +19,12 @@ returns-in-Err-Refused-clause-only c found is =
     none_refused c.args.tokens.now.items c.new-place.result
     (c.new-place.ensures ∙ ap (λ ts. input ts 0) c.items.ensures) found c.in-Err-Refused.field-0
     (c.in-Err-Refused.ensures (λ e. let no : Refused c.in-Err-Refused.left ≡ Memory = sym c.in-Err-Refused.field-0-is ∙ e in cc)) is
+
+pub returns-in-Err-Refused-clause-place : goal.returns-in-Err-Refused-clause-place
+returns-in-Err-Refused-clause-place c = (
+  length c.args.tokens.now.items - c.in-Err-Refused.left,
+  c.place_of.ensures,
+  wrong c.args.tokens.now.items c.new-place.result
+      (c.new-place.ensures ∙ ap (λ ts. input ts 0) c.items.ensures) c.in-Err-Refused.left
+      (c.in-Err-Refused.ensures (λ e. let no : Refused c.in-Err-Refused.left ≡ Memory = sym c.in-Err-Refused.field-0-is ∙ e in cc) ∙ ap Err c.in-Err-Refused.field-0-is),
+)

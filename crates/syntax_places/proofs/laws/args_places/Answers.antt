@@ -1,8 +1,0 @@
-use Rattle.expression_parser.proofs.FactorForms.{args_lawful_at}
-use Rattle.syntax_places.proofs.laws.args_places.Goals as goal
-
-pub returns-clause-stops : goal.returns-clause-stops
-returns-clause-stops c room = (args_lawful_at room).placed
-
-pub returns-clause-begun : goal.returns-clause-begun
-returns-clause-begun c room = (args_lawful_at room).form.whole
