@@ -1,11 +1,13 @@
 -- An input that is what it is to be is none to refuse, and one that is refused has one reason.
-use Rattle.std.proofs.Common.{◌≡◌, ℕ, ◌≤◌, Bool, true, false, List, length, drop, Option, Some, None, Result, Ok, Err, sym, ap, ◌∙◌, subst, refl, arith}
+use Rattle.std.proofs.Common.{◌≡◌, ℕ, zero, suc, ◌<◌, ◌≤◌, Bool, true, false, List, length, drop, Option, Some, None, Result, Ok, Err, sym, ap, ◌∙◌, subst, refl, inl, inr, ◌⊎◌, arith}
 use Rattle.std.specs.Prelude.{IfSome, IsSomeAnd, IsNone, IsTrue}
 use Rattle.std.proofs.lemmas.Bool.Decides.{nat_tests}
 use Rattle.estelle_tree.specs.declared.token.Placed.{Placed}
 use Rattle.estelle_tree.specs.declared.tree.specification.Spec.{Spec}
+use Rattle.estelle_tree.specs.Input.{first_start}
 use Rattle.estelle_tree.specs.Lexed.{IsBlankFrom, IsFirstOther}
 use Rattle.estelle_tree.specs.Spells.{Spells}
+use Rattle.estelle_parser.specs.Answers.{IsFirstRefused}
 use Rattle.estelle_lexer.specs.Blank.{other_from}
 use Rattle.estelle_lexer.proofs.Answers.{one_list, one_error, not_both}
 use Rattle.estelle_lexer.proofs.Blanks.{answer_blank, answer_other}
@@ -22,7 +24,7 @@ use Rattle.estelle_cli.specs.declared.contents.Contents.TheVariants.{Alone, Trac
 use Rattle.estelle_cli.specs.declared.outcome.Place.{Place}
 use Rattle.estelle_cli.specs.declared.outcome.Refusal.{Refusal}
 use Rattle.estelle_cli.specs.declared.outcome.Refusal.TheVariants.{TooLong, Bytes, TextAfterEnd, Syntax, Rule, BadTraceLine, NotARun}
-use Rattle.estelle_cli.specs.Input.{input_limit, subject, behind_line, IsEnded, IsOther, HasTokens, IsTextOf, Reads, HasTrace, Tells, Replays, IsInput, HasNoTokens, HasTextAfterEnd, HasNoTree, BreaksRule, IsNoTrace, IsNoRun, HasBadLine, HasWrongEntry, Refuses, Same, place_of}
+use Rattle.estelle_cli.specs.Input.{input_limit, subject, behind_line, IsEnded, IsOther, HasTokens, IsTextOf, Reads, HasTrace, Tells, Replays, IsInput, HasNoTokens, HasTextAfterEnd, HasNoTree, BreaksRule, IsNoTrace, IsNoRun, HasBadLine, HasWrongEntry, Refuses, place_of}
 use Rattle.estelle_cli.specs.declared.outcome.Close.{Close}
 use Rattle.estelle_cli.specs.declared.task.Task.{Task}
 use Rattle.estelle_cli.specs.declared.task.Task.TheVariants.{Run, Check, Show, Code, Replay, Make, Trial}
@@ -69,6 +71,26 @@ module _ (input : List ℕ) where
       let at = ok_same (behind_line b.rest (drop b.rest input)) a.at b.at there b.separated in
       a.is ∙ ap (λ k. drop k input) at ∙ sym b.is
 
+-- there is one first token that goes on with no beginning of a sentence
+one_number : (tokens : List Placed) (m n : ℕ) → IsFirstRefused tokens m → IsFirstRefused tokens n → m ≡ n
+one_number tokens m n a b = by (least m n)
+  where
+    least : (m n : ℕ) → (m < n) ⊎ ((n < m) ⊎ (m ≡ n))
+    least zero zero = inr (inr refl)
+    least zero (suc n) = inl (omega arith)
+    least (suc m) zero = inr (inl (omega arith))
+    least (suc m) (suc n) = up (least m n)
+      where
+        up : (m < n) ⊎ ((n < m) ⊎ (m ≡ n)) → (suc m < suc n) ⊎ ((suc n < suc m) ⊎ (suc m ≡ suc n))
+        up (inl h) = inl (omega arith)
+        up (inr (inl h)) = inr (inl (omega arith))
+        up (inr (inr e)) = inr (inr (omega arith))
+
+    by : (m < n) ⊎ ((n < m) ⊎ (m ≡ n)) → m ≡ n
+    by (inl less) = let inside = b.inside in absurd (a.behind (suc m) (omega arith) (omega arith) (b.before (suc m) (omega arith)))
+    by (inr (inl less)) = let inside = a.inside in absurd (b.behind (suc n) (omega arith) (omega arith) (a.before (suc n) (omega arith)))
+    by (inr (inr e)) = e
+
 -- ---- what a text has one of
 
 module _ (contents : Contents) (input : List ℕ) where
@@ -96,6 +118,13 @@ module _ (contents : Contents) (input : List ℕ) where
   one_text p q a b =
       let rest = (one_list input a.tokens b.tokens a.rest b.rest a.lexed b.lexed).1 in
       a.place ∙ ap (place_of input) (one_other input contents b.rest a.at b.at (subst (λ r. IsOther contents input r a.at) rest a.other) b.other) ∙ sym b.place
+
+  one_stop : (p q : Place) → HasNoTree contents input p → HasNoTree contents input q → p ≡ q
+  one_stop p q a b =
+      let same = one_list input a.tokens b.tokens a.rest b.rest a.lexed b.lexed in
+      let number = one_number b.tokens a.before b.before (subst (λ ts. IsFirstRefused ts a.before) same.0 a.first) b.first in
+      let there : first_start a.rest (drop a.before a.tokens) ≡ first_start b.rest (drop b.before b.tokens) = cc in
+      a.place ∙ ap (place_of input) there ∙ sym b.place
 
 -- a list of tokens is spelled by one specification at most
 abbrev pub OneTree : Type 0
@@ -201,7 +230,7 @@ module _ (one : OneTree) (contents : Contents) (input : List ℕ) (h : IsRead co
 -- ---- one reason
 
 module _ (one : OneTree) (contents : Contents) (input : List ℕ) where
-  pub one_refusal : (r s : Refusal) → Refuses contents r input → Refuses contents s input → Same r s
+  pub one_refusal : (r s : Refusal) → Refuses contents r input → Refuses contents s input → r ≡ s
   one_refusal TooLong TooLong a b = refl
   one_refusal TooLong (Bytes q) a b = absurd (let w = b.within in omega arith)
   one_refusal TooLong (TextAfterEnd q) a b = absurd (let w = b.within in omega arith)
@@ -226,7 +255,7 @@ module _ (one : OneTree) (contents : Contents) (input : List ℕ) where
   one_refusal (Syntax p) TooLong a b = absurd (let w = a.read.within in omega arith)
   one_refusal (Syntax p) (Bytes q) a b = absurd (tokens_or_none contents input a.tokens q a.read b)
   one_refusal (Syntax p) (TextAfterEnd q) a b = absurd (tokens_or_text contents input a.tokens q a.read b)
-  one_refusal (Syntax p) (Syntax q) a b = tt
+  one_refusal (Syntax p) (Syntax q) a b = ap Syntax (one_stop contents input p q a b)
   one_refusal (Syntax p) (Rule m q) a b = absurd (tree_or_none contents input b.spec p b.text a)
   one_refusal (Syntax p) (BadTraceLine m) a b = absurd (read_or_tree one contents input (line_read contents input m b) p a)
   one_refusal (Syntax p) (NotARun m) a b = absurd (read_or_tree one contents input (entry_read contents input m b) p a)

@@ -7,6 +7,7 @@ use Rattle.estelle_tree.specs.declared.tree.specification.Spec.{Spec}
 use Rattle.estelle_tree.specs.Input.{first_start}
 use Rattle.estelle_tree.specs.Lexed.{IsLexed, IsLexicalErrorAt, IsBlankFrom, IsFirstOther}
 use Rattle.estelle_tree.specs.Spells.{Spells}
+use Rattle.estelle_parser.specs.Answers.{IsFirstRefused}
 use Rattle.estelle_lexer.specs.Place.{line_of, column_of}
 use Rattle.scope_rules.specs.declared.refusal.Breach.{Breach}
 use Rattle.scope_rules.specs.Least.{IsLeast}
@@ -138,7 +139,7 @@ pub record HasTextAfterEnd (contents : Contents) (input : List ℕ) (p : Place) 
   pub other : IsOther contents input rest at
   pub place : p ≡ place_of input at
 
--- no specification spells the tokens
+-- no specification spells the tokens: the place is where the first token starts with which those up to it begin none
 pub record HasNoTree (contents : Contents) (input : List ℕ) (p : Place) : Type 0 where
   pub tokens : List Placed
   pub read : HasTokens contents input tokens
@@ -146,6 +147,7 @@ pub record HasNoTree (contents : Contents) (input : List ℕ) (p : Place) : Type
   pub rest : ℕ
   pub lexed : IsLexed input tokens rest
   pub before : ℕ
+  pub first : IsFirstRefused tokens before
   pub place : p ≡ place_of input (first_start rest (drop before tokens))
 
 -- this is the least rule that the specification breaks, at the place where the first node that breaks it begins
@@ -190,11 +192,6 @@ Refuses contents (Syntax p) input = HasNoTree contents input p
 Refuses contents (Rule number p) input = BreaksRule contents input number p
 Refuses contents (BadTraceLine line) input = HasBadLine contents input line
 Refuses contents (NotARun entry) input = HasWrongEntry contents input entry
-
--- one refusal, the place of an error of syntax aside
-abbrev pub Same : Refusal → Refusal → Type 0
-Same (Syntax p) (Syntax q) = Unit {0}
-Same r s = r ≡ s
 
 -- bytes were read from the front of what was left, and no more of them than this
 pub record TakesAtMost (most : ℕ) (left left' : Option (List ℕ)) : Type 0 where

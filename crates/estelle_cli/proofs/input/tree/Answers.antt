@@ -13,5 +13,6 @@ returns-in-Err-At-clause-cause c =
       rest = c.in_ok-tokens.tokens.rest;
       lexed = cut.lexed;
       before = at.0;
+      first = at.2;
       place = c.place.ensures ∙ ap (place_of c.args.bytes.now) at.1;
     }
