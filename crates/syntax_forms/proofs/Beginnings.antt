@@ -24,9 +24,6 @@ pub record Alike (B C : Beginning) : Type 0 where
 pub same : {B : Beginning} → Alike B B
 same = record { to = λ i m b. b; back = λ i m b. b }
 
-pub turned : {B C : Beginning} → Alike B C → Alike C B
-turned e = record { to = e.back; back = e.to }
-
 pub via : {B C D : Beginning} → Alike B C → Alike C D → Alike B D
 via e f = record { to = λ i m b. f.to i m (e.to i m b); back = λ i m d. e.back i m (f.back i m d) }
 

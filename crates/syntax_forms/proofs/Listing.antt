@@ -5,7 +5,7 @@ use Rattle.estelle_tree.specs.declared.kind.Kind.{Kind}
 use Rattle.estelle_tree.specs.declared.kind.Kind.TheVariants as k
 use Rattle.estelle_tree.specs.Input.{Input, kind, next, left}
 use Rattle.estelle_tree.specs.Spelling as spelling
-use Rattle.estelle_tree.specs.Spelling.{Spelling, Chain, Separated}
+use Rattle.estelle_tree.specs.Spelling.{Spelling, Chain}
 use Rattle.estelle_tree.specs.Beginning.{Beginning, ◌or◌, Then, After, Many, Some as Several, Separating}
 use Rattle.token_reader.specs.declared.error.ReadError.TheVariants.{Refused}
 use Rattle.token_reader.specs.Reader.{Parser, ReadResult, and_then, sees, take, ◌>>◌}
@@ -295,8 +295,3 @@ module _ {A : Type 0} (item : Parser A) (P : Spelling A) (B : Beginning) (end : 
       → First rest (λ j. end j × (begins (kind j) ≡ false)) → ((xs : List A) (a : Input) → Placed rest a (f xs a)) → Placed (Several B P rest) i (and_then (several begins item i) f)
   several_placed rest begins i f advances starts begin again first more =
       first_and_placed (optional begins item) P B rest end (λ j. end j × (begins (kind j) ≡ false)) (optional_step rest begins advances starts begin again) (λ i m r. inr (first i m r)) f more item P B piece i
-
--- a whole list, and what comes next
-pub separated_whole : {A : Type 0} (kind' : Kind) (P : Spelling A) (B rest : Beginning) (xs : List A) (i m j : Input) → Separated kind' P xs i m → rest m j → Separating kind' B P rest i j
-separated_whole kind' P B rest [] i m j h r = absurd h
-separated_whole kind' P B rest (x ∷ xs) i m j h r = inr (x, h.0, h.1, (xs, m, h.2, inr r))

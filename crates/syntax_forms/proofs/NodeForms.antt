@@ -3,7 +3,7 @@ use Rattle.std.proofs.Common.{◌≡◌, ◌<◌, Bool, true, false, Ok, Err, sy
 use Rattle.std.specs.Prelude.{not, ◌||◌}
 use Rattle.estelle_tree.specs.declared.kind.Kind.{Kind}
 use Rattle.estelle_tree.specs.declared.span.Span.{Span}
-use Rattle.estelle_tree.specs.Input.{Input, kind, next, left, between}
+use Rattle.estelle_tree.specs.Input.{Input, kind, left, between}
 use Rattle.estelle_tree.specs.Spelling.{Spelling}
 use Rattle.estelle_tree.specs.Beginning.{Beginning, Nothing}
 use Rattle.token_reader.specs.Reader.{Parser, ReadResult, and_then, refuse, refusal}

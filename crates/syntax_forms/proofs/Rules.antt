@@ -2,7 +2,7 @@
 use Rattle.std.proofs.Common.{◌≡◌, ℕ, Bool, true, false, [], Option, Some, refl, sym, ap, ◌∙◌, subst, inr, arith}
 use Rattle.std.proofs.Math.Path.{fun_ext}
 use Rattle.std.specs.Option.{is_some}
-use Rattle.std.specs.Prelude.{◌||◌, not}
+use Rattle.std.specs.Prelude.{◌||◌}
 use Rattle.estelle_tree.specs.declared.kind.Kind.{Kind}
 use Rattle.estelle_tree.specs.declared.kind.Kind.TheVariants as k
 use Rattle.estelle_tree.specs.declared.span.Span.{Span}
@@ -12,20 +12,21 @@ use Rattle.token_reader.specs.Reader.{Parser, and_then, pure, sees, ◌>>◌, ta
 use Rattle.token_reader.specs.Lists as lists
 use Rattle.token_reader.specs.Lists.{optional_if, ended}
 use Rattle.token_reader.proofs.Sound.{seen_is, ok_pair}
-use Rattle.syntax_forms.specs.Kinds.{is, of_all, Apart}
+use Rattle.token_reader.proofs.Complete.{unique}
+use Rattle.syntax_forms.specs.Kinds.{is, Apart}
 use Rattle.syntax_forms.specs.Form as form
 use Rattle.syntax_forms.specs.Repeats as repeats
 use Rattle.syntax_forms.specs.Form.{Form, ◌▸◌, ◌⊕◌}
 use Rattle.syntax_forms.specs.Reading.{Reading, one, ◌then◌, choose, levelled, closed, enclosed}
 use Rattle.syntax_forms.specs.Places.{Reach}
-use Rattle.syntax_forms.proofs.Lawful.{begins_so, IsForm, IsLast, IsRead, IsLawful, Follows, Starts}
+use Rattle.syntax_forms.proofs.Lawful.{Ends, IsLast, IsRead, IsLawful, Follows, Starts}
 use Rattle.syntax_forms.proofs.RowForms.{then_last, then_read}
 use Rattle.syntax_forms.proofs.ChoiceForms.{choice_last, choice_read, level_read}
 use Rattle.syntax_forms.proofs.ListForms.{separated_read}
 use Rattle.syntax_forms.proofs.StepForms.{may_last, many_read, optional_step, optional_read}
 use Rattle.syntax_forms.proofs.BehindForms.{marked_step, behind_step}
 use Rattle.syntax_forms.proofs.SeveralForms.{several_read}
-use Rattle.syntax_forms.proofs.KindLaws.{is_it, within}
+use Rattle.syntax_forms.proofs.KindLaws.{is_it}
 use Rattle.syntax_forms.proofs.Firsts.{alike, kept}
 use Rattle.syntax_forms.proofs.Words.{there}
 use Rattle.syntax_forms.proofs.Local.{upto, upto_end, reach_left, upto_span, upto_over}
@@ -101,6 +102,12 @@ pub several : {A : Type 0} {F : Form A} {p : Parser A} (begins : Kind → Bool) 
     → IsRead (form.several F) (one (lists.several begins p))
 several {F = F} {p = p} begins law some follows none tells takes = several_read F p law some follows none begins tells takes
 
+-- of things that the tokens from a place on spell, where nothing that comes next goes on with them, there is one at most
+pub one_ended : {A : Type 0} {F : Form A} {p : Parser A} → IsLawful F p → (x y : A) (i j m : Input) → F.spells x i j → F.spells y i m → Ends F j → Ends F m → (x ≡ y) × (j ≡ m)
+one_ended {F = F} {p = p} law x y i j m a b end end' =
+    let same = unique p F.spells (Ends F) law.complete x y i j m a b end end' in
+    (ap (λ p. p.0) same, ap (λ p. p.1) same)
+
 -- at most one thing is spelled by the tokens between two places
 pub at_most_one : {A : Type 0} {F : Form A} {p : Parser A} → IsLawful F p → F.on k.Nothing ≡ false → (x y : A) (i j : Input) → F.spells x i j → F.spells y i j → x ≡ y
 at_most_one {F = F} {p = p} law ends x y i j a b =
@@ -108,10 +115,6 @@ at_most_one {F = F} {p = p} law ends x y i j a b =
     let d = law.form.local j i j y b (0, refl) in
     let end : F.on (kind (upto j j)) ≡ false = rw (upto_end j) ends in
     ap (λ p. p.0) (ok_pair x y (upto j j) (upto j j) (sym (law.complete (upto j i) (upto j j) x c end) ∙ law.complete (upto j i) (upto j j) y d end))
-
--- with these terminals it begins
-pub begins_with : {A : Type 0} {F : Form A} (begins : Kind → Bool) → IsForm F → F.empty ≡ false → of_all (λ x. begins x || not (F.first x)) ≡ true → (i j : Input) (x : A) → F.spells x i j → begins (kind i) ≡ true
-begins_with {F = F} begins form some all i j x h = within F.first begins all (kind i) (begins_so F form some i j x h)
 
 -- `[o x]` and `{o x}`, where several terminals can stand
 module _ {O A : Type 0} {F : Form A} {p : Parser A} (of : Kind → Option O) (kinds : O → Kind) (forth : (o : O) → of (kinds o) ≡ Some o) (back : (kind' : Kind) (o : O) → of kind' ≡ Some o → kind' ≡ kinds o) where
