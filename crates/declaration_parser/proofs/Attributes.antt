@@ -25,7 +25,9 @@ use Rattle.syntax_forms.proofs.NodeForms.{IsNode}
 use Rattle.syntax_forms.proofs.Lawful.{IsRead, IsLawful}
 use Rattle.syntax_forms.proofs.Rules as rules
 use Rattle.syntax_forms.proofs.KindLaws.{agree}
+use Rattle.syntax_forms.proofs.Firsts.{kept}
 use Rattle.syntax_forms.proofs.Words.{takes_first, there, refused}
+use Rattle.declaration_parser.specs.Forms.{enclosed}
 use Rattle.declaration_parser.specs.Attributes.{begins_default, begins_timescale, begins_head, begins_second, sys_attr, system, attr, disc, queue, default_head, timescale_head, head, listed, heads}
 use Rattle.declaration_parser.specs.Productions as forms
 use Rattle.declaration_parser.proofs.Forms.{enclosed_lawful}
@@ -140,6 +142,31 @@ timescale_lawful = rules.built a_head.Timescale timescale_head refl (rules.part 
 
 timescale_is : (i m : Input) (x : Head) → forms.timescale_head.spells x i m → IsHead x i m × (of_head x ≡ k.Timescale)
 timescale_is i m x (n, h, e) = subst (λ x. IsHead x i m × (of_head x ≡ k.Timescale)) e ((h, refl), refl)
+
+abbrev either : Head ⊎ Head → Head
+either (inl x) = x
+either (inr x) = x
+
+-- Head = default Disc queue ";" | timescale NAME ";"
+pub head_lawful : IsLawful forms.head head
+unfolding head timescale_head enclosed
+head_lawful = rules.made head told (rules.or (rules.part default_lawful) (rules.part timescale_lawful) refl refl).rest (λ i. same i (kind i) refl)
+  where
+    told : IsNode IsHead (forms.default_head ⊕ forms.timescale_head).spells (λ p span. either p)
+    told = record { opened = opened; made = made }
+      where
+        opened : (i m : Input) (x : Head) → IsHead x i m → (p : Head ⊎ Head) × (forms.default_head ⊕ forms.timescale_head).spells p i m × (either p ≡ x)
+        opened i m (a_head.Default d span) h = (inl (a_head.Default d span), (d, h.0, ap (a_head.Default d) (sym h.1)), refl)
+        opened i m (a_head.Timescale n span) h = (inr (a_head.Timescale n span), (n, h.0, ap (a_head.Timescale n) (sym h.1)), refl)
+
+        made : (i m : Input) (p : Head ⊎ Head) → (forms.default_head ⊕ forms.timescale_head).spells p i m → IsHead (either p) i m
+        made i m (inl x) h = (default_is i m x h).0
+        made i m (inr x) h = (timescale_is i m x h).0
+
+    same : (i : Input) (x : Kind) → kind i ≡ x → head i ≡ choose forms.default_head.first (one default_head) (one timescale_head) Head (λ p. pure (either p)) i
+    same i k.Default e = rw e (kept (default_head i))
+    same i k.Timescale e = rw e (kept (timescale_head i))
+    same i x e = rw (e, refused k.Timescale i (ap (is k.Timescale) e)) refl
 
 -- ---- `{Head}`: each form at most once
 
