@@ -67,7 +67,7 @@ module _ (room : ℕ) where
       by _ e s = absurd (cc)
 
   -- `{BlockDecl}` and `{BlockDecl}+`
-  decls_read : IsRead (repeats.many (definitions.block_decl room)) (one (block_decls room))
+  pub decls_read : IsRead (repeats.many (definitions.block_decl room)) (one (block_decls room))
   decls_read = rules.many begins_block_decl (block_decl_lawful room) refl decl_tells decl_takes refl refl
 
   some_decls_read : IsRead (form.several (definitions.block_decl room)) (one (several begins_block_decl (block_decl room)))

@@ -565,18 +565,20 @@ module _ (room : ℕ) where
   unfolding stands
   outer_level = level_within (length clause_kinds) [] (omega arith)
 
-  outer_lawful : IsLawful (forms.whole_body room Outer BeginsOuter []) (trans_body room)
+  -- A body is read exactly where nothing that comes next goes on with it: whatever comes behind a block, and behind
+  -- groups what is no clause.
+  pub whole_trans_body_lawful : IsLawful (forms.whole_body room Outer BeginsOuter []) (trans_body room)
   unfolding trans_body stands
-  outer_lawful = whole_body_lawful Outer outer_clausal BeginsOuter [] outer outer_level
+  whole_trans_body_lawful = whole_body_lawful Outer outer_clausal BeginsOuter [] outer outer_level
 
   -- TransBody = Block | {Group}+
   pub trans_body_lawful : IsLawful (forms.trans_body room) (trans_body room)
   unfolding stands
   trans_body_lawful = record {
     form = known_form (IsTransBody room) (forms.trans_body room).begins begins_trans_body begins_clause open_laws.whole open_laws.nothing (λ i m b h. wider (kind i) (begins_so _ open_laws refl i m b h)) first open_laws.reach (open_laws.advances refl) open_laws.local open_laws.shut;
-    placed = outer_lawful.placed;
-    sound = λ i j b h. (outer_lawful.sound i j b h).0;
-    complete = λ i j b h end. outer_lawful.complete i j b (h, inr end) refl;
+    placed = whole_trans_body_lawful.placed;
+    sound = λ i j b h. (whole_trans_body_lawful.sound i j b h).0;
+    complete = λ i j b h end. whole_trans_body_lawful.complete i j b (h, inr end) refl;
     reaches = λ i m b h. reaches i m b h (begins_clause (kind m)) refl;
   }
     where
@@ -594,9 +596,9 @@ module _ (room : ℕ) where
           by (inr s) = inr (wider (kind i) s)
 
       reaches : (i m : Input) (b : TransBody) → IsTransBody room b i m → (here : Bool) → begins_clause (kind m) ≡ here → Reached i b m (trans_body room i)
-      reaches i m b h false e = inl (outer_lawful.complete i m b (h, inr e) refl)
+      reaches i m b h false e = inl (whole_trans_body_lawful.complete i m b (h, inr e) refl)
       reaches i m b h true e = by (body_longer Outer outer_clausal BeginsOuter [] outer outer_level i m b h)
         where
           by : EndsBody [] b m ⊎ (forms.trans_body room).begins i (next m) → Reached i b m (trans_body room i)
-          by (inl ends) = inl (outer_lawful.complete i m b (h, ends) refl)
-          by (inr longer) = goes_behind outer_lawful i m b (λ n. let no : true ≡ false = sym e ∙ ap begins_clause n in cc) longer
+          by (inl ends) = inl (whole_trans_body_lawful.complete i m b (h, ends) refl)
+          by (inr longer) = goes_behind whole_trans_body_lawful i m b (λ n. let no : true ≡ false = sym e ∙ ap begins_clause n in cc) longer
