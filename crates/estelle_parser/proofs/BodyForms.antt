@@ -1,5 +1,5 @@
 -- The laws of initializations, transitions and bodies: the forms are read by their parsers.
-use Rattle.std.proofs.Common.{◌≡◌, ◌<◌, ℕ, zero, suc, Bool, true, false, List, [], ◌∷◌, ◌++◌, Option, Some, None, Ok, Err, sym, refl, ap, ◌∙◌, subst, inl, inr, ◌⊎◌}
+use Rattle.std.proofs.Common.{◌≡◌, ◌<◌, ◌≤◌, ℕ, zero, suc, Bool, true, false, List, [], ◌∷◌, ◌++◌, Option, Some, None, Ok, Err, sym, refl, ap, ◌∙◌, subst, inl, inr, ◌⊎◌, arith}
 use Rattle.std.specs.Prelude.{◌==◌, ◌&&◌, not, if◌then◌else◌}
 use Rattle.estelle_tree.specs.declared.kind.Kind.{Kind}
 use Rattle.estelle_tree.specs.declared.kind.Kind.TheVariants as k
@@ -21,17 +21,21 @@ use Rattle.estelle_tree.specs.Spelling.{Spelling, Takes}
 use Rattle.estelle_tree.specs.Beginning.{Beginning}
 use Rattle.estelle_tree.specs.Specification.{IsInit, IsTrans, BodyOf, DeclLayerOf, DeclOf, PartsOf, PartsBelow}
 use Rattle.token_reader.specs.Reader.{Parser, ReadResult, and_then, pure, refusal, refuse, ◌>>=◌, span_over, expect, name}
+use Rattle.token_reader.proofs.Sound.{Sound, ok_pair}
+use Rattle.token_reader.proofs.Complete.{Complete}
 use Rattle.token_reader.specs.Lists.{optional_if, optional, behind, turn, repeated_from, repeated}
 use Rattle.syntax_forms.specs.Kinds.{is}
 use Rattle.syntax_forms.specs.Form as form
 use Rattle.syntax_forms.specs.Form.{◌▸◌, ◌⊕◌}
 use Rattle.syntax_forms.specs.Repeats as repeats
 use Rattle.syntax_forms.specs.Reading.{Reading, one, ◌then◌, chosen, choose, opening, enclosed}
+use Rattle.syntax_forms.specs.Placed.{stop, Placed}
+use Rattle.syntax_forms.proofs.Local.{reach_left}
 use Rattle.syntax_forms.proofs.KindLaws.{is_it, both_of, not_true, when, apart, within, agree}
 use Rattle.syntax_forms.proofs.ChoiceForms.{some_room, has_room, chosen_one, chosen_other}
 use Rattle.syntax_forms.proofs.StepForms.{IsStep, told_step, many_read}
 use Rattle.syntax_forms.proofs.NodeForms.{IsSpanned, IsNode, known_lawful, never_lawful}
-use Rattle.syntax_forms.proofs.Lawful.{begins_so, IsRead, IsLawful}
+use Rattle.syntax_forms.proofs.Lawful.{begins_so, Ends, IsRead, IsLawful}
 use Rattle.syntax_forms.proofs.Rules as rules
 use Rattle.syntax_forms.proofs.Words.{takes_first, refused}
 use Rattle.syntax_forms.proofs.Firsts.{alike, kept}
@@ -50,7 +54,7 @@ use Rattle.declaration_parser.proofs.Declarations.{ip_decl_lawful, modvar_decl_l
 use Rattle.clause_parser.specs.Forms as clauses
 use Rattle.clause_parser.proofs.BlockForms.{block_lawful}
 use Rattle.clause_parser.proofs.GroupForms.{trans_body_lawful}
-use Rattle.estelle_parser.specs.Bodies.{begins_decl, begins_init, begins_trans, opens, body_over, body_part, init, trans, routine_part, decl_by, decl_over, parts_over, parts_below, parts}
+use Rattle.estelle_parser.specs.Bodies.{begins_decl, begins_init, begins_trans, opens, body_over, body_part, init, trans, routine_part, decl_by, decl_over, parts_over, parts_below}
 use Rattle.estelle_parser.specs.Forms as forms
 use Rattle.estelle_parser.specs.Forms.{begins_parts, goes_on_parts, BeginsBelow}
 
@@ -378,3 +382,58 @@ pub near_below : (room : ℕ) (i : Input) → Nearly (parts_below room i) (parts
 unfolding parts_below parts_at
 near_below zero i = inl refl
 near_below (suc room) i = parts_near room (parts_below room) (parts_at room) (near_below room) i
+
+-- ---- the parser of the parts itself
+
+-- It has the laws of the other one but for where a body cannot stand: there it refuses the word `body`, behind parts
+-- that are spelled so.
+module _ (room : ℕ) where
+  pub parts_sound : Sound (parts_below room) (PartsBelow room)
+  parts_sound i j ps h = by (near_below room i)
+    where
+      by : Nearly (parts_below room i) (parts_at room i) → PartsBelow room ps i j
+      by (inl e) = (parts_at_lawful room).sound i j ps (sym e ∙ h)
+      by (inr (x, m, e, there, r)) = absurd (let no : Err (refusal m) ≡ Ok (ps, j) = sym r ∙ h in cc)
+
+  pub parts_complete : Complete (parts_below room) (PartsBelow room) (Ends (forms.parts_below room))
+  parts_complete i j ps h end = by (near_below room i)
+    where
+      read : parts_at room i ≡ Ok (ps, j)
+      read = (parts_at_lawful room).complete i j ps h end
+
+      goes_on : kind j ≡ k.Body → ⊥
+      goes_on there = let on : goes_on_parts (kind j) ≡ true = ap goes_on_parts there in let no : true ≡ false = sym on ∙ end in cc
+
+      by : Nearly (parts_below room i) (parts_at room i) → parts_below room i ≡ Ok (ps, j)
+      by (inl e) = e ∙ read
+      by (inr (x, m, e, there, r)) = absurd (goes_on (ap kind (sym (ap (λ p. p.1) (ok_pair x ps m j (sym e ∙ read)))) ∙ there))
+
+  pub parts_placed : (i : Input) → Placed (BeginsBelow room) i (parts_below room i)
+  unfolding refusal
+  parts_placed i = by (near_below room i)
+    where
+      law : IsLawful (forms.parts_below room) (parts_at room)
+      law = parts_at_lawful room
+
+      at : Placed (BeginsBelow room) i (parts_at room i)
+      at = law.placed i
+
+      by : Nearly (parts_below room i) (parts_at room i) → Placed (BeginsBelow room) i (parts_below room i)
+      by (inl e) = subst (λ (o : ReadResult Parts). Placed (BeginsBelow room) i o) (sym e) at
+      by (inr (x, m, e, there, r)) = subst (λ (o : ReadResult Parts). Placed (BeginsBelow room) i o) (sym r) (record {
+        on = record { fits = let h = less in omega arith };
+        longest = longest;
+        begun = λ l f. record { at = m; reach = law.form.reach i m x spelled; begins = law.form.whole i m x spelled; count = ap (λ (o : ReadResult Parts). stop o) f };
+      })
+        where
+          spelled : PartsBelow room x i m
+          spelled = law.sound i m x e
+
+          less : left m ≤ left i
+          less = reach_left i m (law.form.reach i m x spelled)
+
+          longest : (n : Input) → BeginsBelow room i n → left m ≤ left n
+          longest n b =
+              let stops : stop (parts_at room i) ≡ left m = ap (λ (o : ReadResult Parts). stop o) e in
+              let short = at.longest n b in
+              omega arith

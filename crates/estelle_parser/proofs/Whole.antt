@@ -12,7 +12,7 @@ use Rattle.estelle_tree.specs.Spells.{max_nesting, Spells}
 use Rattle.estelle_tree.specs.BeginsSpecification.{BeginsSpec, Begins}
 use Rattle.estelle_tree.proofs.Cuts.{Out, begun, past}
 use Rattle.token_reader.specs.declared.error.ReadError.{ReadError}
-use Rattle.token_reader.specs.declared.error.ReadError.TheVariants.{Refused}
+use Rattle.token_reader.specs.declared.error.ReadError.TheVariants.{Refused, Memory}
 use Rattle.token_reader.specs.Reader.{ReadResult, and_then, pure, refusal, refuse, ◌>>◌, expect, name}
 use Rattle.token_reader.specs.Lists.{optional}
 use Rattle.token_reader.proofs.Sound.{Sound, through, answered, ok_pair}
@@ -249,3 +249,37 @@ module _ (tokens : List Placed) (i : Input) (at : i ≡ input tokens 0) where
 
 pub one_tree : (s t : Spec) (tokens : List Placed) → Spells s tokens → Spells t tokens → s ≡ t
 one_tree s t tokens a b = no_other tokens (input tokens 0) refl s t (input [] a.end) (read tokens (input tokens 0) refl s a) b
+
+-- a list of tokens is spelled by a tree, or by none, and then has a first one that is refused
+pub tree_or_place : (tokens : List Placed) → AreTokens tokens → ((s : Spec) × Spells s tokens) ⊎ (((s : Spec) → Spells s tokens → ⊥) × ((n : ℕ) × IsFirstRefused tokens n))
+tree_or_place tokens forms = by (whole 200 (input tokens 0)) refl
+  where
+    gone : whole 200 (input tokens 0) ≡ Err Memory → ⊥
+    gone e =
+        let below : Below {A = Spec} (input tokens 0) (suc (left (input tokens 0))) (Err Memory) = subst (λ (o : ReadResult Spec). Below (input tokens 0) (suc (left (input tokens 0))) o) e (whole_placed 200 (input tokens 0)).on in
+        below.fits
+
+    by : (o : ReadResult Spec) → whole 200 (input tokens 0) ≡ o → ((s : Spec) × Spells s tokens) ⊎ (((s : Spec) → Spells s tokens → ⊥) × ((n : ℕ) × IsFirstRefused tokens n))
+    by (Ok (s, j)) e = inl (s, spelled tokens (input tokens 0) refl s j forms e)
+    by (Err (Refused l)) e = inr ((λ s h. none_refused tokens (input tokens 0) refl s (Refused l) e h), (length tokens - l, first_refused tokens l e))
+    by (Err Memory) e = absurd (gone e)
+
+-- and there is one such number
+pub one_place : (tokens : List Placed) (m n : ℕ) → IsFirstRefused tokens m → IsFirstRefused tokens n → m ≡ n
+one_place tokens m n a b = by (least m n)
+  where
+    least : (m n : ℕ) → (m < n) ⊎ ((n < m) ⊎ (m ≡ n))
+    least zero zero = inr (inr refl)
+    least zero (suc n) = inl (omega arith)
+    least (suc m) zero = inr (inl (omega arith))
+    least (suc m) (suc n) = up (least m n)
+      where
+        up : (m < n) ⊎ ((n < m) ⊎ (m ≡ n)) → (suc m < suc n) ⊎ ((suc n < suc m) ⊎ (suc m ≡ suc n))
+        up (inl h) = inl (omega arith)
+        up (inr (inl h)) = inr (inl (omega arith))
+        up (inr (inr e)) = inr (inr (omega arith))
+
+    by : (m < n) ⊎ ((n < m) ⊎ (m ≡ n)) → m ≡ n
+    by (inl less) = let inside = b.inside in absurd (a.behind (suc m) (omega arith) (omega arith) (b.before (suc m) (omega arith)))
+    by (inr (inl less)) = let inside = a.inside in absurd (b.behind (suc n) (omega arith) (omega arith) (a.before (suc n) (omega arith)))
+    by (inr (inr e)) = e

@@ -10,5 +10,5 @@ mod transition;
 
 pub use body::parts;
 pub use error::SyntaxError;
-pub use laws::one_tree;
+pub use laws::{one_tree, tree_or_place};
 pub use specification::parse;
