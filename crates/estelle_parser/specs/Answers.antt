@@ -18,15 +18,14 @@ Gives spec (Ok found) = found ≡ spec
 Gives spec (Err Memory) = Unit {0}
 Gives spec (Err (At place)) = ⊥
 
--- The token before which so many stand is the first that goes on with no beginning of a sentence: what stands
--- before it begins one, as each part of that from the first token on does, and no more tokens do. There is no such
--- token where the number is that of all tokens.
+-- The first n tokens begin a sentence, and so do fewer; more begin none. So the token behind them is the first that is refused;
+-- where n is the number of all, there is no such token.
 pub record IsFirstRefused (tokens : List Placed) (n : ℕ) : Type 0 where
   pub inside : n ≤ length tokens
   pub before : (m : ℕ) → m ≤ n → Begins tokens m
   pub behind : (m : ℕ) → n < m → m ≤ length tokens → Begins tokens m → ⊥
 
--- the place is where that token starts, or the end of the input where there is none
+-- the place is where that token starts; where there is none, it is the end of what was cut into tokens
 abbrev pub IsRefusedAt : List Placed → ℕ → SyntaxError → Type 0
 IsRefusedAt tokens rest Memory = Unit {0}
 IsRefusedAt tokens rest (At place) = (n : ℕ) × (place ≡ first_start rest (drop n tokens)) × IsFirstRefused tokens n

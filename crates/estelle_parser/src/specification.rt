@@ -80,7 +80,8 @@ pub fn parse(alloc: Global, tokens: &Tokens) -> Result<Spec, SyntaxError>
     // What is answered is spelled so, and no other tree is.
     ensures spelled { IfOk result (λ found. Spells found tokens.now.items) }
     ensures only { (found : Spec) → Spells found tokens.now.items → Gives found result }
-    // It is refused where the first token starts with which the tokens up to it begin no sentence.
+    // It is refused where the first token starts with which the tokens up to it begin no sentence (`Begins`); where they all
+    // do, at the end of what was cut into tokens.
     ensures place { IfErr result (IsRefusedAt tokens.now.items tokens.now.rest) }
 {
     let mut place = Cursor::new(tokens.items(), 0);
