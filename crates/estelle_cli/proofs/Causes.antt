@@ -1,5 +1,5 @@
 -- An input that is what it is to be is none to refuse, and one that is refused has one reason.
-use Rattle.std.proofs.Common.{◌≡◌, ℕ, zero, suc, ◌<◌, ◌≤◌, Bool, true, false, List, length, drop, Option, Some, None, Result, Ok, Err, sym, ap, ◌∙◌, subst, refl, inl, inr, ◌⊎◌, arith}
+use Rattle.std.proofs.Common.{◌≡◌, ℕ, ◌≤◌, Bool, true, false, List, length, drop, Option, Some, None, Result, Ok, Err, sym, ap, ◌∙◌, subst, refl, arith}
 use Rattle.std.specs.Prelude.{IfSome, IsSomeAnd, IsNone, IsTrue}
 use Rattle.std.proofs.lemmas.Bool.Decides.{nat_tests}
 use Rattle.estelle_tree.specs.declared.token.Placed.{Placed}
@@ -8,6 +8,7 @@ use Rattle.estelle_tree.specs.Input.{first_start}
 use Rattle.estelle_tree.specs.Lexed.{IsBlankFrom, IsFirstOther}
 use Rattle.estelle_tree.specs.Spells.{Spells}
 use Rattle.estelle_parser.specs.Answers.{IsFirstRefused}
+use Rattle.estelle_parser.proofs.Whole as parser
 use Rattle.estelle_lexer.specs.Blank.{other_from}
 use Rattle.estelle_lexer.proofs.Answers.{one_list, one_error, not_both}
 use Rattle.estelle_lexer.proofs.Blanks.{answer_blank, answer_other}
@@ -24,7 +25,7 @@ use Rattle.estelle_cli.specs.declared.contents.Contents.TheVariants.{Alone, Trac
 use Rattle.estelle_cli.specs.declared.outcome.Place.{Place}
 use Rattle.estelle_cli.specs.declared.outcome.Refusal.{Refusal}
 use Rattle.estelle_cli.specs.declared.outcome.Refusal.TheVariants.{TooLong, Bytes, TextAfterEnd, Syntax, Rule, BadTraceLine, NotARun}
-use Rattle.estelle_cli.specs.Input.{input_limit, subject, behind_line, IsEnded, IsOther, HasTokens, IsTextOf, Reads, HasTrace, Tells, Replays, IsInput, HasNoTokens, HasTextAfterEnd, HasNoTree, BreaksRule, IsNoTrace, IsNoRun, HasBadLine, HasWrongEntry, Refuses, place_of}
+use Rattle.estelle_cli.specs.Input.{input_limit, subject, behind_line, IsEnded, IsOther, HasTokens, IsTextOf, Reads, HasTrace, Tells, Replays, IsInput, HasNoTokens, HasTextAfterEnd, HasNoTree, HasNoTreeAt, BreaksRule, IsNoTrace, IsNoRun, HasBadLine, HasWrongEntry, Refuses, IsRefusable, place_of}
 use Rattle.estelle_cli.specs.declared.outcome.Close.{Close}
 use Rattle.estelle_cli.specs.declared.task.Task.{Task}
 use Rattle.estelle_cli.specs.declared.task.Task.TheVariants.{Run, Check, Show, Code, Replay, Make, Trial}
@@ -71,26 +72,6 @@ module _ (input : List ℕ) where
       let at = ok_same (behind_line b.rest (drop b.rest input)) a.at b.at there b.separated in
       a.is ∙ ap (λ k. drop k input) at ∙ sym b.is
 
--- there is one first token that goes on with no beginning of a sentence
-one_number : (tokens : List Placed) (m n : ℕ) → IsFirstRefused tokens m → IsFirstRefused tokens n → m ≡ n
-one_number tokens m n a b = by (least m n)
-  where
-    least : (m n : ℕ) → (m < n) ⊎ ((n < m) ⊎ (m ≡ n))
-    least zero zero = inr (inr refl)
-    least zero (suc n) = inl (omega arith)
-    least (suc m) zero = inr (inl (omega arith))
-    least (suc m) (suc n) = up (least m n)
-      where
-        up : (m < n) ⊎ ((n < m) ⊎ (m ≡ n)) → (suc m < suc n) ⊎ ((suc n < suc m) ⊎ (suc m ≡ suc n))
-        up (inl h) = inl (omega arith)
-        up (inr (inl h)) = inr (inl (omega arith))
-        up (inr (inr e)) = inr (inr (omega arith))
-
-    by : (m < n) ⊎ ((n < m) ⊎ (m ≡ n)) → m ≡ n
-    by (inl less) = let inside = b.inside in absurd (a.behind (suc m) (omega arith) (omega arith) (b.before (suc m) (omega arith)))
-    by (inr (inl less)) = let inside = a.inside in absurd (b.behind (suc n) (omega arith) (omega arith) (a.before (suc n) (omega arith)))
-    by (inr (inr e)) = e
-
 -- ---- what a text has one of
 
 module _ (contents : Contents) (input : List ℕ) where
@@ -108,8 +89,8 @@ module _ (contents : Contents) (input : List ℕ) where
       let rest = (one_list input ts b.tokens a.rest b.rest a.lexed b.lexed).1 in
       ended_or_other input contents b.rest b.at (subst (IsEnded contents input) rest a.ended) b.other
 
-  tree_or_none : (spec : Spec) (p : Place) → IsTextOf contents input spec → HasNoTree contents input p → ⊥
-  tree_or_none spec p a b = b.none spec (subst (Spells spec) (same_tokens a.tokens b.tokens a.read b.read) a.spells)
+  tree_or_none : (spec : Spec) → IsTextOf contents input spec → HasNoTree contents input → ⊥
+  tree_or_none spec a b = b.none spec (subst (Spells spec) (same_tokens a.tokens b.tokens a.read b.read) a.spells)
 
   one_place : (p q : Place) → HasNoTokens contents input p → HasNoTokens contents input q → p ≡ q
   one_place p q a b = a.place ∙ ap (place_of input) (one_error input a.at b.at a.error b.error) ∙ sym b.place
@@ -119,11 +100,11 @@ module _ (contents : Contents) (input : List ℕ) where
       let rest = (one_list input a.tokens b.tokens a.rest b.rest a.lexed b.lexed).1 in
       a.place ∙ ap (place_of input) (one_other input contents b.rest a.at b.at (subst (λ r. IsOther contents input r a.at) rest a.other) b.other) ∙ sym b.place
 
-  one_stop : (p q : Place) → HasNoTree contents input p → HasNoTree contents input q → p ≡ q
+  one_stop : (p q : Place) → HasNoTreeAt contents input p → HasNoTreeAt contents input q → p ≡ q
   one_stop p q a b =
-      let same = one_list input a.tokens b.tokens a.rest b.rest a.lexed b.lexed in
-      let number = one_number b.tokens a.before b.before (subst (λ ts. IsFirstRefused ts a.before) same.0 a.first) b.first in
-      let there : first_start a.rest (drop a.before a.tokens) ≡ first_start b.rest (drop b.before b.tokens) = cc in
+      let same = one_list input a.text.tokens b.text.tokens a.rest b.rest a.lexed b.lexed in
+      let number = parser.one_place b.text.tokens a.before b.before (subst (λ ts. IsFirstRefused ts a.before) same.0 a.first) b.first in
+      let there : first_start a.rest (drop a.before a.text.tokens) ≡ first_start b.rest (drop b.before b.text.tokens) = cc in
       a.place ∙ ap (place_of input) there ∙ sym b.place
 
 -- a list of tokens is spelled by one specification at most
@@ -219,8 +200,8 @@ module _ (one : OneTree) (contents : Contents) (input : List ℕ) (h : IsRead co
   read_or_text : (p : Place) → HasTextAfterEnd contents input p → ⊥
   read_or_text p = tokens_or_text contents input h.reads.text.tokens p h.reads.text.read
 
-  read_or_tree : (p : Place) → HasNoTree contents input p → ⊥
-  read_or_tree p = tree_or_none contents input h.spec p h.reads.text
+  read_or_tree : HasNoTree contents input → ⊥
+  read_or_tree = tree_or_none contents input h.spec h.reads.text
 
   read_or_rule : (n : ℕ) (p : Place) → BreaksRule contents input n p → ⊥
   read_or_rule n p b =
@@ -234,49 +215,49 @@ module _ (one : OneTree) (contents : Contents) (input : List ℕ) where
   one_refusal TooLong TooLong a b = refl
   one_refusal TooLong (Bytes q) a b = absurd (let w = b.within in omega arith)
   one_refusal TooLong (TextAfterEnd q) a b = absurd (let w = b.within in omega arith)
-  one_refusal TooLong (Syntax q) a b = absurd (let w = b.read.within in omega arith)
+  one_refusal TooLong (Syntax q) a b = absurd (let w = b.text.read.within in omega arith)
   one_refusal TooLong (Rule m q) a b = absurd (let w = b.text.read.within in omega arith)
   one_refusal TooLong (BadTraceLine m) a b = absurd (let w = not_long one contents input (line_read contents input m b) in omega arith)
   one_refusal TooLong (NotARun m) a b = absurd (let w = not_long one contents input (entry_read contents input m b) in omega arith)
   one_refusal (Bytes p) TooLong a b = absurd (let w = a.within in omega arith)
   one_refusal (Bytes p) (Bytes q) a b = ap (λ p. Bytes p) (one_place contents input p q a b)
   one_refusal (Bytes p) (TextAfterEnd q) a b = absurd (text_or_none contents input q p b a)
-  one_refusal (Bytes p) (Syntax q) a b = absurd (tokens_or_none contents input b.tokens p b.read a)
+  one_refusal (Bytes p) (Syntax q) a b = absurd (tokens_or_none contents input b.text.tokens p b.text.read a)
   one_refusal (Bytes p) (Rule m q) a b = absurd (tokens_or_none contents input b.text.tokens p b.text.read a)
   one_refusal (Bytes p) (BadTraceLine m) a b = absurd (read_or_bytes one contents input (line_read contents input m b) p a)
   one_refusal (Bytes p) (NotARun m) a b = absurd (read_or_bytes one contents input (entry_read contents input m b) p a)
   one_refusal (TextAfterEnd p) TooLong a b = absurd (let w = a.within in omega arith)
   one_refusal (TextAfterEnd p) (Bytes q) a b = absurd (text_or_none contents input p q a b)
   one_refusal (TextAfterEnd p) (TextAfterEnd q) a b = ap (λ p. TextAfterEnd p) (one_text contents input p q a b)
-  one_refusal (TextAfterEnd p) (Syntax q) a b = absurd (tokens_or_text contents input b.tokens p b.read a)
+  one_refusal (TextAfterEnd p) (Syntax q) a b = absurd (tokens_or_text contents input b.text.tokens p b.text.read a)
   one_refusal (TextAfterEnd p) (Rule m q) a b = absurd (tokens_or_text contents input b.text.tokens p b.text.read a)
   one_refusal (TextAfterEnd p) (BadTraceLine m) a b = absurd (read_or_text one contents input (line_read contents input m b) p a)
   one_refusal (TextAfterEnd p) (NotARun m) a b = absurd (read_or_text one contents input (entry_read contents input m b) p a)
-  one_refusal (Syntax p) TooLong a b = absurd (let w = a.read.within in omega arith)
-  one_refusal (Syntax p) (Bytes q) a b = absurd (tokens_or_none contents input a.tokens q a.read b)
-  one_refusal (Syntax p) (TextAfterEnd q) a b = absurd (tokens_or_text contents input a.tokens q a.read b)
+  one_refusal (Syntax p) TooLong a b = absurd (let w = a.text.read.within in omega arith)
+  one_refusal (Syntax p) (Bytes q) a b = absurd (tokens_or_none contents input a.text.tokens q a.text.read b)
+  one_refusal (Syntax p) (TextAfterEnd q) a b = absurd (tokens_or_text contents input a.text.tokens q a.text.read b)
   one_refusal (Syntax p) (Syntax q) a b = ap Syntax (one_stop contents input p q a b)
-  one_refusal (Syntax p) (Rule m q) a b = absurd (tree_or_none contents input b.spec p b.text a)
-  one_refusal (Syntax p) (BadTraceLine m) a b = absurd (read_or_tree one contents input (line_read contents input m b) p a)
-  one_refusal (Syntax p) (NotARun m) a b = absurd (read_or_tree one contents input (entry_read contents input m b) p a)
+  one_refusal (Syntax p) (Rule m q) a b = absurd (tree_or_none contents input b.spec b.text a.text)
+  one_refusal (Syntax p) (BadTraceLine m) a b = absurd (read_or_tree one contents input (line_read contents input m b) a.text)
+  one_refusal (Syntax p) (NotARun m) a b = absurd (read_or_tree one contents input (entry_read contents input m b) a.text)
   one_refusal (Rule n p) TooLong a b = absurd (let w = a.text.read.within in omega arith)
   one_refusal (Rule n p) (Bytes q) a b = absurd (tokens_or_none contents input a.text.tokens q a.text.read b)
   one_refusal (Rule n p) (TextAfterEnd q) a b = absurd (tokens_or_text contents input a.text.tokens q a.text.read b)
-  one_refusal (Rule n p) (Syntax q) a b = absurd (tree_or_none contents input a.spec q a.text b)
+  one_refusal (Rule n p) (Syntax q) a b = absurd (tree_or_none contents input a.spec a.text b.text)
   one_refusal (Rule n p) (Rule m q) a b = one_rule one contents input n m p q a b
   one_refusal (Rule n p) (BadTraceLine m) a b = absurd (read_or_rule one contents input (line_read contents input m b) n p a)
   one_refusal (Rule n p) (NotARun m) a b = absurd (read_or_rule one contents input (entry_read contents input m b) n p a)
   one_refusal (BadTraceLine n) TooLong a b = absurd (let w = not_long one contents input (line_read contents input n a) in omega arith)
   one_refusal (BadTraceLine n) (Bytes q) a b = absurd (read_or_bytes one contents input (line_read contents input n a) q b)
   one_refusal (BadTraceLine n) (TextAfterEnd q) a b = absurd (read_or_text one contents input (line_read contents input n a) q b)
-  one_refusal (BadTraceLine n) (Syntax q) a b = absurd (read_or_tree one contents input (line_read contents input n a) q b)
+  one_refusal (BadTraceLine n) (Syntax q) a b = absurd (read_or_tree one contents input (line_read contents input n a) b.text)
   one_refusal (BadTraceLine n) (Rule m q) a b = absurd (read_or_rule one contents input (line_read contents input n a) m q b)
   one_refusal (BadTraceLine n) (BadTraceLine m) a b = ap (λ k. BadTraceLine k) (one_line input contents n m a b)
   one_refusal (BadTraceLine n) (NotARun m) a b = absurd (line_or_entry input contents n m a b)
   one_refusal (NotARun n) TooLong a b = absurd (let w = not_long one contents input (entry_read contents input n a) in omega arith)
   one_refusal (NotARun n) (Bytes q) a b = absurd (read_or_bytes one contents input (entry_read contents input n a) q b)
   one_refusal (NotARun n) (TextAfterEnd q) a b = absurd (read_or_text one contents input (entry_read contents input n a) q b)
-  one_refusal (NotARun n) (Syntax q) a b = absurd (read_or_tree one contents input (entry_read contents input n a) q b)
+  one_refusal (NotARun n) (Syntax q) a b = absurd (read_or_tree one contents input (entry_read contents input n a) b.text)
   one_refusal (NotARun n) (Rule m q) a b = absurd (read_or_rule one contents input (entry_read contents input n a) m q b)
   one_refusal (NotARun n) (BadTraceLine m) a b = absurd (line_or_entry input contents m n b a)
   one_refusal (NotARun n) (NotARun m) a b = ap (λ k. NotARun k) (one_entry input one contents n m a b)
@@ -299,6 +280,15 @@ and_task o task P e h = subst (λ (u : Option Task). IsSomeAnd u P) e h
 
 -- ---- an input of which something is written
 
+refusable : (contents : Contents) (r : Refusal) (input : List ℕ) → Refuses contents r input → IsRefusable contents r input
+refusable contents TooLong input h = h
+refusable contents (Bytes p) input h = h
+refusable contents (TextAfterEnd p) input h = h
+refusable contents (Syntax p) input h = h.text
+refusable contents (Rule n p) input h = h
+refusable contents (BadTraceLine line) input h = h
+refusable contents (NotARun entry) input h = h
+
 module _ (one : OneTree) where
   input_or_line : (contents : Contents) (input : List ℕ) (line : ℕ) → IsInput contents input → HasBadLine contents input line → ⊥
   input_or_line Alone input line a b = b
@@ -308,11 +298,11 @@ module _ (one : OneTree) where
   input_or_entry Alone input entry a b = b
   input_or_entry (Traced budget) input entry a b = run_or_entry input one budget a.0 entry a.1 b
 
-  input_or_refused : (contents : Contents) (r : Refusal) (input : List ℕ) → IsInput contents input → Refuses contents r input → ⊥
+  input_or_refused : (contents : Contents) (r : Refusal) (input : List ℕ) → IsInput contents input → IsRefusable contents r input → ⊥
   input_or_refused contents TooLong input a b = let w = not_long one contents input (input_read contents input a) in omega arith
   input_or_refused contents (Bytes q) input a b = read_or_bytes one contents input (input_read contents input a) q b
   input_or_refused contents (TextAfterEnd q) input a b = read_or_text one contents input (input_read contents input a) q b
-  input_or_refused contents (Syntax q) input a b = read_or_tree one contents input (input_read contents input a) q b
+  input_or_refused contents (Syntax q) input a b = read_or_tree one contents input (input_read contents input a) b
   input_or_refused contents (Rule n p) input a b = read_or_rule one contents input (input_read contents input a) n p b
   input_or_refused contents (BadTraceLine line) input a b = input_or_line contents input line a b
   input_or_refused contents (NotARun entry) input a b = input_or_entry contents input entry a b
@@ -320,11 +310,11 @@ module _ (one : OneTree) where
   at_some : (P : List ℕ → Type 0) (left : Option (List ℕ)) (input : List ℕ) → left ≡ Some input → IfSome left P → P input
   at_some P left input e h = let Q : Option (List ℕ) → Type 0 = λ o. IfSome o P in subst Q e h
 
-  alone_refused : (left : Option (List ℕ)) (t : Spec) → IfSome left (λ bytes. Reads Alone bytes t) → (r : Refusal) (input : List ℕ) → left ≡ Some input → Refuses Alone r input → ⊥
+  alone_refused : (left : Option (List ℕ)) (t : Spec) → IfSome left (λ bytes. Reads Alone bytes t) → (r : Refusal) (input : List ℕ) → left ≡ Some input → IsRefusable Alone r input → ⊥
   alone_refused left t reads r input is refuses = input_or_refused Alone r input (t, at_some (λ i. Reads Alone i t) left input is reads) refuses
 
   -- an input of which something is written is none to refuse
-  pub output_refused : (task : Task) (clock : Option ℕ) (left : Option (List ℕ)) (c : Close) (text : List ℕ) → IsOutput task clock left c text → (r : Refusal) (input : List ℕ) → left ≡ Some input → ReadsInput task × Refuses (contents_of task) r input → ⊥
+  pub output_refused : (task : Task) (clock : Option ℕ) (left : Option (List ℕ)) (c : Close) (text : List ℕ) → IsOutput task clock left c text → (r : Refusal) (input : List ℕ) → left ≡ Some input → ReadsInput task × IsRefusable (contents_of task) r input → ⊥
   output_refused (Run limits seed) clock left c text h r input is refuses = alone_refused left h.2.specification h.2.input r input is refuses.1
   output_refused Check clock left c text h r input is refuses = alone_refused left h.1.specification h.1.input r input is refuses.1
   output_refused Show clock left c text h r input is refuses = alone_refused left h.1.specification h.1.input r input is refuses.1
@@ -336,4 +326,4 @@ module _ (one : OneTree) where
 
   -- and one that is what it is to be is not refused
   pub refused_input : (contents : Contents) (left : Option (List ℕ)) (r : Refusal) (input : List ℕ) → IfSome left (Refuses contents r) → left ≡ Some input → IsInput contents input → ⊥
-  refused_input contents left r input h is right = input_or_refused contents r input right (at_some (Refuses contents r) left input is h)
+  refused_input contents left r input h is right = input_or_refused contents r input right (refusable contents r input (at_some (Refuses contents r) left input is h))

@@ -49,7 +49,7 @@ module _ (contents : Contents) (bytes : List ℕ) where
   refused_one (Some input) (Some rest) before now (stop.Refused TooLong) taken end miss = omega (arith, ap length taken, length-append bytes rest)
   refused_one (Some input) (Some rest) before now (stop.Refused (Bytes p)) taken end miss = of_input (Refuses contents (Bytes p)) input rest taken end miss.within miss
   refused_one (Some input) (Some rest) before now (stop.Refused (TextAfterEnd p)) taken end miss = of_input (Refuses contents (TextAfterEnd p)) input rest taken end miss.within miss
-  refused_one (Some input) (Some rest) before now (stop.Refused (Syntax p)) taken end miss = of_input (Refuses contents (Syntax p)) input rest taken end miss.read.within miss
+  refused_one (Some input) (Some rest) before now (stop.Refused (Syntax p)) taken end miss = of_input (Refuses contents (Syntax p)) input rest taken end miss.text.read.within miss
   refused_one (Some input) (Some rest) before now (stop.Refused (Rule number p)) taken end miss = of_input (Refuses contents (Rule number p)) input rest taken end miss.text.read.within miss
   refused_one (Some input) (Some rest) before now (stop.Refused (BadTraceLine n)) taken end miss = of_input (Refuses contents (BadTraceLine n)) input rest taken end (line_within contents bytes n miss) miss
   refused_one (Some input) (Some rest) before now (stop.Refused (NotARun n)) taken end miss = of_input (Refuses contents (NotARun n)) input rest taken end (entry_within contents bytes n miss) miss

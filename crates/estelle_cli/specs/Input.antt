@@ -139,16 +139,20 @@ pub record HasTextAfterEnd (contents : Contents) (input : List ℕ) (p : Place) 
   pub other : IsOther contents input rest at
   pub place : p ≡ place_of input at
 
--- no specification spells the tokens: the place is where the first token starts with which those up to it begin none
-pub record HasNoTree (contents : Contents) (input : List ℕ) (p : Place) : Type 0 where
+-- no specification spells the tokens
+pub record HasNoTree (contents : Contents) (input : List ℕ) : Type 0 where
   pub tokens : List Placed
   pub read : HasTokens contents input tokens
   pub none : (spec : Spec) → Spells spec tokens → ⊥
+
+-- and this is where the first token starts with which the tokens up to it begin none; without such a token, where the text ends
+pub record HasNoTreeAt (contents : Contents) (input : List ℕ) (p : Place) : Type 0 where
+  pub text : HasNoTree contents input
   pub rest : ℕ
-  pub lexed : IsLexed input tokens rest
+  pub lexed : IsLexed input text.tokens rest
   pub before : ℕ
-  pub first : IsFirstRefused tokens before
-  pub place : p ≡ place_of input (first_start rest (drop before tokens))
+  pub first : IsFirstRefused text.tokens before
+  pub place : p ≡ place_of input (first_start rest (drop before text.tokens))
 
 -- this is the least rule that the specification breaks, at the place where the first node that breaks it begins
 pub record BreaksRule (contents : Contents) (input : List ℕ) (number : ℕ) (p : Place) : Type 0 where
@@ -188,10 +192,15 @@ abbrev pub Refuses : Contents → Refusal → List ℕ → Type 0
 Refuses contents TooLong input = input_limit contents < length input
 Refuses contents (Bytes p) input = HasNoTokens contents input p
 Refuses contents (TextAfterEnd p) input = HasTextAfterEnd contents input p
-Refuses contents (Syntax p) input = HasNoTree contents input p
+Refuses contents (Syntax p) input = HasNoTreeAt contents input p
 Refuses contents (Rule number p) input = BreaksRule contents input number p
 Refuses contents (BadTraceLine line) input = HasBadLine contents input line
 Refuses contents (NotARun entry) input = HasWrongEntry contents input entry
+
+-- the same, where an error of syntax is that no specification spells the tokens, and nothing is said of its place
+abbrev pub IsRefusable : Contents → Refusal → List ℕ → Type 0
+IsRefusable contents (Syntax p) input = HasNoTree contents input
+IsRefusable contents refusal input = Refuses contents refusal input
 
 -- bytes were read from the front of what was left, and no more of them than this
 pub record TakesAtMost (most : ℕ) (left left' : Option (List ℕ)) : Type 0 where

@@ -12,7 +12,7 @@ ghost use Rattle.estelle_cli.specs.declared.outcome.Close.TheVariants as close;
 ghost use Rattle.estelle_cli.specs.declared.task.Task.TheVariants as task;
 ghost use Rattle.estelle_cli.specs.declared.outcome.Stop.TheVariants as stop;
 ghost use Rattle.estelle_cli.specs.Tasks.{asked, ReadsInput, contents_of, AsksClock, AreLimits, AreStations, IsInRange};
-ghost use Rattle.estelle_cli.specs.Input.{IsInput, Refuses, TakesAtMost, HasStopped, input_limit};
+ghost use Rattle.estelle_cli.specs.Input.{IsInput, IsRefusable, Refuses, TakesAtMost, HasStopped, input_limit};
 ghost use Rattle.estelle_cli.specs.Answers.{accepted_line, IsTrace, EndsWith, IsAccepted, IsShown, IsListed, IsReplayed, IsMade, IsOutput, Writes, WritesPrefix, IsQuiet, Reports, usage_line, refusal_line, read_fault_line, write_fault_line, clock_fault_line, memory_line, fault_line, IsFinished, HasNoOutput, MayRefuse, MayFinish, MayBeUsage, NeedsInput, HasFailed, Emits, IsRefusedOr, Explains};
 
 use crate::coding::listed;
@@ -292,7 +292,7 @@ pub fn estelle_plain<S: Source, K: Sink, E: Sink, C: Clock>(
         × IfSome (asked (texts words.now)) (λ task. IfSome (S.left source.old) (Refuses (contents_of task) refusal))
         × Reports (E.held err.old) (E.held err.new) (E.faults err.old) (E.faults err.new) (refusal_line refusal) }
     ensures refuses { (refusal : Refusal) (input : List ℕ)
-        → IsSomeAnd (asked (texts words.now)) (λ task. ReadsInput task × Refuses (contents_of task) refusal input)
+        → IsSomeAnd (asked (texts words.now)) (λ task. ReadsInput task × IsRefusable (contents_of task) refusal input)
         → S.left source.old ≡ Some input → MayRefuse result.0 }
 
     // Status 3: the source has failed.

@@ -7,9 +7,7 @@ returns-in-Err-At-clause-cause c =
     let cut = c.in_ok-tokens.ensures in
     let at = rw c.in-Err-At.field-0-is at c.in-Err-At.ensures.place in
     record {
-      tokens = c.in_ok-tokens.tokens.items;
-      read = cut.found;
-      none = rw c.in-Err-At.field-0-is at c.in-Err-At.ensures.only;
+      text = record { tokens = c.in_ok-tokens.tokens.items; read = cut.found; none = rw c.in-Err-At.field-0-is at c.in-Err-At.ensures.only };
       rest = c.in_ok-tokens.tokens.rest;
       lexed = cut.lexed;
       before = at.0;

@@ -4,7 +4,7 @@ use Rattle.estelle_parser.proofs.Whole.{one_tree}
 use Rattle.estelle_words.specs.Words.{texts}
 use Rattle.estelle_cli.specs.Tasks.{ReadsInput, contents_of}
 use Rattle.estelle_cli.specs.declared.task.Task.{Task}
-use Rattle.estelle_cli.specs.Input.{input_limit, TakesAtMost, Refuses, IsInput}
+use Rattle.estelle_cli.specs.Input.{input_limit, TakesAtMost, IsRefusable, IsInput}
 use Rattle.estelle_cli.specs.Answers.{Reports, refusal_line}
 use Rattle.estelle_cli.proofs.Causes.{at_task, of_task, output_refused, refused_input}
 use Rattle.estelle_cli.proofs.Ranges.{in_range}
@@ -15,22 +15,22 @@ perform-requires g c = in_range (texts c.args.words.now) _ (rw c.in-Ok-Some.fiel
 
 pub returns-in-Done-clause-refuses : goal.returns-in-Done-clause-refuses
 returns-in-Done-clause-refuses g c = λ refusal input asked left.
-    let refuses = of_task _ _ (λ task. ReadsInput task × Refuses (contents_of task) refusal input) (rw c.in-Ok-Some.field-0-is at c.in-Ok-Some.ensures) asked in
+    let refuses = of_task _ _ (λ task. ReadsInput task × IsRefusable (contents_of task) refusal input) (rw c.in-Ok-Some.field-0-is at c.in-Ok-Some.ensures) asked in
     absurd (output_refused one_tree _ _ _ _ _ c.in-Done.ensures.explains.0.output refusal input left refuses)
 
 pub returns-in-PascalFault-clause-refuses : goal.returns-in-PascalFault-clause-refuses
 returns-in-PascalFault-clause-refuses g c = λ refusal input asked left.
-    let refuses = of_task _ _ (λ task. ReadsInput task × Refuses (contents_of task) refusal input) (rw c.in-Ok-Some.field-0-is at c.in-Ok-Some.ensures) asked in
+    let refuses = of_task _ _ (λ task. ReadsInput task × IsRefusable (contents_of task) refusal input) (rw c.in-Ok-Some.field-0-is at c.in-Ok-Some.ensures) asked in
     absurd (output_refused one_tree _ _ _ _ _ c.in-PascalFault.ensures.explains.0.output refusal input left refuses)
 
 pub returns-in-ClockFault-clause-refuses : goal.returns-in-ClockFault-clause-refuses
 returns-in-ClockFault-clause-refuses g c = λ refusal input asked left.
-    let refuses = of_task _ _ (λ task. ReadsInput task × Refuses (contents_of task) refusal input) (rw c.in-Ok-Some.field-0-is at c.in-Ok-Some.ensures) asked in
+    let refuses = of_task _ _ (λ task. ReadsInput task × IsRefusable (contents_of task) refusal input) (rw c.in-Ok-Some.field-0-is at c.in-Ok-Some.ensures) asked in
     absurd (output_refused one_tree _ _ _ _ _ c.in-ClockFault.ensures.explains.0.output refusal input left refuses)
 
 pub returns-in-WriteFault-clause-refuses : goal.returns-in-WriteFault-clause-refuses
 returns-in-WriteFault-clause-refuses g c = λ refusal input asked left.
-    let refuses = of_task _ _ (λ task. ReadsInput task × Refuses (contents_of task) refusal input) (rw c.in-Ok-Some.field-0-is at c.in-Ok-Some.ensures) asked in
+    let refuses = of_task _ _ (λ task. ReadsInput task × IsRefusable (contents_of task) refusal input) (rw c.in-Ok-Some.field-0-is at c.in-Ok-Some.ensures) asked in
     absurd (output_refused one_tree _ _ _ _ _ c.in-WriteFault.ensures.explains.1.output refusal input left refuses)
 
 pub returns-in-Refused-clause-complete : goal.returns-in-Refused-clause-complete
