@@ -629,6 +629,19 @@ procedure p; begin release x end;
 end.
 END
 refuses 'nothing' 'syntax 1:1' </dev/null
+head -c 20 "$top/examples/counter.est" >"$folder/text"
+refuses 'the first 20 bytes of the counter' 'syntax 1:21' <"$folder/text"
+
+# The counter with its condition in so many brackets.
+bracketed() {
+    open=$(printf "%$1s" '' | tr ' ' '(')
+    close=$(printf "%$1s" '' | tr ' ' ')')
+    sed "s/n < 3/${open}n < 3${close}/" "$top/examples/counter.est"
+}
+bracketed 200 >"$folder/text"
+runs '200 brackets in a condition' 'start s1 f1 s1 f1 s1 f1 s- dead' <"$folder/text"
+bracketed 201 >"$folder/text"
+refuses '201 brackets in a condition' 'syntax 6:224' <"$folder/text"
 
 echo "$tried tried, $failed failed"
 [ "$failed" -eq 0 ]

@@ -7,8 +7,8 @@
 # usage: bench/promises.sh
 #
 # What stands behind the name of a crate in bold letters, up to the next one or a heading, behind a heading that names a crate, or in a
-# crate's README.md, is looked up in that crate and in those that its paragraph names besides, a definition also in all on which these
-# stand; what stands elsewhere, in all crates. Behind `clause` or `clauses`, and in the first cell of a row, it must be the name of a
+# crate's README.md, is looked up in that crate and in those that its paragraph names besides, a lemma of these too, and a definition
+# also in all on which they stand; what stands elsewhere, in all crates. Behind `clause` or `clauses`, and in the first cell of a row, it must be the name of a
 # clause (`ensures NAME`) or of a part of a definition; in brackets right behind a call that of a clause of this call, or of a definition or
 # a call; else it may be that of a type or a field too.
 #
@@ -30,7 +30,8 @@ pascal_values 0..b-1
 pascal_parser (
 pascal_parser not
 pascal_parser begin
-clause_parser trans
+type_parser trans
+type_parser body
 meaning_table any
 body_program any
 transition_expand any
@@ -59,8 +60,8 @@ END
 sed -n '/^#/d; s/^\([a-z0-9_]*\)[^:]*:/\1/p' crates.txt >"$folder/crates"
 find .ci estelle README.md bench docs editors examples tools crates -name out -prune -o -print | sed 's|^\./||' >"$folder/files"
 
-# What there is: a crate, a kind (`contract`, `clause` with its call, `code` or `definition`) and a name.
-grep '^crates/[a-z0-9_]*/\(src/.*\.rt\|specs/.*\.antt\)$' "$folder/files" | while read -r file; do
+# What there is: a crate, a kind (`contract`, `clause` with its call, `code`, `definition` or `lemma`) and a name.
+grep '^crates/[a-z0-9_]*/\(src/.*\.rt\|specs/.*\.antt\|proofs/[A-Za-z]*\.antt\)$' "$folder/files" | while read -r file; do
     awk -v crate="$(echo "$file" | cut -d/ -f2)" '
         function told(kind, name) { if (name != "" && name !~ /\.$/) print crate, kind, name }
         function first_name(text) { return match(text, /^[A-Za-z_][A-Za-z0-9_]*/) ? substr(text, 1, RLENGTH) : "" }
@@ -103,6 +104,10 @@ grep '^crates/[a-z0-9_]*/\(src/.*\.rt\|specs/.*\.antt\)$' "$folder/files" | whil
             if (text ~ /^[ \t]*(--|use |pub use |mod |pub mod )/) next
             if (match(text, /^[ \t]*((abbrev|record|data|unfoldable|pub) )*[A-Za-z_][A-Za-z0-9_]* (.*)?:|^[ \t]*((abbrev|record|data|unfoldable|pub) )+[A-Za-z_][A-Za-z0-9_]*/)) {
                 part = text; sub(/^[ \t]*/, "", part)
+                if (FILENAME ~ /\/proofs\//) {
+                    if (part ~ /^pub /) { sub(/^pub ((abbrev|record) )?/, "", part); told("lemma", first_name(part)) }
+                    next
+                }
                 while (part ~ /^(abbrev|record|data|unfoldable|pub) /) sub(/^[a-z]* /, "", part)
                 told("definition", first_name(part))
             }
@@ -122,7 +127,7 @@ awk -v document="$document" -v folder="$folder" '
     function is_there(name, kinds,   count, kind, i, c) {
         count = split(kinds, kind, " ")
         for (i = 1; i <= count; i++) {
-            if (home == "-") { if ((kind[i], name) in anywhere) return 1 }
+            if (home == "-") { if (kind[i] != "lemma" && (kind[i], name) in anywhere) return 1 }
             else for (c in scope) if ((c, kind[i], name) in there) return 1
         }
         if (home == "-" || kinds !~ /code$/) return 0
@@ -156,9 +161,9 @@ awk -v document="$document" -v folder="$folder" '
             bare = name
             gsub(/^\.\/|\/$/, "", bare)
             if (bare in is_file || glob_found(bare)) return
-        } else if (is_clause) { if (is_there(name, "contract definition")) return }
+        } else if (is_clause) { if (is_there(name, "contract definition lemma")) return }
         else if (call != "") { if (is_there(call "." name, "clause") || is_there(name, "definition code")) return }
-        else if (is_there(name, "contract definition code")) return
+        else if (is_there(name, "contract lemma definition code")) return
         failed++
         printf "FAILED: %s, the part that begins in line %d (%s): `%s`%s\n", part_of, start, home == "-" ? "any crate" : home, name,
             is_clause ? ", as a clause" : call == "" ? "" : ", of the call `" call "`"
