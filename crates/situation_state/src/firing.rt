@@ -17,7 +17,7 @@ use situation_images::{RunSoFar, put_firing, put_start};
 use std::alloc::{AllocError, Global};
 
 impl State<'_> {
-    /// Takes a firing that is pending. It takes no memory.
+    /// Takes a firing that is pending. It takes no memory; of the first or the last one it takes no longer where more are pending.
     pub fn take(&mut self, at: usize) -> Pair
         requires { at < length self.old.untaken.items }
         ensures its { slice_get self.old.untaken.items at ≡ Some result }
@@ -25,7 +25,10 @@ impl State<'_> {
         ensures at { (g : Situation) (ps : List Seen) → IsAt g ps self.old → IsAt g (remove ps at) self.new }
         ensures rest { self.new ≡ record self.old { untaken = self.new.untaken } }
     {
-        self.untaken.remove(at)
+        let Some(pair) = self.untaken.remove(at) else {
+            unreachable!()
+        };
+        pair
     }
 
     /// Makes the room for what was done. An error is want of memory.

@@ -1,6 +1,7 @@
 //! The list of what is pending and was not taken.
 
-ghost use Rattle.std.specs.Prelude.{◌≡◌, ◌↔◌, ◌≤◌, ◌+◌, ◌++◌, length, vec_capacity, IsTrue, IfOk, MatchOption, Contains};
+ghost use Rattle.std.specs.Prelude.{◌≡◌, ◌↔◌, ◌≤◌, ◌+◌, ◌++◌, length, IsTrue, IfOk, MatchOption, Contains};
+ghost use Rattle.std.specs.VecDeque.{deque_len, deque_capacity};
 ghost use Rattle.estelle_tree.specs.declared.transition.Pair.{Pair as Seen};
 ghost use Rattle.estelle_tree.specs.Paths.{is_inside};
 ghost use Rattle.estelle_tree.specs.Timers.{pair};
@@ -11,6 +12,7 @@ use crate::state::State;
 use estelle_model::Pair;
 use estelle_tree::Path;
 use std::alloc::{AllocError, Global};
+use std::collections::VecDeque;
 
 fn is_of(other: &Pair, path: &Path, trans: u32) -> bool
     ensures { result ≡ same_pair (pair path.now trans) other.now }
@@ -19,11 +21,11 @@ fn is_of(other: &Pair, path: &Path, trans: u32) -> bool
 }
 
 /// The place of a firing in the list, if it is there.
-fn place_in(pending: &[Pair], path: &Path, trans: u32) -> Option<usize>
-    ensures { MatchOption result (Contains pending.now (pair path.now trans) → ⊥) (IsPlaceOf (pair path.now trans) pending.now) }
+fn place_in(pending: &VecDeque<Pair>, path: &Path, trans: u32) -> Option<usize>
+    ensures { MatchOption result (Contains pending.now.items (pair path.now trans) → ⊥) (IsPlaceOf (pair path.now trans) pending.now.items) }
 {
-    for (at, one) in pending.iter().enumerate() {
-        if is_of(one, path, trans) {
+    for at in 0..pending.len() {
+        if is_of(&pending[at], path, trans) {
             return Some(at);
         }
     }
@@ -31,11 +33,11 @@ fn place_in(pending: &[Pair], path: &Path, trans: u32) -> Option<usize>
 }
 
 /// Whether no firing at or below an instance is in the list.
-fn none_inside(pending: &[Pair], system: &Path) -> bool
-    ensures { IsTrue result ↔ ((p : Seen) → Contains pending.now p → IsTrue (is_inside system.now p.path) → ⊥) }
+fn none_inside(pending: &VecDeque<Pair>, system: &Path) -> bool
+    ensures { IsTrue result ↔ ((p : Seen) → Contains pending.now.items p → IsTrue (is_inside system.now p.path) → ⊥) }
 {
-    for one in pending {
-        if system.is_at_or_above(&one.path) {
+    for at in 0..pending.len() {
+        if system.is_at_or_above(&pending[at].path) {
             return false;
         }
     }
@@ -51,19 +53,19 @@ fn copy_pair(alloc: Global, pair: &Pair) -> Result<Pair, AllocError>
     })
 }
 
-pub(crate) fn copies(alloc: Global, pairs: &[Pair]) -> Result<Vec<Pair>, AllocError>
+pub(crate) fn copies(alloc: Global, pairs: &[Pair]) -> Result<VecDeque<Pair>, AllocError>
     ensures { IfOk result (λ copies. copies.items ≡ pairs.now) }
 {
-    let mut copies = Vec::new(alloc);
+    let mut copies = VecDeque::new(alloc);
     for pair in pairs {
-        copies.push(copy_pair(alloc, pair)?)?;
+        copies.push_back(copy_pair(alloc, pair)?)?;
     }
     Ok(copies)
 }
 
 /// These firings behind the others. It takes no memory.
-pub(crate) fn append(pending: &mut Vec<Pair>, mut takes: Vec<Pair>)
-    requires { length pending.old.items + length takes.items ≤ vec_capacity pending.old }
+pub(crate) fn append(pending: &mut VecDeque<Pair>, mut takes: VecDeque<Pair>)
+    requires { deque_len pending.old + deque_len takes ≤ deque_capacity pending.old }
     ensures { pending.new.items ≡ pending.old.items ++ takes.items }
 {
     let Ok(()) = pending.append(&mut takes) else {

@@ -9,6 +9,7 @@ use effect_log::{Notes, Shared};
 use estelle_model::Pair;
 use situation_images::bare_shared;
 use std::alloc::{AllocError, Global};
+use std::collections::VecDeque;
 
 /// A situation in stores, with what is needed to go on in it.
 #[derive(Drop)]
@@ -19,7 +20,7 @@ pub struct State<'p> {
     pub shared: Shared,
     pub timers: Timers,
     /// The selected firings in the order of their selections, but for those that were taken.
-    pub untaken: Vec<Pair>,
+    pub untaken: VecDeque<Pair>,
     /// The moment of the last selection.
     pub moment: u64,
     /// What the last firing told, until that is taken or forgotten.
@@ -40,7 +41,7 @@ impl<'p> State<'p> {
             budget,
             shared: bare_shared(alloc, program)?,
             timers: Timers::none(alloc),
-            untaken: Vec::new(alloc),
+            untaken: VecDeque::new(alloc),
             moment: 0,
             notes: Notes::none(alloc),
         })
