@@ -32,10 +32,13 @@ impl Spare {
         }
     }
 
-    /// A copy of a path. It takes no memory where the spare one is the same.
+    /// A copy of a path. It takes no memory where the spare one is the same; that of the root takes none at all.
     pub fn path(&mut self, alloc: Global, path: &Path) -> Result<Path, AllocError>
         ensures { IfOk result (λ copy. copy ≡ path.now) }
     {
+        if path.items().is_empty() {
+            return path.copy(alloc);
+        }
         match self.paths.pop() {
             Some(spare) => same_path(alloc, spare, path),
             None => path.copy(alloc),
@@ -43,6 +46,9 @@ impl Spare {
     }
 
     pub fn keep_path(&mut self, path: Path) {
+        if path.items().is_empty() {
+            return;
+        }
         if self.paths.len() < MOST {
             let _ = self.paths.push(path);
         }
