@@ -1,6 +1,6 @@
 //! The program on one thread.
 
-ghost use Rattle.std.specs.Prelude.{◌≡◌, ◌≤◌, ◌+◌, List, Option, ℕ, Some, IfSome, IsSomeAnd, IsNone, IfOk, OnOk, IfErr};
+ghost use Rattle.std.specs.Prelude.{◌≡◌, ◌≤◌, ◌+◌, List, Option, ℕ, Some, IfSome, IsSomeAnd, IsNone, IfOk, IsOkAnd, OnOk, IfErr};
 ghost use Rattle.std.specs.Io.KnownBytes.{IsAtEnd};
 ghost use Rattle.outside.specs.Counts.{Rose};
 ghost use Rattle.pascal_values.specs.declared.fault.Fault.{Fault};
@@ -13,6 +13,7 @@ ghost use Rattle.estelle_cli.specs.declared.task.Task.TheVariants as task;
 ghost use Rattle.estelle_cli.specs.declared.outcome.Stop.TheVariants as stop;
 ghost use Rattle.estelle_cli.specs.Tasks.{asked, ReadsInput, contents_of, AsksClock, AreLimits, AreStations, IsInRange};
 ghost use Rattle.estelle_cli.specs.Input.{IsInput, IsRefusable, Refuses, TakesAtMost, HasStopped, input_limit};
+ghost use Rattle.estelle_model.specs.Trace as trace;
 ghost use Rattle.estelle_cli.specs.Answers.{accepted_line, IsTrace, EndsWith, IsAccepted, IsShown, IsListed, IsReplayed, IsMade, IsOutput, Writes, WritesPrefix, IsQuiet, Reports, usage_line, refusal_line, read_fault_line, write_fault_line, clock_fault_line, memory_line, fault_line, IsFinished, HasNoOutput, MayRefuse, MayFinish, MayBeUsage, NeedsInput, HasFailed, Emits, IsRefusedOr, Explains};
 
 use crate::coding::listed;
@@ -23,13 +24,13 @@ use crate::replay::load_replay;
 use crate::running::executed;
 use crate::task::{Task, asked};
 use crate::trial::tried;
-use estelle_model::End;
+use estelle_model::{End, Run};
 use estelle_printer::spell;
 use estelle_tree::Text;
 use outside::{Clock, Sink, Source, write_all};
 use situation::Limits;
 use spec_maker::make;
-use std::alloc::Global;
+use std::alloc::{AllocError, Global};
 use trace_text::{put, write};
 
 /// Hands err the line. A fault of err changes nothing else.
@@ -39,26 +40,39 @@ fn report<E: Sink>(err: &mut E, line: &[u8])
     let _ = write_all(err, line);
 }
 
-/// Reads and runs the input, and gives the trace and its end.
+/// The trace of a run, and its end.
+fn written(alloc: Global, ran: Result<(Run, End), AllocError>) -> Result<(Text, End), Stop>
+    ensures trace { IfOk result (λ x. IsOkAnd ran (λ r. (x.0 ≡ trace.text r.0.events r.1) × (x.1 ≡ r.1))) }
+    ensures cause { IfErr result (λ e. e ≡ stop.Memory) }
+{
+    let (run, end) = ran?;
+    let text = write(alloc, &run, end)?;
+    Ok((text, end))
+}
+
+/// Reads and runs the input, and gives the trace and its end; and the clock.
 fn traced<S: Source, C: Clock>(
     alloc: Global,
     limits: Limits,
     seed: Option<u64>,
     source: &mut S,
-    clock: &mut C,
-) -> Result<(Text, End), Stop>
+    clock: C,
+) -> (Result<(Text, End), Stop>, C)
     requires { AreLimits limits }
-    ensures trace { IfOk result (λ x. IsTrace limits seed (C.moment clock.old) (S.left source.old) x.1 x.0) }
-    ensures by_clock { IfOk result (λ x. x.1 ≡ ByClock → Rose (C.faults clock.old) (C.faults clock.new)) }
-    ensures later { C.faults clock.old ≤ C.faults clock.new }
-    ensures end { OnOk result (IsAtEnd (S.left source.new)) }
+    ensures trace { IfOk result.0 (λ x. IsTrace limits seed (C.moment clock) (S.left source.old) x.1 x.0) }
+    ensures by_clock { IfOk result.0 (λ x. x.1 ≡ ByClock → Rose (C.faults clock) (C.faults result.1)) }
+    ensures later { C.faults clock ≤ C.faults result.1 }
+    ensures end { OnOk result.0 (IsAtEnd (S.left source.new)) }
     ensures stops { TakesAtMost (input_limit Alone + 1) (S.left source.old) (S.left source.new) }
-    ensures cause { IfErr result (HasStopped Alone (S.left source.old) (S.faults source.old) (S.faults source.new)) }
+    ensures cause { IfErr result.0 (HasStopped Alone (S.left source.old) (S.faults source.old) (S.faults source.new)) }
 {
-    let checked = load(alloc, source)?;
-    let (run, end) = executed(alloc, &checked, limits, seed, clock)?;
-    let text = write(alloc, &run, end)?;
-    Ok((text, end))
+    match load(alloc, source) {
+        Err(stop) => (Err(stop), clock),
+        Ok(checked) => {
+            let (ran, clock) = executed(alloc, &checked, limits, seed, clock);
+            (written(alloc, ran), clock)
+        }
+    }
 }
 
 /// How a run was done that ended so.
@@ -72,24 +86,27 @@ fn close_by(end: End) -> Close
     }
 }
 
-/// The same, with how the run was done.
+/// Reads and runs the input, and gives the trace, with how the run was done; and the clock.
 fn ran<S: Source, C: Clock>(
     alloc: Global,
     limits: Limits,
     seed: Option<u64>,
     source: &mut S,
-    clock: &mut C,
-) -> Result<(Text, Close), Stop>
+    clock: C,
+) -> (Result<(Text, Close), Stop>, C)
     requires { AreLimits limits }
-    ensures output { IfOk result (λ x. IsOutput (task.Run limits seed) (C.moment clock.old) (S.left source.old) x.1 x.0) }
-    ensures by_clock { IfOk result (λ x. x.1 ≡ close.ByClock → Rose (C.faults clock.old) (C.faults clock.new)) }
-    ensures later { C.faults clock.old ≤ C.faults clock.new }
-    ensures end { OnOk result (IsAtEnd (S.left source.new)) }
+    ensures output { IfOk result.0 (λ x. IsOutput (task.Run limits seed) (C.moment clock) (S.left source.old) x.1 x.0) }
+    ensures by_clock { IfOk result.0 (λ x. x.1 ≡ close.ByClock → Rose (C.faults clock) (C.faults result.1)) }
+    ensures later { C.faults clock ≤ C.faults result.1 }
+    ensures end { OnOk result.0 (IsAtEnd (S.left source.new)) }
     ensures stops { TakesAtMost (input_limit Alone + 1) (S.left source.old) (S.left source.new) }
-    ensures cause { IfErr result (HasStopped Alone (S.left source.old) (S.faults source.old) (S.faults source.new)) }
+    ensures cause { IfErr result.0 (HasStopped Alone (S.left source.old) (S.faults source.old) (S.faults source.new)) }
 {
-    let (text, end) = traced(alloc, limits, seed, source, clock)?;
-    Ok((text, close_by(end)))
+    let (traced, clock) = traced(alloc, limits, seed, source, clock);
+    match traced {
+        Ok((text, end)) => (Ok((text, close_by(end))), clock),
+        Err(stop) => (Err(stop), clock),
+    }
 }
 
 /// Reads the input, and says that it is accepted.
@@ -158,35 +175,35 @@ fn made(alloc: Global, n: u32) -> Result<(Text, Close), Stop>
     Ok((text, Close::Well))
 }
 
-/// Does the task, and gives what is to be written, with how it was done.
+/// Does the task, and gives what is to be written, with how it was done; and the clock.
 fn output<S: Source, C: Clock>(
     alloc: Global,
     task: Task,
     source: &mut S,
-    clock: &mut C,
-) -> Result<(Text, Close), Stop>
+    clock: C,
+) -> (Result<(Text, Close), Stop>, C)
     requires { IsInRange task }
-    ensures output { IfOk result (λ x. IsOutput task (C.moment clock.old) (S.left source.old) x.1 x.0) }
-    ensures by_clock { IfOk result (λ x. x.1 ≡ close.ByClock → Rose (C.faults clock.old) (C.faults clock.new)) }
-    ensures later { C.faults clock.old ≤ C.faults clock.new }
-    ensures unasked { (AsksClock task → ⊥) → clock.new ≡ clock.old }
-    ensures end { OnOk result (ReadsInput task → IsAtEnd (S.left source.new)) }
+    ensures output { IfOk result.0 (λ x. IsOutput task (C.moment clock) (S.left source.old) x.1 x.0) }
+    ensures by_clock { IfOk result.0 (λ x. x.1 ≡ close.ByClock → Rose (C.faults clock) (C.faults result.1)) }
+    ensures later { C.faults clock ≤ C.faults result.1 }
+    ensures unasked { (AsksClock task → ⊥) → result.1 ≡ clock }
+    ensures end { OnOk result.0 (ReadsInput task → IsAtEnd (S.left source.new)) }
     ensures stops { TakesAtMost (input_limit (contents_of task) + 1) (S.left source.old) (S.left source.new) }
     ensures idle { (ReadsInput task → ⊥) → source.new ≡ source.old }
-    ensures cause { IfErr result (HasFailed task (S.left source.old) (S.faults source.old) (S.faults source.new)) }
+    ensures cause { IfErr result.0 (HasFailed task (S.left source.old) (S.faults source.old) (S.faults source.new)) }
 {
     match task {
         Task::Run { limits, seed } => ran(alloc, limits, seed, source, clock),
-        Task::Check => accepted(alloc, source),
-        Task::Show => shown(alloc, source),
-        Task::Code => coded(alloc, source),
-        Task::Replay { budget } => replayed(alloc, budget, source),
-        Task::Make(n) => made(alloc, n),
+        Task::Check => (accepted(alloc, source), clock),
+        Task::Show => (shown(alloc, source), clock),
+        Task::Code => (coded(alloc, source), clock),
+        Task::Replay { budget } => (replayed(alloc, budget, source), clock),
+        Task::Make(n) => (made(alloc, n), clock),
         Task::Trial {
             stations,
             limits,
             seed,
-        } => tried(alloc, stations, limits, seed),
+        } => (tried(alloc, stations, limits, seed), clock),
     }
 }
 
@@ -219,22 +236,23 @@ fn perform<S: Source, K: Sink, C: Clock>(
     task: Task,
     source: &mut S,
     out: &mut K,
-    clock: &mut C,
-) -> Outcome
+    clock: C,
+) -> (Outcome, C)
     requires { IsInRange task }
     ensures explains { Explains task (S.left source.old) (S.left source.new) (S.faults source.old) (S.faults source.new)
         (K.held out.old) (K.held out.new) (K.faults out.old) (K.faults out.new)
-        (C.moment clock.old) (C.faults clock.old) (C.faults clock.new) result }
-    ensures later { C.faults clock.old ≤ C.faults clock.new }
-    ensures unasked { (AsksClock task → ⊥) → clock.new ≡ clock.old }
+        (C.moment clock) (C.faults clock) (C.faults result.1) result.0 }
+    ensures later { C.faults clock ≤ C.faults result.1 }
+    ensures unasked { (AsksClock task → ⊥) → result.1 ≡ clock }
     ensures stops { TakesAtMost (input_limit (contents_of task) + 1) (S.left source.old) (S.left source.new) }
     ensures idle { (ReadsInput task → ⊥) → source.new ≡ source.old }
 {
-    match output(alloc, task, source, clock) {
-        Ok((text, close)) => emit(out, &text, close),
-        Err(Stop::Refused(refusal)) => refused(alloc, refusal),
-        Err(Stop::ReadFault) => Outcome::ReadFault,
-        Err(Stop::Memory) => Outcome::Memory,
+    let (done, clock) = output(alloc, task, source, clock);
+    match done {
+        Ok((text, close)) => (emit(out, &text, close), clock),
+        Err(Stop::Refused(refusal)) => (refused(alloc, refusal), clock),
+        Err(Stop::ReadFault) => (Outcome::ReadFault, clock),
+        Err(Stop::Memory) => (Outcome::Memory, clock),
     }
 }
 
@@ -332,7 +350,6 @@ pub fn estelle_plain<S: Source, K: Sink, E: Sink, C: Clock>(
     ensures unasked { IsNone (asked (texts words.now)) → result.1 ≡ clock }
     ensures unasked_alone { IsSomeAnd (asked (texts words.now)) (λ task. AsksClock task → ⊥) → result.1 ≡ clock }
 {
-    let mut clock = clock;
     let task = match asked(alloc, words) {
         Ok(Some(task)) => task,
         Ok(None) => {
@@ -344,7 +361,8 @@ pub fn estelle_plain<S: Source, K: Sink, E: Sink, C: Clock>(
             return (Status::Memory, clock);
         }
     };
-    match perform(alloc, task, source, out, &mut clock) {
+    let (outcome, clock) = perform(alloc, task, source, out, clock);
+    match outcome {
         Outcome::Done => (Status::Done, clock),
         Outcome::PascalFault(kind) => {
             report(err, fault_line(kind));

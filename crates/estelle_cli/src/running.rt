@@ -25,18 +25,18 @@ fn chooser_by(seed: Option<u64>) -> AnyChooser
     }
 }
 
-/// Runs an accepted specification to its end.
+/// Runs an accepted specification to its end, and gives the clock back.
 pub fn executed<C: Clock>(
     alloc: Global,
     checked: &Checked,
     limits: Limits,
     seed: Option<u64>,
-    clock: &mut C,
-) -> Result<(Run, End), AllocError>
+    clock: C,
+) -> (Result<(Run, End), AllocError>, C)
     requires range { AreLimits limits }
-    ensures stopped { IfOk result (λ r. IsStopped any_drawn (chooser_by seed) (C.moment clock.old) (subject checked.now.spec checked.now.names) limits.budget limits.turns r.0.events r.1) }
-    ensures cause { IfOk result (λ r. r.1 ≡ ByClock → Rose (C.faults clock.old) (C.faults clock.new)) }
-    ensures later { C.faults clock.old ≤ C.faults clock.new }
+    ensures stopped { IfOk result.0 (λ r. IsStopped any_drawn (chooser_by seed) (C.moment clock) (subject checked.now.spec checked.now.names) limits.budget limits.turns r.0.events r.1) }
+    ensures cause { IfOk result.0 (λ r. r.1 ≡ ByClock → Rose (C.faults clock) (C.faults result.1)) }
+    ensures later { C.faults clock ≤ C.faults result.1 }
 {
     execute(alloc, checked, limits, clock, chooser_by(seed))
 }

@@ -44,8 +44,8 @@ fn ran_apart(
     requires range { AreLimits limits }
     ensures { IfOk result (λ r. IsStopped any_drawn (chooser_by seed) (Some 0) (subject checked.now.spec checked.now.names) limits.budget limits.turns r.0.events r.1) }
 {
-    let mut clock = VirtualClock { moment: 0 };
-    executed(alloc, checked, limits, seed, &mut clock)
+    let (ran, _) = executed(alloc, checked, limits, seed, VirtualClock { moment: 0 });
+    ran
 }
 
 /// Runs the ring of n stations, and gives the line of its counts and its end.

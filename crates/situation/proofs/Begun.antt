@@ -1,6 +1,6 @@
 -- A course begins: it is fresh, the start may be settled, and what that comes to.
 use Rattle.std.proofs.Common.{◌≡◌, ℕ, ◌+◌, ◌*◌, ◌^◌, ◌<◌, ◌≤◌, List, [], ◌∷◌, ◌++◌, Option, Some, None, refl, sym, ap, subst, ◌∙◌, inl, arith, length}
-use Rattle.std.specs.Prelude.{map as each}
+use Rattle.std.specs.Prelude.{Contains, map as each}
 use Rattle.std.specs.FinMap as map
 use Rattle.pascal_values.specs.declared.fault.Fault as fault
 use Rattle.estelle_tree.specs.declared.transition.Pair.{Pair}
@@ -28,7 +28,9 @@ use Rattle.situation_state.specs.declared.state.State.{State}
 use Rattle.situation_state.specs.At.{IsAt}
 use Rattle.run_history.specs.declared.entry.Entry.{Entry}
 use Rattle.run_history.specs.Histories.{project, fires}
+use Rattle.run_history.specs.declared.entry.Taken.{Taken}
 use Rattle.run_history.specs.Tickets.{tickets}
+use Rattle.run_history.specs.OpenTickets.{open_in, untaken}
 use Rattle.situation_steps.specs.declared.systems.Time.{Time}
 use Rattle.situation_steps.specs.Systems.{systems_of, first_kept}
 use Rattle.situation_steps.specs.Laws.{first_time}
@@ -38,7 +40,9 @@ use Rattle.situation.specs.Runs.{noted, ending, IsGoing, IsClosed, AreReached}
 use Rattle.situation.specs.Worlds.{HasOnlyStarted, IsOpenCourse, IsEndedCourse, IsKept, limits_of}
 use Rattle.situation.specs.Steps.{IsFresh, MaySettle, HasBeenPut, HasFailed, StartedSo, HasStarted, FindsSystems, HasAllSystems, IsBegun}
 use Rattle.estelle_model.proofs.PrivateParts.{remove_empty}
-use Rattle.situation.proofs.Computed.{own}
+use Rattle.estelle_model_legality.proofs.Lists.{in_none}
+use Rattle.situation.proofs.Untaken.{all_untaken}
+use Rattle.situation.proofs.Kept.{own}
 use Rattle.situation.proofs.Starts.{start_answers_in, start_numbers, start_situation, start_legal, start_going, start_pending, start_timers, start_reached, start_stays, start_closes, start_failed_reached, only_started, only_failed}
 
 -- the job of the initialization
@@ -79,6 +83,8 @@ module _ {H : Type 0} (s : Subject) (limits : Limits) (chooser : H) where
     time = h.time;
     entries = entries ∙ h.entries;
     tickets = h.tickets;
+    flying = h.flying;
+    writer = h.writer;
     unended = h.unended;
     chooser_is = h.chooser_is;
   }
@@ -144,14 +150,14 @@ module _ {H : Type 0} (s : Subject) (limits : Limits) (chooser : H) where
         let b = limits.budget in
         let t = limits.turns in
         let a : Acting = after_put s (bare s) done in
-        let its : List Entry = noted (Start a.outs a.drops) ∷ [] in
+        let its : List Entry = noted 0 (Start a.outs a.drops) ∷ [] in
         let situation_is = start_situation s leads b t job start.trans start.path start.units done answers image effects is in
         let z : State = own c n.state in
         let same : x ≡ record c { state = z; history = n.history; systems = x.systems } = found.1 ∙ ap (λ (y : Course H). record y { systems = x.systems }) h.rest in
         let state_is : n.state ≡ z = ap (λ (y : Course H). y.state) h.rest in
         let program_is : x.state.program.now ≡ s = ap (λ (y : Course H). y.state.program.now) same ∙ f.state.program in
         let program_then : n.state.program.now ≡ s = ap (λ (y : Course H). y.state.program.now) h.rest ∙ f.state.program in
-        let entries_are : x.history.entries ≡ its = ap (λ (y : Course H). y.history.entries) same ∙ h.noted ∙ (λ i. f.entries i ++ noted (Start (after_put (f.state.program i) (bare (f.state.program i)) done).outs (after_put (f.state.program i) (bare (f.state.program i)) done).drops) ∷ []) in
+        let entries_are : x.history.entries ≡ its = ap (λ (y : Course H). y.history.entries) same ∙ h.noted ∙ (λ i. f.entries i ++ noted (f.writer i) (Start (after_put (f.state.program i) (bare (f.state.program i)) done).outs (after_put (f.state.program i) (bare (f.state.program i)) done).drops) ∷ []) in
         let as_begun : IsAsBegun x its = record {
           program = program_is;
           limits_are = ap (λ (y : Course H). limits_of y) same ∙ fresh_limits c f;
@@ -171,17 +177,19 @@ module _ {H : Type 0} (s : Subject) (limits : Limits) (chooser : H) where
         let stands_then : Stands s n.state.shared a.situation = subst (λ (y : Subject). Stands y n.state.shared a.situation) program_then at_a.stands in
         let legal = start_legal s leads b t job start.trans start.path start.units done answers image effects is in
         let systems_are : x.systems.items ≡ each first_kept (systems_of s a.situation) = all_found n x s program_then a.situation found.0 stands_then legal in
-        let at_x : IsAt (situation s b (project its)) (situation s b (project its)).pending x.state = subst (λ (g : Situation). IsAt g g.pending x.state) (sym situation_is)
-        (subst (IsAt a.situation a.situation.pending) (state_is ∙ sym (ap (λ (y : Course H). y.state) same)) at_a) in
+        let at_x : IsAt (situation s b (project its)) (untaken (open_in its) (situation s b (project its)).pending) x.state = subst (λ (g : Situation). IsAt g (untaken (open_in its) g.pending) x.state) (sym situation_is)
+        (subst (λ (ps : List Pair). IsAt a.situation ps x.state) (sym (all_untaken a.situation.pending)) (subst (IsAt a.situation a.situation.pending) (state_is ∙ sym (ap (λ (y : Course H). y.state) same)) at_a)) in
         let going : IsGoing s b t its first_time x.systems.items = start_going s leads b t job start.trans start.path start.units done answers image effects is x.systems.items systems_are in
         let opened : IsOpenCourse x = record {
           leads = subst LeadsToStates (sym program_is) leads;
           room = subst (λ (l : Limits). l.budget * (l.turns + 1) < 2 ^ 63) (sym as_begun.limits_are) room;
           delays = ap (λ (y : Course H). y.delays) same ∙ f.delays ∙ ap has_delays (sym program_is);
           going = subst (λ (q : Whole). IsGoing q.0 q.1.budget q.1.turns q.2 q.3 x.systems.items) all going;
-          at = subst (λ (q : Whole). IsAt (situation q.0 q.1.budget (project q.2)) (situation q.0 q.1.budget (project q.2)).pending x.state) all at_x;
+          at = subst (λ (q : Whole). IsAt (situation q.0 q.1.budget (project q.2)) (untaken (open_in q.2) (situation q.0 q.1.budget (project q.2)).pending) x.state) all at_x;
+          flying = ap (λ (y : Course H). y.flying.items) same ∙ f.flying ∙ sym (ap open_in entries_are);
           taken = ap (λ (es : List Entry). length (tickets es)) entries_are ∙ sym tickets_are;
-          fired = ap fires entries_are ∙ sym tickets_are;
+          fired = tickets_are ∙ ap (λ (es : List Entry). fires es + length (open_in es)) (sym entries_are);
+          limit = λ o here. absurd (in_none Taken o (subst (λ (es : List Entry). Contains (open_in es) o) entries_are here));
         } in
         record {
           keeps = subst (IsKept x) (sym unended) opened;
@@ -189,6 +197,8 @@ module _ {H : Type 0} (s : Subject) (limits : Limits) (chooser : H) where
           begun = λ moment. reached_by draw x its as_begun moment (start_reached s leads b t job start.trans start.path start.units done answers image effects is draw chooser moment);
           starts = started_by x its as_begun None unended (only_started s leads b t job start.trans start.path start.units done answers image effects is);
           time = as_begun.time;
+          none = ap open_in entries_are;
+          writer = ap (λ (y : Course H). y.writer) same ∙ f.writer;
           unclocked = λ ended. absurd (not_ended x.end unended ended);
         }
 
@@ -197,13 +207,13 @@ module _ {H : Type 0} (s : Subject) (limits : Limits) (chooser : H) where
     failed_begun draw c n x f kind is h found =
         let b = limits.budget in
         let t = limits.turns in
-        let its : List Entry = (noted (Fault [] 0 kind) ∷ []) ++ ending (Faulted kind) ∷ [] in
+        let its : List Entry = (noted 0 (Fault [] 0 kind) ∷ []) ++ ending 0 (Faulted kind) ∷ [] in
         let same : x ≡ record c { history = n.history; end = Some (Faulted kind) } = found ∙ h.rest in
         let program_is : x.state.program.now ≡ s = ap (λ (y : Course H). y.state.program.now) same ∙ f.state.program in
         let as_begun : IsAsBegun x its = record {
           program = program_is;
           limits_are = ap (λ (y : Course H). limits_of y) same ∙ fresh_limits c f;
-          entries = ap (λ (y : Course H). y.history.entries) same ∙ h.noted ∙ ap (λ (es : List Entry). (es ++ noted (Fault [] 0 kind) ∷ []) ++ ending (Faulted kind) ∷ []) f.entries;
+          entries = ap (λ (y : Course H). y.history.entries) same ∙ h.noted ∙ (λ i. (f.entries i ++ noted (f.writer i) (Fault [] 0 kind) ∷ []) ++ ending (f.writer i) (Faulted kind) ∷ []);
           time = ap (λ (y : Course H). y.time) same ∙ f.time;
           chooser_is = ap (λ (y : Course H). y.chooser) same ∙ f.chooser_is;
         } in
@@ -220,9 +230,10 @@ module _ {H : Type 0} (s : Subject) (limits : Limits) (chooser : H) where
           room = subst (λ (l : Limits). l.budget * (l.turns + 1) < 2 ^ 63) (sym as_begun.limits_are) room;
           delays = ap (λ (y : Course H). y.delays) same ∙ f.delays ∙ ap has_delays (sym program_is);
           closed = there;
-          at = subst (λ (q : Whole). IsAt (situation q.0 q.1.budget (project q.2)) (situation q.0 q.1.budget (project q.2)).pending x.state) (same_whole x its as_begun) at_x;
+          left = (situation s b (project its)).pending;
+          at = subst (λ (q : Whole). IsAt (situation q.0 q.1.budget (project q.2)) (situation s b (project its)).pending x.state) (same_whole x its as_begun) at_x;
           taken = ap (λ (es : List Entry). length (tickets es)) as_begun.entries ∙ sym tickets_are;
-          fired = inl (tickets_are ∙ sym (ap fires as_begun.entries));
+          fired = inl (tickets_are ∙ ap (λ (es : List Entry). fires es + length (open_in es)) (sym as_begun.entries));
         } in
         record {
           keeps = subst (IsKept x) (sym ended) closes;
@@ -230,6 +241,8 @@ module _ {H : Type 0} (s : Subject) (limits : Limits) (chooser : H) where
           begun = λ moment. reached_by draw x its as_begun moment (start_failed_reached s leads b t job start.trans start.path start.units done answers kind is draw chooser moment);
           starts = started_by x its as_begun (Some (Faulted kind)) ended (only_failed s leads b t job start.trans start.path start.units done answers kind is);
           time = as_begun.time;
+          none = ap open_in as_begun.entries;
+          writer = ap (λ (y : Course H). y.writer) same ∙ f.writer;
           unclocked = λ clocked. absurd (not_clocked x.end kind ended clocked);
         }
 

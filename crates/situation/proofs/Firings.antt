@@ -1,10 +1,10 @@
 -- A firing of a run that goes on: it is put, or it faults.
-use Rattle.std.proofs.Common.{◌≡◌, ℕ, zero, suc, ◌+◌, ◌*◌, ◌^◌, ◌<◌, ◌≤◌, true, List, [], ◌∷◌, ◌++◌, Option, Some, None, refl, sym, ap, subst, ◌∙◌, inl, arith, length}
-use Rattle.std.specs.Prelude.{Contains, ◌&&◌, nat_eq, map as each}
-use Rattle.std.specs.Str.{bytes_eq}
+use Rattle.std.proofs.Common.{◌≡◌, true, ℕ, zero, suc, ◌+◌, ◌*◌, ◌^◌, ◌<◌, ◌≤◌, List, [], ◌∷◌, ◌++◌, Option, Some, None, refl, sym, ap, subst, ◌∙◌, inl, arith}
+use Rattle.std.specs.Prelude.{Contains, slice_get, map as each}
+use Rattle.std.specs.List.{remove}
 use Rattle.std.specs.FinMap as map
 use Rattle.std.proofs.Math.Nat.{mul-suc, mul-le-mul_left}
-use Rattle.std.proofs.lemmas.List.{append-nil}
+use Rattle.std.proofs.lemmas.Option.{get_or_from_slice_get, slice_get_within}
 use Rattle.pascal_values.specs.declared.fault.Fault as fault
 use Rattle.estelle_tree.specs.declared.transition.Pair.{Pair}
 use Rattle.estelle_tree.specs.Paths.{Path}
@@ -23,9 +23,7 @@ use Rattle.estelle_model.specs.Subject.{Subject}
 use Rattle.estelle_model.specs.Situation.{Situation, Acting}
 use Rattle.estelle_model.specs.Firing.{Failed, begun, fire, transition_at}
 use Rattle.estelle_model.specs.Jobs.{IsAnswer, IsPut, Answers, AnswersAt, put, taken_by, all_logged}
-use Rattle.estelle_model.specs.Runs.{FiringFaults, HasFailed, situation, without}
-use Rattle.estelle_model.specs.Choosers.{Draw, Picks}
-use Rattle.estelle_model.specs.Schedule.{FiringIsPlanned}
+use Rattle.estelle_model.specs.Runs.{MayFire, HasRun, FiringFaults, HasFailed, situation, without}
 use Rattle.estelle_model_legality.specs.Instances.{LeadsToStates}
 use Rattle.estelle_model_legality.specs.Situations.{IsLegal}
 use Rattle.effect_log.specs.Putting.{log_of, parts_of, effects_of, IsJobAt, AnswersIn, after_put, arrivals}
@@ -34,28 +32,30 @@ use Rattle.situation_state.proofs.Counted.{made_all, taken_made}
 use Rattle.effect_log.proofs.Answered.{log-is}
 use Rattle.effect_log.proofs.Lawful.{no-initial}
 use Rattle.run_history.specs.declared.entry.Entry.{Entry}
+use Rattle.run_history.specs.declared.entry.Taken.{Taken}
 use Rattle.run_history.specs.Histories.{project, fires}
-use Rattle.run_history.specs.Tickets.{MayTake, tickets}
+use Rattle.run_history.specs.OpenTickets.{open_in, untaken}
 use Rattle.run_history.proofs.Entries.{fires_more}
+use Rattle.run_history.proofs.OpenTickets.{open_more}
+use Rattle.run_history.proofs.Untaken.{itself, firings_leave}
 use Rattle.situation_steps.specs.declared.systems.System.{System}
 use Rattle.situation_steps.specs.declared.systems.Time.{Time}
-use Rattle.situation_steps.specs.Systems.{NoneIsDue, after_firing}
+use Rattle.situation_steps.specs.Systems.{after_firing}
 use Rattle.situation_steps.specs.UnderWay.{IsUnderWay}
 use Rattle.situation_steps.specs.Laws.{HasFired}
-use Rattle.situation_steps.specs.Ends.{HasEnded}
 use Rattle.situation_steps.proofs.Fired.{firings_go_on}
-use Rattle.situation_steps.proofs.Due.{none_are_due}
-use Rattle.situation_steps.proofs.Ends.{faults_end}
 use Rattle.situation_units.specs.Counting.{IsWithinUnits}
 use Rattle.situation_units.proofs.Weighing.{firings_are_within}
-use Rattle.estelle_model_legality.proofs.Lists.{path_is, number_is, both_and}
-use Rattle.situation.specs.declared.limits.Stepped.TheVariants as stepped
-use Rattle.situation.specs.Planned.{kept_of, StepsTo, a_firing, a_fault, IsPlannedOn}
-use Rattle.situation.specs.Runs.{noted, ending, take_of, IsWithin, IsGoing, IsClosed, IsJobFor}
+use Rattle.situation.specs.Runs.{noted, ending, IsWithin, IsGoing, IsClosed, IsJobFor}
 use Rattle.situation_images.specs.Putting.{arrivals_of}
-use Rattle.run_history.proofs.OpenTickets.{tickets_same}
-use Rattle.situation.proofs.Tickets.{fired_tickets, fired_settled, fired_count}
-use Rattle.situation.proofs.Steps.{project_push, project_end, within_same, closed_on, fault_stays, counted_event, counted_take}
+use Rattle.situation.proofs.OpenTickets.{settled_tickets, settled_open, ended_open}
+use Rattle.situation.proofs.Untaken.{are_once, is_taken}
+use Rattle.situation.proofs.Flying.{open_are_pending}
+use Rattle.situation.proofs.Steps.{project_push, fault_closes, counted_event}
+
+-- what stands at a place is in the list
+pub found_at : {A : Type 0} (xs : List A) (k : ℕ) (x : A) → slice_get xs k ≡ Some x → Contains xs x
+found_at xs k x is = (k, slice_get_within xs k x is, get_or_from_slice_get xs k x x is)
 
 -- ---- numbers
 
@@ -133,92 +133,45 @@ module _ (s : Subject) (budget : ℕ) (g : Situation) (legal : IsLegal s g) (p :
         let log : outputs_in (log_of done.outcome) ≡ outputs_in (all_logged s is_put.log) = ap (λ (o : Outcome). outputs_in (log_of o)) is ∙ ap outputs_in is_put.logged in
         omega (arith, all, log, taken_made s g p.path at_it, within_units.made)
 
--- ---- a pending firing goes on
+-- ---- a firing that is under way goes on
 
-module _ (s : Subject) (leads : LeadsToStates s) (budget turns : ℕ) (es : List Entry) (time : Time) (systems : List System) (w : IsGoing s budget turns es time systems) (none_due : NoneIsDue systems) (below : fires es < turns)
-    (p : Pair) (pending : Contains (situation s budget (project es)).pending p) (k : ℕ) (next_is : k ≡ length (tickets es) + 1) where
+module _ (s : Subject) (leads : LeadsToStates s) (budget turns : ℕ) (es : List Entry) (time : Time) (systems : List System) (w : IsGoing s budget turns es time systems)
+    (at : ℕ) (o : Taken) (there : slice_get (open_in es) at ≡ Some o) where
   abbrev g : Situation
   g = situation s budget (project es)
 
-  planned : {C : Type 0} (draw : Draw C) (c rest : C) → Picks draw c g.pending p rest → (told : Option ℕ) → FiringIsPlanned draw s budget (project es) (kept_of c time told) p.path p.trans rest
-  planned draw c rest picks told = record { none_due = none_are_due s budget (project es) time systems w.under_way none_due; picked = picks }
+  abbrev p : Pair
+  p = pair o.path o.trans
 
-  may_take : MayTake s budget es p.path p.trans
-  may_take = record { pending = pending; free = λ k. w.settled k p.trans p.path }
-
-  abbrev with_take : List Entry
-  with_take = es ++ take_of k p ∷ []
-
-  project_after : (e : Event) → project (with_take ++ noted e ∷ []) ≡ project es ++ e ∷ []
-  project_after e = project_push with_take (noted e) ∙ ap (λ (xs : List Event). xs ++ e ∷ []) (project_push es (take_of k p) ∙ append-nil (project es))
-
-  settles_own : (bytes_eq p.path p.path && nat_eq p.trans p.trans) ≡ true
-  settles_own = both_and (bytes_eq p.path p.path) (nat_eq p.trans p.trans) (path_is p.path) (number_is p.trans)
+  pub under_way_pending : Contains g.pending p
+  under_way_pending = open_are_pending s leads budget es w.under_way.run w.tickets o (found_at (open_in es) at o there)
 
   -- it faults, which leaves the situation
-  failed_stays : (kind : fault.Fault) → situation s budget (project (with_take ++ noted (Fault p.path p.trans kind) ∷ [])) ≡ g
-  failed_stays kind = ap (situation s budget) (project_after (Fault p.path p.trans kind)) ∙ fault_stays s budget turns es time systems w p.path p.trans kind
-
-  pub failed_closes : (kind : fault.Fault) → FiringFaults s budget g p.path p.trans kind → IsClosed s budget turns ((with_take ++ noted (Fault p.path p.trans kind) ∷ []) ++ ending (Faulted kind) ∷ []) time.waited (Faulted kind)
+  pub failed_closes : (kind : fault.Fault) → FiringFaults s budget g o.path o.trans kind → IsClosed s budget turns ((es ++ noted o.by (Fault o.path o.trans kind) ∷ []) ++ ending o.by (Faulted kind) ∷ []) time.waited (Faulted kind)
   failed_closes kind f =
-      let e = noted (Fault p.path p.trans kind) in
-      let count : fires (with_take ++ e ∷ []) ≡ fires es = omega (arith, fires_more with_take e, fires_more es (take_of k p)) in
-      let t = fired_tickets s budget es k p.trans p.path e w.tickets w.settled next_is may_take refl refl settles_own in
-      let settled = fired_settled s budget es k p.trans p.path e w.tickets w.settled next_is may_take refl refl settles_own in
-      let stays = failed_stays kind in
-      closed_on s budget turns (with_take ++ e ∷ []) time.waited (Faulted kind) (record {
-        ended = subst (λ (events : List Event). HasEnded s budget turns events time.waited (Faulted kind)) (sym (project_after (Fault p.path p.trans kind))) (faults_end s budget turns (project es) time systems w.under_way p.path p.trans kind (inl f));
-        legal = λ started. subst (IsLegal s) (sym stays) w.under_way.legal;
-        below = omega (arith, count, w.below);
-        within = within_same budget (fires es) (fires (with_take ++ e ∷ [])) g (situation s budget (project (with_take ++ e ∷ []))) count stays w.within;
-        tickets = t;
-        settled = settled;
-        counted = counted_event with_take (Fault p.path p.trans kind) (counted_take es k p w.counted);
-      })
+      fault_closes s budget turns es time systems w o.by o.path o.trans kind (inl f) (settled_tickets s budget es w.tickets at o there (Fault o.path o.trans kind) (itself p))
 
-  -- then as many firings were taken as there were, and one more
-  pub failed_now : (kind : fault.Fault) → situation s budget (project ((with_take ++ noted (Fault p.path p.trans kind) ∷ []) ++ ending (Faulted kind) ∷ [])) ≡ g
-  failed_now kind = ap (situation s budget) (project_end (with_take ++ noted (Fault p.path p.trans kind) ∷ []) (Faulted kind)) ∙ failed_stays kind
-
-  pub failed_count : (kind : fault.Fault) → fires ((with_take ++ noted (Fault p.path p.trans kind) ∷ []) ++ ending (Faulted kind) ∷ []) ≡ fires es
-  failed_count kind =
-      let e = noted (Fault p.path p.trans kind) in
-      omega (arith, fires_more (with_take ++ e ∷ []) (ending (Faulted kind)), fires_more with_take e, fires_more es (take_of k p))
-
-  pub failed_next : (kind : fault.Fault) → length (tickets ((with_take ++ noted (Fault p.path p.trans kind) ∷ []) ++ ending (Faulted kind) ∷ [])) ≡ k
-  failed_next kind =
-      let e = noted (Fault p.path p.trans kind) in
-      ap length (tickets_same (with_take ++ e ∷ []) (ending (Faulted kind)) refl) ∙ fired_count s budget es k p.trans p.path e w.tickets w.settled next_is may_take refl refl settles_own
-
-  pub failed_planned : (kind : fault.Fault) → FiringFaults s budget g p.path p.trans kind → {C : Type 0} (draw : Draw C) (c rest : C) → Picks draw c g.pending p rest → (moment : Option ℕ)
-      → IsPlannedOn draw s budget turns es c time moment ((with_take ++ noted (Fault p.path p.trans kind) ∷ []) ++ ending (Faulted kind) ∷ []) rest time moment stepped.Faulted
-  failed_planned kind f draw c rest picks moment known told =
-      let e = noted (Fault p.path p.trans kind) in
-      record {
-        known = known;
-        told = told;
-        steps = subst (λ (events : List Event). StepsTo draw s budget turns (project es) (kept_of c time known) stepped.Faulted events (kept_of rest time known))
-            (sym (project_end (with_take ++ e ∷ []) (Faulted kind) ∙ project_after (Fault p.path p.trans kind)))
-            (a_fault p.path p.trans kind rest below (planned draw c rest picks known) f);
-      }
+  pub failed_open : (kind : fault.Fault) → open_in ((es ++ noted o.by (Fault o.path o.trans kind) ∷ []) ++ ending o.by (Faulted kind) ∷ []) ≡ remove (open_in es) at
+  failed_open kind =
+      ended_open (es ++ noted o.by (Fault o.path o.trans kind) ∷ []) o.by (Faulted kind) ∙ settled_open s budget es w.tickets at o there o.by (Fault o.path o.trans kind) (itself p)
 
   -- it runs
-  module _ (job : Job) (of : IsJobFor s g budget p job) (done : Done) (answers : Answers s job done) (image : Image) (effects : List Effect) (is : done.outcome ≡ outcome.Ran image effects) where
+  module _ (below : fires es < turns) (job : Job) (of : IsJobFor s g budget p job) (done : Done) (answers : Answers s job done) (image : Image) (effects : List Effect) (is : done.outcome ≡ outcome.Ran image effects) where
     abbrev a : Acting
     a = after_put s g done
 
     abbrev fire_event : Event
-    fire_event = Fire p.path p.trans a.outs a.drops
+    fire_event = Fire o.path o.trans a.outs a.drops
 
     abbrev after : List Entry
-    after = with_take ++ noted fire_event ∷ []
+    after = es ++ noted o.by fire_event ∷ []
 
     -- what is kept then of the clock and of the systems
     abbrev new_time : Time
     new_time = record time { may_wait = true }
 
     abbrev new_systems : List System
-    new_systems = each (after_firing p.path (arrivals_of s g done)) systems
+    new_systems = each (after_firing o.path (arrivals_of s g done)) systems
 
     abbrev new_situation : Situation
     new_situation = record a.situation { timers = map.remove g.timers p; pending = without p g.pending }
@@ -228,29 +181,42 @@ module _ (s : Subject) (leads : LeadsToStates s) (budget turns : ℕ) (es : List
 
     -- the instance's situation in which the head is taken, and what is put into it
     abbrev h : Situation
-    h = taken_by s g p.path (transition_at s p.trans (map.get g.core.instances p.path))
+    h = taken_by s g o.path (transition_at s o.trans (map.get g.core.instances o.path))
 
-    abbrev its : IsPut s p.path p.trans h image effects done.left (fire s budget g p.path p.trans)
-    its = is_put s budget g legal p pending job of done answers image effects is
+    abbrev its : IsPut s o.path o.trans h image effects done.left (fire s budget g o.path o.trans)
+    its = is_put s budget g legal p under_way_pending job of done answers image effects is
 
-    fired : HasFired s budget (project es) time systems p.path p.trans a (arrivals_of s g done)
-    fired = by its (after_is s budget g legal p pending job of done answers image effects is) (arrivals_are s budget g legal p pending job of done answers image effects is)
+    put_is : a ≡ put o.path its.log image.parts (begun h)
+    put_is = after_is s budget g legal p under_way_pending job of done answers image effects is
+
+    fired : HasFired s budget (project es) time systems o.path o.trans a (arrivals_of s g done)
+    fired = by its put_is (arrivals_are s budget g legal p under_way_pending job of done answers image effects is)
       where
-        by : (q : IsPut s p.path p.trans h image effects done.left (fire s budget g p.path p.trans)) → a ≡ put p.path q.log image.parts (begun h) → arrivals_of s g done ≡ arrivals q.log (begun h)
-            → HasFired s budget (project es) time systems p.path p.trans a (arrivals_of s g done)
-        by q put_so arrived = subst (λ (at : List Path). HasFired s budget (project es) time systems p.path p.trans a at) (sym arrived)
-            (subst (λ (x : Acting). HasFired s budget (project es) time systems p.path p.trans x (arrivals q.log (begun h))) (sym put_so)
-            (firings_go_on s leads budget (project es) time systems w.under_way p.path p.trans pending h refl image effects done.left q))
+        by : (q : IsPut s o.path o.trans h image effects done.left (fire s budget g o.path o.trans)) → a ≡ put o.path q.log image.parts (begun h) → arrivals_of s g done ≡ arrivals q.log (begun h)
+            → HasFired s budget (project es) time systems o.path o.trans a (arrivals_of s g done)
+        by q put_so arrived = subst (λ (at : List Path). HasFired s budget (project es) time systems o.path o.trans a at) (sym arrived)
+            (subst (λ (x : Acting). HasFired s budget (project es) time systems o.path o.trans x (arrivals q.log (begun h))) (sym put_so)
+            (firings_go_on s leads budget (project es) time systems w.under_way o.path o.trans under_way_pending h refl image effects done.left q))
+
+    -- it has just these outputs and drops
+    pub fired_so : MayFire s budget g o.path o.trans a.outs a.drops
+    fired_so = record {
+      pending = under_way_pending;
+      ran = subst (HasRun a.outs a.drops) (sym its.result) (ap (λ (x : Acting). x.outs) (sym put_is), ap (λ (x : Acting). x.drops) (sym put_is));
+    }
+
+    project_after : project after ≡ project es ++ fire_event ∷ []
+    project_after = project_push es (noted o.by fire_event)
 
     pub fired_situation : situation s budget (project after) ≡ new_situation
-    fired_situation = ap (situation s budget) (project_after fire_event) ∙ fired.situation_is
+    fired_situation = ap (situation s budget) project_after ∙ fired.situation_is
 
     pub count_is : fires after ≡ fires es + 1
-    count_is = omega (arith, fires_more with_take (noted fire_event), fires_more es (take_of k p))
+    count_is = omega (arith, fires_more es (noted o.by fire_event))
 
     still_within : IsWithin budget (fires es + 1) new_situation
     still_within =
-        let u = within_units s budget g legal p pending job of done answers image effects is in
+        let u = within_units s budget g legal p under_way_pending job of done answers image effects is in
         record {
           made = omega (arith, u.made, w.within.made, once_more budget (fires es + 1));
           births = λ q. omega (arith, u.births q, w.within.births q, once_more budget (fires es + 1));
@@ -258,30 +224,26 @@ module _ (s : Subject) (leads : LeadsToStates s) (budget turns : ℕ) (es : List
 
     pub fired_going : IsGoing s budget turns after new_time new_systems
     fired_going = record {
-      under_way = subst (λ (events : List Event). IsUnderWay s budget events new_time new_systems) (sym (project_after fire_event)) fired.under_way;
+      under_way = subst (λ (events : List Event). IsUnderWay s budget events new_time new_systems) (sym project_after) fired.under_way;
       below = omega (arith, count_is, below);
       within = subst (λ (h : Situation). IsWithin budget (fires after) h) (sym fired_situation) (subst (λ (n : ℕ). IsWithin budget n new_situation) (sym count_is) still_within);
-      tickets = fired_tickets s budget es k p.trans p.path (noted fire_event) w.tickets w.settled next_is may_take refl refl settles_own;
-      settled = fired_settled s budget es k p.trans p.path (noted fire_event) w.tickets w.settled next_is may_take refl refl settles_own;
-      counted = counted_event with_take fire_event (counted_take es k p w.counted);
+      tickets = settled_tickets s budget es w.tickets at o there fire_event (itself p);
+      counted = counted_event es o.by fire_event w.counted;
     }
 
-    pub fired_next : length (tickets after) ≡ k
-    fired_next = fired_count s budget es k p.trans p.path (noted fire_event) w.tickets w.settled next_is may_take refl refl settles_own
+    -- and it is no longer under way
+    pub fired_open : open_in after ≡ remove (open_in es) at
+    fired_open = settled_open s budget es w.tickets at o there o.by fire_event (itself p)
 
-    pub fired_planned : {C : Type 0} (draw : Draw C) (c rest : C) → Picks draw c g.pending p rest → (moment : Option ℕ)
-        → IsPlannedOn draw s budget turns es c time moment after rest new_time moment stepped.Fired
-    fired_planned draw c rest picks moment known told = record {
-      known = known;
-      told = told;
-      steps = subst (λ (events : List Event). StepsTo draw s budget turns (project es) (kept_of c time known) stepped.Fired events (kept_of rest new_time known))
-          (sym (project_after fire_event))
-          (a_firing p.path p.trans a.outs a.drops rest below (planned draw c rest picks known));
-    }
+    -- of what nobody has taken nothing is left out
+    pub fired_left : untaken (open_in after) new_situation.pending ≡ untaken (open_in es) g.pending
+    fired_left =
+        ap (λ (os : List Taken). untaken os (without p g.pending)) (open_more es (noted o.by fire_event))
+        ∙ firings_leave (open_in es) p a.outs a.drops o.by g.pending (is_taken (open_in es) o p (found_at (open_in es) at o there) refl) (are_once s g legal.pending)
 
     -- the count of outputs keeps below the greatest
     pub fired_numbers : budget * (turns + 1) < 2 ^ 63 → g.made + outputs_in (log_of done.outcome) < 2 ^ 64
     fired_numbers room =
-        let few = few_outputs s budget g legal p pending job of done answers image effects is in
+        let few = few_outputs s budget g legal p under_way_pending job of done answers image effects is in
         let most : budget * (fires es + 1) ≤ budget * turns = mul-le-mul_left budget (omega (arith, below)) in
         omega (arith, few, most, w.within.made, once_more budget turns, room)

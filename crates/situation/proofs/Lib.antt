@@ -1,23 +1,35 @@
-pub mod Tickets
+-- ---- tickets, and what nobody has taken
+pub mod OpenTickets
+pub mod Untaken
+pub mod Flying
+-- ---- steps as they are planned, and ends
 pub mod Planned
 pub mod Steps
 pub mod Less
 pub mod Adding
-pub mod Selected
 pub mod Ended
-pub mod Waited
-pub mod Stepping
-pub mod Listed
+pub mod MoreRoom
 pub mod Answering
+-- ---- a run that is kept as it is
+pub mod Kept
+-- ---- selections and waits
+pub mod Selected
+pub mod Waited
+-- ---- firings
+pub mod Firings
+pub mod Chosen
+pub mod Commits
+pub mod Settled
+pub mod Fired
+-- ---- the start
+pub mod Listed
 pub mod Delayed
 pub mod Found
-pub mod Firings
 pub mod Starts
-pub mod Begun
-pub mod Settled
 pub mod Settling
-pub mod Computed
-pub mod Committed
+pub mod Begun
+-- ---- what callers know
 pub mod Stopped
 pub mod Refused
 pub mod Finished
+pub mod Knowing

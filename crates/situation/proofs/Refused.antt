@@ -39,8 +39,8 @@ at_most [] = omega arith
 at_most (e ∷ es) = omega (arith, one e.by e.what, at_most es, projects (e ∷ []) es, takes (e ∷ []) es)
 
 -- with an end they are not all events and tickets
-none_ended : (es : List Entry) (e : End) → AreCounted (es ++ ending e ∷ []) → ⊥
-none_ended es e h = omega (arith, h, at_most es, projects es (ending e ∷ []), takes es (ending e ∷ []), length-append es (ending e ∷ []))
+none_ended : (es : List Entry) (by : ℕ) (e : End) → AreCounted (es ++ ending by e ∷ []) → ⊥
+none_ended es by e h = omega (arith, h, at_most es, projects es (ending by e ∷ []), takes es (ending by e ∷ []), length-append es (ending by e ∷ []))
 
 abbrev last_of : Entry → List Entry → Entry
 last_of x [] = x
@@ -50,9 +50,9 @@ last_is : (x : Entry) (es : List Entry) (y : Entry) → last_of x (es ++ y ∷ [
 last_is x [] y = refl
 last_is x (z ∷ es) y = last_is z es y
 
-one_end : (es fs : List Entry) (e f : End) → es ++ ending e ∷ [] ≡ fs ++ ending f ∷ [] → e ≡ f
-one_end es fs e f same =
-    let whole : ending e ≡ ending f = sym (last_is (ending e) es (ending e)) ∙ ap (last_of (ending e)) same ∙ last_is (ending e) fs (ending f) in
+one_end : (es fs : List Entry) (by by' : ℕ) (e f : End) → es ++ ending by e ∷ [] ≡ fs ++ ending by' f ∷ [] → e ≡ f
+one_end es fs by by' e f same =
+    let whole : ending by e ≡ ending by' f = sym (last_is (ending by e) es (ending by e)) ∙ ap (last_of (ending by e)) same ∙ last_is (ending by e) fs (ending by' f) in
     let inner : what.Ended e ≡ what.Ended f = ap (λ (x : Entry). x.what) whole in
     cc
 
@@ -61,7 +61,7 @@ one_end es fs e f same =
 rose_since : (first faults faults' : ℕ) → first ≤ faults → Rose faults faults' → Rose first faults'
 rose_since first faults faults' later rose = omega (arith, later, rose)
 
-rose_still : (first faults faults' : ℕ) → faults ≤ faults' → Rose first faults → Rose first faults'
+pub rose_still : (first faults faults' : ℕ) → faults ≤ faults' → Rose first faults → Rose first faults'
 rose_still first faults faults' later rose = omega (arith, later, rose)
 
 -- ---- refusals
@@ -72,17 +72,17 @@ module _ {H : Type 0} where
     where
       by : (x y : Option End) → IsKept c x → IsKept n y → y ≡ x
       by None None k l = refl
-      by None (Some f) k l = absurd (none_ended l.closed.before f (subst AreCounted (sym u.entries ∙ l.closed.last) k.going.counted))
-      by (Some e) None k l = absurd (none_ended k.closed.before e (subst AreCounted (u.entries ∙ k.closed.last) l.going.counted))
-      by (Some e) (Some f) k l = ap Some (one_end l.closed.before k.closed.before f e (sym l.closed.last ∙ u.entries ∙ k.closed.last))
+      by None (Some f) k l = absurd (none_ended l.closed.before l.closed.writer f (subst AreCounted (sym u.entries ∙ l.closed.last) k.going.counted))
+      by (Some e) None k l = absurd (none_ended k.closed.before k.closed.writer e (subst AreCounted (u.entries ∙ k.closed.last) l.going.counted))
+      by (Some e) (Some f) k l = ap Some (one_end l.closed.before k.closed.before l.closed.writer k.closed.writer f e (sym l.closed.last ∙ u.entries ∙ k.closed.last))
 
   -- what a caller knows of a run
-  abbrev seen : {C : Type 0} → ℕ → Course H → C → Known C H
-  seen first c clock = record { first = first; subject = c.state.program.now; limits = limits_of c; history = c.history; end = c.end; time = c.time; systems = c.systems.items; chooser = c.chooser; clock = clock }
+  abbrev pub seen : {C : Type 0} → ℕ → Course H → C → Known C H
+  seen first c clock = record { first = first; writer = c.writer; room = record { shared = c.state.shared; notes = c.state.notes }; subject = c.state.program.now; limits = limits_of c; history = c.history; end = c.end; time = c.time; systems = c.systems.items; chooser = c.chooser; clock = clock }
 
   pub as_before : {A E C : Type 0} (first : ℕ) (r : Result A E) (c n : Course H) (clock clock' : C) → IsCourse c → OnErr r (IsUnchanged c n) → OnErr r (IsAsBefore (seen first c clock) (seen first n clock'))
   as_before first (Ok a) c n clock clock' k u = tt
-  as_before first (Err e) c n clock clock' k u = record { first = refl; subject = ap (λ p. p.now) u.program; limits = u.limits; entries = u.entries; end = end_as_before c n k u; time = u.time; systems = u.systems }
+  as_before first (Err e) c n clock clock' k u = record { first = refl; writer = u.writer; subject = ap (λ p. p.now) u.program; limits = u.limits; entries = u.entries; end = end_as_before c n k u; time = u.time; systems = u.systems }
 
   -- ---- steps
 
@@ -106,10 +106,11 @@ module _ {H : Type 0} where
   still_counted draw moment moment' (Err e) c n first faults faults' k later before h u cause =
       record { later = omega (arith, before.later, later); rose = λ ended. rose_still first faults faults' later (before.rose (sym (end_as_before c n k u) ∙ ended)) }
 
-  pub planned : {E C : Type 0} (draw : Draw H) (moment : C → Option ℕ) (first : ℕ) (r : Result Stepped E) (c n : Course H) (clock clock' : C) → IfOk r (HasStepped draw (moment clock) (moment clock') c n)
-      → IfOk r (IsPlannedStep draw moment (seen first c clock) (seen first n clock'))
-  planned draw moment first (Ok d) c n clock clock' h = record {
+  pub planned_step : {C : Type 0} (draw : Draw H) (moment : C → Option ℕ) (first : ℕ) (d : Stepped) (c n : Course H) (clock clock' : C) → HasStepped draw (moment clock) (moment clock') c n d
+      → IsPlannedStep draw moment (seen first c clock) (seen first n clock') d
+  planned_step draw moment first d c n clock clock' h = record {
     first = refl;
+    writer = h.goes_on.writer;
     subject = ap (λ p. p.now) h.goes_on.program;
     limits = h.goes_on.limits;
     planned = h.goes_on.planned;
@@ -118,4 +119,8 @@ module _ {H : Type 0} where
     waits = h.waits;
     ends = h.ends;
   }
+
+  pub planned : {E C : Type 0} (draw : Draw H) (moment : C → Option ℕ) (first : ℕ) (r : Result Stepped E) (c n : Course H) (clock clock' : C) → IfOk r (HasStepped draw (moment clock) (moment clock') c n)
+      → IfOk r (IsPlannedStep draw moment (seen first c clock) (seen first n clock'))
+  planned draw moment first (Ok d) c n clock clock' h = planned_step draw moment first d c n clock clock' h
   planned draw moment first (Err e) c n clock clock' h = tt

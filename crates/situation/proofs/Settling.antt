@@ -14,22 +14,23 @@ use Rattle.situation_state.proofs.Fired.{at_fired}
 use Rattle.situation.specs.declared.course.Course.{Course}
 use Rattle.situation.specs.Runs.{noted}
 use Rattle.situation.specs.Steps.{HasBeenPut, HasFailed, StartedSo}
-use Rattle.situation.proofs.Computed.{own_is}
+use Rattle.situation.proofs.Kept.{own_is}
 
 module _ {H : Type 0} (old : Course H) (done : Done) where
   abbrev s : Subject
   s = old.state.program.now
 
   pub been_put : (m n : Course H) → MayFire (bare s) old.state done → IsFired (bare s) old.state m.state done → m ≡ record old { state = m.state }
-      → n.history.entries ≡ m.history.entries ++ noted (Start m.state.notes.outs.items m.state.notes.drops.items) ∷ [] → NothingNoted n.state.notes → n.state ≡ record m.state { notes = n.state.notes } → n ≡ record m { history = n.history; state = n.state }
+      → n.history.entries ≡ m.history.entries ++ noted m.writer (Start m.state.notes.outs.items m.state.notes.drops.items) ∷ [] → NothingNoted n.state.notes → n.state ≡ record m.state { notes = n.state.notes } → n ≡ record m { history = n.history; state = n.state }
       → HasBeenPut old n done
   been_put m n may fired is entries_are empty told rest =
       let before_is : m.history.entries ≡ old.history.entries = ap (λ (x : Course H). x.history.entries) is in
+      let writer : m.writer ≡ old.writer = ap (λ (x : Course H). x.writer) is in
       let program : n.state.program ≡ old.state.program = ap (λ (x : State). x.program) told ∙ ap (λ (x : State). x.program) fired.rest in
       let budget : n.state.budget ≡ old.state.budget = ap (λ (x : State). x.budget) told ∙ ap (λ (x : State). x.budget) fired.rest in
       record {
         put = λ pending at. at_fired (bare s) [] pending old.state m.state n.state done may at fired empty told;
-        noted = entries_are ∙ (λ i. before_is i ++ noted (Start (fired.outs i) (fired.drops i)) ∷ []);
+        noted = entries_are ∙ (λ i. before_is i ++ noted (writer i) (Start (fired.outs i) (fired.drops i)) ∷ []);
         rest = rest ∙ ap (λ (x : Course H). record x { history = n.history; state = n.state }) is ∙ (λ i. record old { state = own_is old n.state program budget i; history = n.history });
       }
 

@@ -40,10 +40,10 @@ use Rattle.situation_steps.proofs.Starting.{starts_go_on}
 use Rattle.situation_units.specs.Counting.{IsWithinUnits}
 use Rattle.situation_units.proofs.Bare.{no_births}
 use Rattle.situation_units.proofs.Weighing.{starts_are_within}
-use Rattle.situation.specs.Runs.{noted, ending, AllSettled, IsWithin, IsGoing, IsClosed, IsTold, AreReached}
+use Rattle.situation.specs.Runs.{noted, ending, IsWithin, IsGoing, IsClosed, IsTold, AreReached}
 use Rattle.situation.specs.Worlds.{HasOnlyStarted}
 use Rattle.run_history.proofs.Lists.{too_short}
-use Rattle.situation.proofs.Tickets.{still_settled, still_tickets}
+use Rattle.situation.proofs.OpenTickets.{noted_tickets, ended_tickets}
 use Rattle.situation.proofs.Steps.{counted_event}
 use Rattle.situation_state.proofs.Counted.{made_all}
 use Rattle.situation.proofs.Firings.{once_more}
@@ -61,9 +61,6 @@ no_tickets s budget = record {
   taken = λ k n by m before after take. absurd (too_short (record { by = by; what = what.Take k m n }) before after take.stands);
   by_taker = λ k n by m before after take. absurd (too_short (record { by = by; what = what.Take k m n }) before after take.stands);
 }
-
-none_settled : AllSettled []
-none_settled k n m o = too_short (record { by = o.by; what = what.Take k m n }) o.before o.after o.take.stands
 
 -- ---- the situation before it
 
@@ -87,7 +84,7 @@ module _ (s : Subject) (leads : LeadsToStates s) (budget turns : ℕ) (job : Job
 
   module _ (kind : fault.Fault) (is : done.outcome ≡ outcome.Faulted kind) where
     abbrev failed_entries : List Entry
-    failed_entries = (noted (Fault [] 0 kind) ∷ []) ++ ending (Faulted kind) ∷ []
+    failed_entries = (noted 0 (Fault [] 0 kind) ∷ []) ++ ending 0 (Faulted kind) ∷ []
 
     failed : start s budget ≡ Failed kind done.left
     failed = subst (λ (o : Outcome). IsAnswer s [] 0 (bare s) o done.left (start s budget)) is answer
@@ -104,19 +101,19 @@ module _ (s : Subject) (leads : LeadsToStates s) (budget turns : ℕ) (job : Job
 
     pub start_closes : IsClosed s budget turns failed_entries 0 (Faulted kind)
     start_closes =
-        let e = noted (Fault [] 0 kind) in
+        let e = noted 0 (Fault [] 0 kind) in
         record {
           before = e ∷ [];
+          writer = 0;
           last = refl;
-          counted = counted_event [] (Fault [] 0 kind) refl;
+          counted = counted_event [] 0 (Fault [] 0 kind) refl;
           run = subst (λ (f : Firing). Begins s budget f (Fault [] 0 kind) []) (sym failed) (refl, refl, refl, refl);
           stops = refl;
           planned = refl;
           legal = λ ran. absurd (subst HasStarted failed ran);
           below = omega arith;
           within = subst (IsWithin budget 0) (sym start_stays) none_made;
-          tickets = still_tickets s budget (e ∷ []) (ending (Faulted kind)) refl (still_settled [] e refl none_settled) (still_tickets s budget [] e refl none_settled (no_tickets s budget));
-          settled = still_settled (e ∷ []) (ending (Faulted kind)) refl (still_settled [] e refl none_settled);
+          tickets = ended_tickets s budget (e ∷ []) (noted_tickets s budget [] (no_tickets s budget) 0 (Fault [] 0 kind) tt) 0 (Faulted kind);
         }
 
     pub start_failed_reached : {C : Type 0} (draw : Draw C) (c : C) (moment : Option ℕ) → AreReached draw s budget turns moment c failed_entries c first_time moment
@@ -151,13 +148,13 @@ module _ (s : Subject) (leads : LeadsToStates s) (budget turns : ℕ) (job : Job
     start_event = Start a.outs a.drops
 
     abbrev begun_entries : List Entry
-    begun_entries = noted start_event ∷ []
+    begun_entries = noted 0 start_event ∷ []
 
     start_left : situation s budget (project begun_entries) ≡ record (put [] is_put.log image.parts (begun (bare s))).situation { timers = map.remove (put [] is_put.log image.parts (begun (bare s))).situation.timers (pair [] 0) }
     start_left = ap (started s) is_put.result
 
     pub only_started : HasOnlyStarted (start s budget) begun_entries None
-    only_started = subst (λ (f : Firing). HasOnlyStarted f begun_entries None) (sym is_put.result) (ap (λ (x : Acting). noted (Start x.outs x.drops) ∷ []) after_is, refl)
+    only_started = subst (λ (f : Firing). HasOnlyStarted f begun_entries None) (sym is_put.result) (ap (λ (x : Acting). noted 0 (Start x.outs x.drops) ∷ []) after_is, refl)
 
     -- nothing is pending then, and no timer runs
     pub start_pending : a.situation.pending ≡ []
@@ -191,9 +188,8 @@ module _ (s : Subject) (leads : LeadsToStates s) (budget turns : ℕ) (job : Job
         made = omega (arith, within_units.made, once_more budget 0);
         births = λ q. omega (arith, within_units.births q, no_births s q, once_more budget 0);
       };
-      tickets = still_tickets s budget [] (noted start_event) refl none_settled (no_tickets s budget);
-      settled = still_settled [] (noted start_event) refl none_settled;
-      counted = counted_event [] start_event refl;
+      tickets = noted_tickets s budget [] (no_tickets s budget) 0 start_event tt;
+      counted = counted_event [] 0 start_event refl;
     }
 
     pub start_reached : {C : Type 0} (draw : Draw C) (c : C) (moment : Option ℕ) → AreReached draw s budget turns moment c begun_entries c first_time moment

@@ -17,11 +17,13 @@ use Rattle.estelle_model.specs.Runs.{IsRun, Applies, IsFirstFault, situation}
 use Rattle.estelle_model.specs.Ends.{Stops}
 use Rattle.estelle_model.specs.Choosers.{Draw}
 use Rattle.estelle_model.specs.Schedule.{told_after, IsPlannedEnd, MayAnswer, IsMomentBy}
+use Rattle.estelle_model_legality.specs.Instances.{LeadsToStates}
 use Rattle.estelle_model_legality.specs.Keeping.{HasStarted}
 use Rattle.estelle_model_legality.specs.Situations.{IsLegal}
 use Rattle.run_history.specs.declared.entry.Entry.{Entry}
 use Rattle.run_history.specs.Histories.{event_of, project, fires}
-use Rattle.run_history.specs.Tickets.{ticket_of, tickets, AreTickets}
+use Rattle.run_history.specs.Tickets.{tickets, AreTickets}
+use Rattle.run_history.specs.OpenTickets.{open_in}
 use Rattle.run_history.proofs.Entries.{fires_more}
 use Rattle.situation_steps.specs.declared.systems.System.{System}
 use Rattle.situation_steps.specs.declared.systems.Time.{Time}
@@ -31,30 +33,36 @@ use Rattle.situation_steps.proofs.Ends.{faults_end, guard_faults_are_planned}
 use Rattle.situation_steps.proofs.Going.{situation-push}
 use Rattle.situation.specs.declared.limits.Stepped.TheVariants as stepped
 use Rattle.situation.specs.Planned.{kept_of, StepsTo, a_guard_fault, IsPlannedOn}
-use Rattle.situation.specs.Runs.{noted, ending, take_of, AllSettled, AreCounted, IsWithin, IsGoing, IsClosed, IsTold}
+use Rattle.situation.specs.Runs.{noted, ending, take_of, AreCounted, IsWithin, IsGoing, IsClosed, IsTold}
 use Rattle.run_history.proofs.OpenTickets.{tickets_same}
-use Rattle.situation.proofs.Tickets.{still_settled, still_tickets}
+use Rattle.situation.proofs.OpenTickets.{SettlesNone, noted_tickets, ended_tickets, noted_open, ended_open, taken_count}
+use Rattle.situation.proofs.Untaken.{guards_settle_none}
+use Rattle.situation.proofs.Flying.{open_are_pending}
 
 -- the events with one more entry
 pub project_push : (es : List Entry) (e : Entry) → project (es ++ e ∷ []) ≡ project es ++ project (e ∷ [])
 project_push es e = filter_map-append (λ (x : Entry). event_of x.what) es (e ∷ [])
 
 -- the entry of an end is no event
-pub project_end : (es : List Entry) (e : End) → project (es ++ ending e ∷ []) ≡ project es
-project_end es e = project_push es (ending e) ∙ append-nil (project es)
+pub project_end : (es : List Entry) (by : ℕ) (e : End) → project (es ++ ending by e ∷ []) ≡ project es
+project_end es by e = project_push es (ending by e) ∙ append-nil (project es)
+
+-- nor is a ticket
+pub project_take : (es : List Entry) (by k : ℕ) (p : Pair) → project (es ++ take_of by k p ∷ []) ≡ project es
+project_take es by k p = project_push es (take_of by k p) ∙ append-nil (project es)
 
 pub fires_same : (es : List Entry) (e : Entry) → fires (e ∷ []) ≡ 0 → fires (es ++ e ∷ []) ≡ fires es
 fires_same es e none = omega (arith, fires_more es e, none)
 
 -- ---- how many entries there are
 
-pub counted_event : (es : List Entry) (e : Event) → AreCounted es → AreCounted (es ++ noted e ∷ [])
-counted_event es e h =
-    omega (arith, h, length-append es (noted e ∷ []), ap length (project_push es (noted e)), length-append (project es) (e ∷ []), ap length (tickets_same es (noted e) refl))
+pub counted_event : (es : List Entry) (by : ℕ) (e : Event) → AreCounted es → AreCounted (es ++ noted by e ∷ [])
+counted_event es by e h =
+    omega (arith, h, length-append es (noted by e ∷ []), ap length (project_push es (noted by e)), length-append (project es) (e ∷ []), ap length (tickets_same es (noted by e) refl))
 
-pub counted_take : (es : List Entry) (k : ℕ) (p : Pair) → AreCounted es → AreCounted (es ++ take_of k p ∷ [])
-counted_take es k p h =
-    omega (arith, h, length-append es (take_of k p ∷ []), ap length (project_push es (take_of k p)), length-append (project es) [], ap length (filter_map-append (λ (x : Entry). ticket_of x.what) es (take_of k p ∷ [])), length-append (tickets es) (k ∷ []))
+pub counted_take : (es : List Entry) (by k : ℕ) (p : Pair) → AreCounted es → AreCounted (es ++ take_of by k p ∷ [])
+counted_take es by k p h =
+    omega (arith, h, length-append es (take_of by k p ∷ []), ap length (project_take es by k p), taken_count es by k p)
 
 -- ---- what a clock answers
 
@@ -85,16 +93,16 @@ pub record MayClose (s : Subject) (budget turns : ℕ) (es : List Entry) (waited
   pub below : fires es ≤ turns
   pub within : IsWithin budget (fires es) (situation s budget (project es))
   pub tickets : AreTickets s budget es
-  pub settled : AllSettled es
   pub counted : AreCounted es
 
 -- the run has ended with an entry that says so
-pub closed_on : (s : Subject) (budget turns : ℕ) (es : List Entry) (waited : ℕ) (e : End) → MayClose s budget turns es waited e → IsClosed s budget turns (es ++ ending e ∷ []) waited e
-closed_on s budget turns es waited e h =
-    let same = project_end es e in
-    let count : fires (es ++ ending e ∷ []) ≡ fires es = fires_same es (ending e) refl in
+pub closed_on : (s : Subject) (budget turns : ℕ) (es : List Entry) (waited by : ℕ) (e : End) → MayClose s budget turns es waited e → IsClosed s budget turns (es ++ ending by e ∷ []) waited e
+closed_on s budget turns es waited by e h =
+    let same = project_end es by e in
+    let count : fires (es ++ ending by e ∷ []) ≡ fires es = fires_same es (ending by e) refl in
     record {
       before = es;
+      writer = by;
       last = refl;
       counted = h.counted;
       run = subst (IsRun s budget) (sym same) h.ended.run;
@@ -102,61 +110,76 @@ closed_on s budget turns es waited e h =
       planned = subst (λ (events : List Event). IsPlannedEnd s budget turns events waited e) (sym same) h.ended.planned;
       legal = λ started. subst (λ (events : List Event). IsLegal s (situation s budget events)) (sym same) (h.legal started);
       below = omega (arith, count, h.below);
-      within = within_same budget (fires es) (fires (es ++ ending e ∷ [])) (situation s budget (project es)) (situation s budget (project (es ++ ending e ∷ []))) count (ap (situation s budget) same) h.within;
-      tickets = still_tickets s budget es (ending e) refl h.settled h.tickets;
-      settled = still_settled es (ending e) refl h.settled;
+      within = within_same budget (fires es) (fires (es ++ ending by e ∷ [])) (situation s budget (project es)) (situation s budget (project (es ++ ending by e ∷ []))) count (ap (situation s budget) same) h.within;
+      tickets = ended_tickets s budget es h.tickets by e;
     }
 
 module _ (s : Subject) (budget turns : ℕ) (es : List Entry) (time : Time) (systems : List System) (w : IsGoing s budget turns es time systems) where
   -- an end of the events ends the run
-  pub ended_closes : (e : End) → HasEnded s budget turns (project es) time.waited e → IsClosed s budget turns (es ++ ending e ∷ []) time.waited e
-  ended_closes e h = closed_on s budget turns es time.waited e (record { ended = h; legal = λ started. w.under_way.legal; below = w.below; within = w.within; tickets = w.tickets; settled = w.settled; counted = w.counted })
+  pub ended_closes : (by : ℕ) (e : End) → HasEnded s budget turns (project es) time.waited e → IsClosed s budget turns (es ++ ending by e ∷ []) time.waited e
+  ended_closes by e h = closed_on s budget turns es time.waited by e (record { ended = h; legal = λ started. w.under_way.legal; below = w.below; within = w.within; tickets = w.tickets; counted = w.counted })
 
   -- a fault leaves the situation
   pub fault_stays : (m : Path) (n : ℕ) (kind : fault.Fault) → situation s budget (project es ++ Fault m n kind ∷ []) ≡ situation s budget (project es)
   fault_stays m n kind = situation-push s budget (project es) (Fault m n kind) w.under_way.run
 
-  -- so does a fault that applies, where no firing was taken
-  pub fault_closes : (m : Path) (n : ℕ) (kind : fault.Fault) → Applies s budget (situation s budget (project es)) (Fault m n kind)
-      → IsClosed s budget turns ((es ++ noted (Fault m n kind) ∷ []) ++ ending (Faulted kind) ∷ []) time.waited (Faulted kind)
-  fault_closes m n kind applies =
-      let e = noted (Fault m n kind) in
+  -- and a fault that applies, with tickets as they may be, ends the run
+  pub fault_closes : (by : ℕ) (m : Path) (n : ℕ) (kind : fault.Fault) → Applies s budget (situation s budget (project es)) (Fault m n kind) → AreTickets s budget (es ++ noted by (Fault m n kind) ∷ [])
+      → IsClosed s budget turns ((es ++ noted by (Fault m n kind) ∷ []) ++ ending by (Faulted kind) ∷ []) time.waited (Faulted kind)
+  fault_closes by m n kind applies tickets =
+      let e = noted by (Fault m n kind) in
       let is : project (es ++ e ∷ []) ≡ project es ++ Fault m n kind ∷ [] = project_push es e in
       let stays : situation s budget (project (es ++ e ∷ [])) ≡ situation s budget (project es) = ap (situation s budget) is ∙ fault_stays m n kind in
       let count : fires (es ++ e ∷ []) ≡ fires es = fires_same es e refl in
-      closed_on s budget turns (es ++ e ∷ []) time.waited (Faulted kind) (record {
+      closed_on s budget turns (es ++ e ∷ []) time.waited by (Faulted kind) (record {
         ended = subst (λ (events : List Event). HasEnded s budget turns events time.waited (Faulted kind)) (sym is) (faults_end s budget turns (project es) time systems w.under_way m n kind applies);
         legal = λ started. subst (IsLegal s) (sym stays) w.under_way.legal;
         below = omega (arith, count, w.below);
         within = within_same budget (fires es) (fires (es ++ e ∷ [])) (situation s budget (project es)) (situation s budget (project (es ++ e ∷ []))) count stays w.within;
-        tickets = still_tickets s budget es e refl w.settled w.tickets;
-        settled = still_settled es e refl w.settled;
-        counted = counted_event es (Fault m n kind) w.counted;
+        tickets = tickets;
+        counted = counted_event es by (Fault m n kind) w.counted;
       })
 
--- a guard faults where its system would select
-pub record HasFaultedNow {C : Type 0} (draw : Draw C) (s : Subject) (budget turns : ℕ) (es : List Entry) (time : Time) (m : Path) (n : ℕ) (kind : fault.Fault) : Type 0 where
-  pub closed : IsClosed s budget turns ((es ++ noted (Fault m n kind) ∷ []) ++ ending (Faulted kind) ∷ []) time.waited (Faulted kind)
-  pub stays : situation s budget (project ((es ++ noted (Fault m n kind) ∷ []) ++ ending (Faulted kind) ∷ [])) ≡ situation s budget (project es)
-  pub count : fires ((es ++ noted (Fault m n kind) ∷ []) ++ ending (Faulted kind) ∷ []) ≡ fires es
-  pub given : length (tickets ((es ++ noted (Fault m n kind) ∷ []) ++ ending (Faulted kind) ∷ [])) ≡ length (tickets es)
-  pub planned : (c : C) (moment : Option ℕ) → IsPlannedOn draw s budget turns es c time moment ((es ++ noted (Fault m n kind) ∷ []) ++ ending (Faulted kind) ∷ []) c time moment (stepped.Ended (Faulted kind))
+  -- the situation and the counts then
+  abbrev pub with_fault : ℕ → Path → ℕ → fault.Fault → List Entry
+  with_fault by m n kind = (es ++ noted by (Fault m n kind) ∷ []) ++ ending by (Faulted kind) ∷ []
 
-pub guard_faults_now : {C : Type 0} (draw : Draw C) (s : Subject) (budget turns : ℕ) (es : List Entry) (time : Time) (systems : List System) → IsGoing s budget turns es time systems → fires es < turns
-    → (at : ℕ) (x : System) → IsFirstDueAt systems at x → (m : Path) (n : ℕ) (kind : fault.Fault) → IsFirstFault s budget (situation s budget (project es)) x.path m n kind → HasFaultedNow draw s budget turns es time m n kind
-guard_faults_now draw s budget turns es time systems w below at x due m n kind first =
+  pub fault_events : (by : ℕ) (m : Path) (n : ℕ) (kind : fault.Fault) → project (with_fault by m n kind) ≡ project es ++ Fault m n kind ∷ []
+  fault_events by m n kind = project_end (es ++ noted by (Fault m n kind) ∷ []) by (Faulted kind) ∙ project_push es (noted by (Fault m n kind))
+
+  pub fault_situation : (by : ℕ) (m : Path) (n : ℕ) (kind : fault.Fault) → situation s budget (project (with_fault by m n kind)) ≡ situation s budget (project es)
+  fault_situation by m n kind = ap (situation s budget) (fault_events by m n kind) ∙ fault_stays m n kind
+
+pub fault_fires : (es : List Entry) (by : ℕ) (m : Path) (n : ℕ) (kind : fault.Fault) → fires ((es ++ noted by (Fault m n kind) ∷ []) ++ ending by (Faulted kind) ∷ []) ≡ fires es
+fault_fires es by m n kind = fires_same (es ++ noted by (Fault m n kind) ∷ []) (ending by (Faulted kind)) refl ∙ fires_same es (noted by (Fault m n kind)) refl
+
+pub fault_tickets : (es : List Entry) (by : ℕ) (m : Path) (n : ℕ) (kind : fault.Fault) → length (tickets ((es ++ noted by (Fault m n kind) ∷ []) ++ ending by (Faulted kind) ∷ [])) ≡ length (tickets es)
+fault_tickets es by m n kind = ap length (tickets_same (es ++ noted by (Fault m n kind) ∷ []) (ending by (Faulted kind)) refl ∙ tickets_same es (noted by (Fault m n kind)) refl)
+
+-- a guard faults where its system would select
+pub record HasFaultedNow {C : Type 0} (draw : Draw C) (s : Subject) (budget turns : ℕ) (es : List Entry) (time : Time) (by : ℕ) (m : Path) (n : ℕ) (kind : fault.Fault) : Type 0 where
+  pub closed : IsClosed s budget turns ((es ++ noted by (Fault m n kind) ∷ []) ++ ending by (Faulted kind) ∷ []) time.waited (Faulted kind)
+  pub left_open : open_in ((es ++ noted by (Fault m n kind) ∷ []) ++ ending by (Faulted kind) ∷ []) ≡ open_in es
+  pub stays : situation s budget (project ((es ++ noted by (Fault m n kind) ∷ []) ++ ending by (Faulted kind) ∷ [])) ≡ situation s budget (project es)
+  pub planned : (c : C) (moment : Option ℕ) → IsPlannedOn draw s budget turns es c time moment ((es ++ noted by (Fault m n kind) ∷ []) ++ ending by (Faulted kind) ∷ []) c time moment (stepped.Ended (Faulted kind))
+
+pub guard_faults_now : {C : Type 0} (draw : Draw C) (s : Subject) (leads : LeadsToStates s) (budget turns : ℕ) (es : List Entry) (time : Time) (systems : List System) → IsGoing s budget turns es time systems → fires es < turns
+    → (at : ℕ) (x : System) → IsFirstDueAt systems at x → (by : ℕ) (m : Path) (n : ℕ) (kind : fault.Fault) → IsFirstFault s budget (situation s budget (project es)) x.path m n kind → C → HasFaultedNow draw s budget turns es time by m n kind
+guard_faults_now draw s leads budget turns es time systems w below at x due by m n kind first chooser =
     let h = guard_faults_are_planned draw s budget (project es) time systems w.under_way at x due m n kind first in
-    let e = noted (Fault m n kind) in
+    let e = noted by (Fault m n kind) in
+    let g = situation s budget (project es) in
+    let its = h.planned (kept_of chooser time None) refl in
+    let none : SettlesNone (Fault m n kind) (open_in es) = guards_settle_none (open_in es) g its.system m n kind (open_are_pending s leads budget es w.under_way.run w.tickets) its.due.due.idle its.fault.inside in
     record {
-      closed = fault_closes s budget turns es time systems w m n kind h.applies;
-      stays = ap (situation s budget) (project_end (es ++ e ∷ []) (Faulted kind) ∙ project_push es e) ∙ fault_stays s budget turns es time systems w m n kind;
-      count = fires_same (es ++ e ∷ []) (ending (Faulted kind)) refl ∙ fires_same es e refl;
-      given = ap length (tickets_same (es ++ e ∷ []) (ending (Faulted kind)) refl ∙ tickets_same es e refl);
+      closed = fault_closes s budget turns es time systems w by m n kind h.applies (noted_tickets s budget es w.tickets by (Fault m n kind) none);
+      left_open = ended_open (es ++ e ∷ []) by (Faulted kind) ∙ noted_open es by (Fault m n kind) none;
+      stays = fault_situation s budget turns es time systems w by m n kind;
       planned = λ c moment known told. record {
         known = known;
         told = told;
         steps = subst (λ (events : List Event). StepsTo draw s budget turns (project es) (kept_of c time known) (stepped.Ended (Faulted kind)) events (kept_of c time known))
-            (sym (project_end (es ++ e ∷ []) (Faulted kind) ∙ project_push es e))
+            (sym (fault_events s budget turns es time systems w by m n kind))
             (a_guard_fault m n kind c below (h.planned (kept_of c time known) refl));
       };
     }

@@ -18,13 +18,14 @@ use Rattle.situation.specs.Steps.{GoesOn, MayWaitFor}
 use Rattle.situation.proofs.Planned.{leads_waited}
 use Rattle.situation.proofs.Steps.{may_answer, still_told}
 use Rattle.situation.proofs.Adding.{adds_on}
+use Rattle.situation.proofs.Ended.{none_pending}
 use Rattle.situation.proofs.Less.{less_waited, left_open}
 
 module _ {H : Type 0} where
   -- the clock is waited for
   pub may_wait : (c : Course H) (due : ℕ) → IsOpenCourse c → MayWaitFor due c → MayWait c.state.program.now c.state.budget (project c.history.entries) c.time due
   may_wait c due o may =
-      timers_are_waited_for c.state.program.now o.leads c.state.budget (project c.history.entries) c.time c.systems.items o.going.under_way may.idle.none_due (sym o.at.left ∙ may.idle.none) due (ap next_due (sym o.at.timers) ∙ may.due)
+      timers_are_waited_for c.state.program.now o.leads c.state.budget (project c.history.entries) c.time c.systems.items o.going.under_way may.idle.none_due (none_pending c o may.idle) due (ap next_due (sym o.at.timers) ∙ may.due)
 
   -- so some transition has a delay
   pub waits_delayed : (c : Course H) (due : ℕ) → IsOpenCourse c → MayWaitFor due c → c.delays ≡ true
@@ -45,13 +46,12 @@ module _ {H : Type 0} where
       let es = c.history.entries in
       let w = may_wait c due o may in
       let time : Time = record { known = moment; waited = length (project es); may_wait = false } in
-      let under_way = waits_go_on s o.leads b (project es) c.time c.systems.items o.going.under_way may.idle.none_due (sym o.at.left ∙ may.idle.none) due (ap next_due (sym o.at.timers) ∙ may.due) moment no_earlier in
+      let under_way = waits_go_on s o.leads b (project es) c.time c.systems.items o.going.under_way may.idle.none_due (none_pending c o may.idle) due (ap next_due (sym o.at.timers) ∙ may.due) moment no_earlier in
       let going : IsGoing s b t es time (map after_wait c.systems.items) = record {
         under_way = under_way;
         below = o.going.below;
         within = o.going.within;
         tickets = o.going.tickets;
-        settled = o.going.settled;
         counted = o.going.counted;
       } in
       let new = with_wait c n moment in
@@ -63,18 +63,21 @@ module _ {H : Type 0} where
           delays = o.delays;
           going = subst (IsGoing s b t es time) (sym systems_are) going;
           at = o.at;
+          flying = o.flying;
           taken = o.taken;
           fired = o.fired;
+          limit = o.limit;
         });
         goes_on = record {
           program = refl;
           limits = refl;
+          writer = refl;
           planned = λ known is_told. leads_waited draw s b t es c.chooser c.time known moment false may.idle.below w.waiting
               (subst (λ (until : ℕ). MayAnswer known until moment) (sym w.until) (may_answer known told (max due c.time.known) moment is_told no_earlier is))
               after (still_told known told after moment is_told moved);
         };
         leaves = less_waited (fires es) t c.systems.items n.systems.items (left_to_do new) (left_to_do c) systems_are (left_open new opened.unended) once;
-        adds = adds_on c.end es es did.Waited opened.unended refl;
+        adds = adds_on c.writer t c.end es es did.Waited opened.unended refl;
         waits = record { waiting = w.waiting; until = subst (λ (until : ℕ). until ≤ moment) (sym w.until) no_earlier; last = refl };
         ends = λ clocked. let wrong : None ≡ Some Clock = sym opened.unended ∙ clocked in absurd (cc);
       }

@@ -1,10 +1,10 @@
 -- What is kept of the history of a run.
-use Rattle.std.specs.Prelude.{◌≡◌, ◌⊎◌, ◌≤◌, ℕ, ◌+◌, ◌*◌, List, [], ◌∷◌, ◌++◌, length, Option, Some, None}
+use Rattle.std.specs.Prelude.{◌≡◌, ◌⊎◌, ◌≤◌, ℕ, ◌+◌, ◌*◌, nat_eq, if◌then◌else◌, List, [], ◌∷◌, ◌++◌, length, Option, Some, None}
 use Rattle.estelle_tree.specs.Paths.{Path}
 use Rattle.estelle_tree.specs.declared.transition.Pair.{Pair}
 use Rattle.estelle_model.specs.declared.event.Event.{Event}
 use Rattle.estelle_model.specs.declared.event.End.{End}
-use Rattle.estelle_model.specs.declared.event.End.TheVariants.{Faulted}
+use Rattle.estelle_model.specs.declared.event.End.TheVariants.{Turns, Faulted}
 use Rattle.estelle_model.specs.declared.job.Job.{Job}
 use Rattle.estelle_model.specs.Jobs.{IsJobIn}
 use Rattle.estelle_model.specs.Subject.{Subject}
@@ -14,13 +14,14 @@ use Rattle.estelle_model.specs.Runs.{IsRun, situation}
 use Rattle.estelle_model.specs.Ends.{Stops}
 use Rattle.estelle_model.specs.Choosers.{Draw}
 use Rattle.estelle_model.specs.Schedule.{Reaches, IsPlannedEnd, IsScheduled}
-use Rattle.estelle_model_legality.specs.Jobs.{IsJob}
 use Rattle.estelle_model_legality.specs.Keeping.{HasStarted}
 use Rattle.estelle_model_legality.specs.Situations.{IsLegal}
 use Rattle.run_history.specs.declared.entry.Entry.{Entry}
+use Rattle.run_history.specs.declared.entry.Taken.{Taken}
 use Rattle.run_history.specs.declared.entry.What.TheVariants as what
 use Rattle.run_history.specs.Histories.{project, fires}
-use Rattle.run_history.specs.Tickets.{tickets, AreTickets, IsOpen as IsOpenTicket}
+use Rattle.run_history.specs.Tickets.{tickets, AreTickets}
+use Rattle.run_history.specs.OpenTickets.{open_in}
 use Rattle.situation_units.specs.Counting.{births_at}
 use Rattle.situation_steps.specs.declared.systems.System.{System}
 use Rattle.situation_steps.specs.declared.systems.Time.{Time}
@@ -28,22 +29,31 @@ use Rattle.situation_steps.specs.UnderWay.{IsUnderWay}
 
 -- ---- entries
 
-abbrev pub noted : Event → Entry
-noted e = record { by = 0; what = what.Event e }
+-- an event, as this writer notes it
+abbrev pub noted : ℕ → Event → Entry
+noted by e = record { by = by; what = what.Event e }
 
--- the entry is the end of the run
-abbrev pub ending : End → Entry
-ending e = record { by = 0; what = what.Ended e }
+-- the end of the run
+abbrev pub ending : ℕ → End → Entry
+ending by e = record { by = by; what = what.Ended e }
 
 -- a pending firing is taken under a ticket
-abbrev pub take_of : ℕ → Pair → Entry
-take_of ticket p = record { by = 0; what = what.Take ticket p.path p.trans }
+abbrev pub take_of : ℕ → ℕ → Pair → Entry
+take_of by ticket p = record { by = by; what = what.Take ticket p.path p.trans }
+
+-- the ticket under which it is taken
+abbrev pub taken_as : ℕ → ℕ → Pair → Taken
+taken_as by ticket p = record { ticket = ticket; path = p.path; trans = p.trans; by = by }
+
+-- entries with the end behind them, where their firings have come to the limit
+abbrev pub ended_at : ℕ → ℕ → List Entry → List Entry
+ended_at by turns es = if nat_eq (fires es) turns then es ++ ending by Turns ∷ [] else es
+
+-- and that end, where there was none or this one
+abbrev pub end_at : ℕ → Option End → List Entry → Option End
+end_at turns ended es = if nat_eq (fires es) turns then Some Turns else ended
 
 -- ---- what is kept
-
--- no ticket is open
-abbrev pub AllSettled : List Entry → Type 0
-AllSettled es = (k n : ℕ) (m : Path) → IsOpenTicket es k m n → ⊥
 
 -- each entry is an event or a ticket
 abbrev pub AreCounted : List Entry → Type 0
@@ -61,9 +71,8 @@ pub record IsGoing (s : Subject) (budget turns : ℕ) (entries : List Entry) (ti
   -- there have been no more firings than the limit, and so many outputs and births at most
   pub below : fires entries ≤ turns
   pub within : IsWithin budget (fires entries) (situation s budget (project entries))
-  -- tickets are in order, and no firing is under way
+  -- tickets are in order
   pub tickets : AreTickets s budget entries
-  pub settled : AllSettled entries
   -- and the run has no end yet
   pub counted : AreCounted entries
 
@@ -71,7 +80,8 @@ pub record IsGoing (s : Subject) (budget turns : ℕ) (entries : List Entry) (ti
 pub record IsClosed (s : Subject) (budget turns : ℕ) (entries : List Entry) (waited : ℕ) (e : End) : Type 0 where
   -- this end is the last entry, and there is no other one
   pub before : List Entry
-  pub last : entries ≡ before ++ ending e ∷ []
+  pub writer : ℕ
+  pub last : entries ≡ before ++ ending writer e ∷ []
   pub counted : AreCounted before
   -- the events are a run that stops so, as is planned, and where the start ran they lead to a legal situation
   pub run : IsRun s budget (project entries)
@@ -81,14 +91,13 @@ pub record IsClosed (s : Subject) (budget turns : ℕ) (entries : List Entry) (w
   -- there have been no more firings than the limit, and so many outputs and births at most
   pub below : fires entries ≤ turns
   pub within : IsWithin budget (fires entries) (situation s budget (project entries))
-  -- tickets are in order, and none is open, also where a firing faulted
+  -- tickets are in order; what was taken before the end may still be open
   pub tickets : AreTickets s budget entries
-  pub settled : AllSettled entries
 
--- of so many firings each was taken under one of so many tickets, and so was the one that faulted, if one did
-abbrev pub AreAllTaken : End → ℕ → ℕ → Type 0
-AreAllTaken (Faulted kind) fired taken = (taken ≡ fired) ⊎ (taken ≡ fired + 1)
-AreAllTaken e fired taken = taken ≡ fired
+-- so many tickets are those of the firings that there were and of those that are under way, and of the one that faulted, if one did
+abbrev pub AreAllTaken : End → List Entry → ℕ → Type 0
+AreAllTaken (Faulted kind) es taken = (taken ≡ fires es + length (open_in es)) ⊎ (taken ≡ fires es + length (open_in es) + 1)
+AreAllTaken e es taken = taken ≡ fires es + length (open_in es)
 
 -- ---- the clock
 
@@ -113,10 +122,9 @@ pub record IsStopped {C : Type 0} (draw : Draw C) (chooser : C) (clock : Option 
 
 -- ---- what is computed
 
--- it is the job of a pending firing in a situation, and meets the condition of a job
+-- it is the job of a pending firing in a situation
 pub record IsJobFor (s : Subject) (g : Situation) (budget : ℕ) (p : Pair) (job : Job) : Type 0 where
   pub path : job.path ≡ p.path
   pub trans : job.trans ≡ p.trans
   pub units : job.budget ≡ budget
   pub in_it : IsJobIn s g job
-  pub meets : IsJob s job

@@ -1,5 +1,5 @@
 -- What a world keeps of a run.
-use Rattle.std.specs.Prelude.{◌≡◌, ◌≤◌, ◌<◌, ℕ, ◌+◌, ◌-◌, ◌*◌, ◌^◌, ◌++◌, ◌∷◌, Bool, if◌then◌else◌, List, [], length, count_by, Option, Some, None}
+use Rattle.std.specs.Prelude.{◌≡◌, ◌≤◌, ◌<◌, ℕ, ◌+◌, ◌-◌, ◌*◌, ◌^◌, ◌++◌, ◌∷◌, Bool, if◌then◌else◌, List, [], length, count_by, Option, Some, None, Contains}
 use Rattle.estelle_tree.specs.declared.transition.Pair.{Pair}
 use Rattle.estelle_tree.specs.Paths.{Path}
 use Rattle.pascal_values.specs.declared.fault.Fault.{Fault}
@@ -17,8 +17,10 @@ use Rattle.estelle_model.specs.Choosers.{Draw}
 use Rattle.estelle_model.specs.Schedule.{IsWaiting, wait_until}
 use Rattle.estelle_model_legality.specs.Instances.{LeadsToStates}
 use Rattle.run_history.specs.declared.entry.Entry.{Entry}
+use Rattle.run_history.specs.declared.entry.Taken.{Taken}
 use Rattle.run_history.specs.Histories.{project, fires}
 use Rattle.run_history.specs.Tickets.{tickets}
+use Rattle.run_history.specs.OpenTickets.{open_in, untaken}
 use Rattle.situation_state.specs.At.{IsAt}
 use Rattle.situation_steps.specs.declared.systems.System.{System}
 use Rattle.situation_steps.specs.declared.systems.Time.{Time}
@@ -27,7 +29,7 @@ use Rattle.situation.specs.declared.limits.Stepped.{Stepped}
 use Rattle.situation.specs.declared.limits.Stepped.TheVariants as stepped
 use Rattle.situation.specs.declared.course.Course.{Course}
 use Rattle.situation.specs.Planned.{IsPlannedOn}
-use Rattle.situation.specs.Runs.{noted, ending, take_of, IsGoing, IsClosed, AreAllTaken, AreReached}
+use Rattle.situation.specs.Runs.{noted, ending, take_of, ended_at, IsGoing, IsClosed, AreAllTaken, AreReached}
 
 -- how many steps there can be before a run ends: between two waits for the clock something fires, and between two firings each system selects at most once, and once more after a wait
 abbrev pub work : ℕ → ℕ → List System → Bool → Option End → ℕ
@@ -36,22 +38,22 @@ work turns count systems may_wait None =
 work turns count systems may_wait (Some e) = 0
 
 -- what an end adds to the history: itself, behind the fault of a guard where that is the end
-abbrev pub AddsEnd : List Entry → List Entry → End → Type 0
-AddsEnd before after (Faulted kind) = (path : Path) × (trans : ℕ) × (after ≡ (before ++ noted (event.Fault path trans kind) ∷ []) ++ ending (Faulted kind) ∷ [])
-AddsEnd before after e = after ≡ before ++ ending e ∷ []
+abbrev pub AddsEnd : ℕ → List Entry → List Entry → End → Type 0
+AddsEnd by before after (Faulted kind) = (path : Path) × (trans : ℕ) × (after ≡ (before ++ noted by (event.Fault path trans kind) ∷ []) ++ ending by (Faulted kind) ∷ [])
+AddsEnd by before after e = after ≡ before ++ ending by e ∷ []
 
--- what a step adds while the run goes on: the selection, or the firing or its fault behind a ticket, where a fault is the end too, or the end
-abbrev pub AddsMore : List Entry → List Entry → Stepped → Type 0
-AddsMore before after stepped.Selected = (system : Path) × (moment : ℕ) × (takes : List Pair) × (after ≡ before ++ noted (event.Select system moment takes) ∷ [])
-AddsMore before after stepped.Waited = after ≡ before
-AddsMore before after stepped.Fired = (ticket : ℕ) × (p : Pair) × (outs : List Out) × (drops : List ℕ) × (after ≡ (before ++ take_of ticket p ∷ []) ++ noted (event.Fire p.path p.trans outs drops) ∷ [])
-AddsMore before after stepped.Faulted = (ticket : ℕ) × (p : Pair) × (kind : Fault) × (after ≡ ((before ++ take_of ticket p ∷ []) ++ noted (event.Fault p.path p.trans kind) ∷ []) ++ ending (Faulted kind) ∷ [])
-AddsMore before after (stepped.Ended e) = AddsEnd before after e
+-- what a step adds while the run goes on: the selection, or the firing or its fault behind a ticket, with the end where that is one, or the end
+abbrev pub AddsMore : ℕ → ℕ → List Entry → List Entry → Stepped → Type 0
+AddsMore by turns before after stepped.Selected = (system : Path) × (moment : ℕ) × (takes : List Pair) × (after ≡ before ++ noted by (event.Select system moment takes) ∷ [])
+AddsMore by turns before after stepped.Waited = after ≡ before
+AddsMore by turns before after stepped.Fired = (ticket : ℕ) × (p : Pair) × (outs : List Out) × (drops : List ℕ) × (after ≡ ended_at by turns ((before ++ take_of by ticket p ∷ []) ++ noted by (event.Fire p.path p.trans outs drops) ∷ []))
+AddsMore by turns before after stepped.Faulted = (ticket : ℕ) × (p : Pair) × (kind : Fault) × (after ≡ ((before ++ take_of by ticket p ∷ []) ++ noted by (event.Fault p.path p.trans kind) ∷ []) ++ ending by (Faulted kind) ∷ [])
+AddsMore by turns before after (stepped.Ended e) = AddsEnd by before after e
 
 -- what a step adds: where the run has ended, it tells that end, and adds nothing
-abbrev pub Adds : Option End → List Entry → List Entry → Stepped → Type 0
-Adds None before after did = AddsMore before after did
-Adds (Some e) before after did = (did ≡ stepped.Ended e) × (after ≡ before)
+abbrev pub Adds : ℕ → ℕ → Option End → List Entry → List Entry → Stepped → Type 0
+Adds by turns None before after did = AddsMore by turns before after did
+Adds by turns (Some e) before after did = (did ≡ stepped.Ended e) × (after ≡ before)
 
 -- the clock was waited for where nothing else was left to do, until the first moment that is due, and no event came after it
 pub record HasWaited (s : Subject) (budget : ℕ) (events : List Event) (before after : Time) : Type 0 where
@@ -66,8 +68,8 @@ Waits s budget entries before after _ = after.waited ≡ before.waited
 
 -- no more has happened than the start: its event is the only entry, or its fault, which is the end
 abbrev pub HasOnlyStarted : Firing → List Entry → Option End → Type 0
-HasOnlyStarted (Ran g outs drops left) entries ended = (entries ≡ noted (event.Start outs drops) ∷ []) × (ended ≡ None)
-HasOnlyStarted (Failed kind left) entries ended = (entries ≡ noted (event.Fault [] 0 kind) ∷ ending (Faulted kind) ∷ []) × (ended ≡ Some (Faulted kind))
+HasOnlyStarted (Ran g outs drops left) entries ended = (entries ≡ noted 0 (event.Start outs drops) ∷ []) × (ended ≡ None)
+HasOnlyStarted (Failed kind left) entries ended = (entries ≡ noted 0 (event.Fault [] 0 kind) ∷ ending 0 (Faulted kind) ∷ []) × (ended ≡ Some (Faulted kind))
 HasOnlyStarted Undefined entries ended = ⊥
 
 module _ {H : Type 0} where
@@ -81,6 +83,10 @@ module _ {H : Type 0} where
   abbrev pub now : Course H → Situation
   now c = situation c.state.program.now c.state.budget (project c.history.entries)
 
+  -- what is pending in it and was not taken
+  abbrev pub left_in : Course H → List Pair
+  left_in c = untaken (open_in c.history.entries) (now c).pending
+
   -- what is kept of a run that goes on
   pub record IsOpenCourse (c : Course H) : Type 0 where
     -- bodies lead to states of their own, and no count comes to its end
@@ -88,10 +94,14 @@ module _ {H : Type 0} where
     pub room : c.state.budget * (c.turns + 1) < 2 ^ 63
     pub delays : c.delays ≡ has_delays c.state.program.now
     pub going : IsGoing c.state.program.now c.state.budget c.turns c.history.entries c.time c.systems.items
-    pub at : IsAt (now c) (now c).pending c.state
-    -- so many firings were taken, and there have been as many
+    -- what is left of the pending firings is what nobody has taken, and the others are under way
+    pub at : IsAt (now c) (left_in c) c.state
+    pub flying : c.flying.items ≡ open_in c.history.entries
+    -- so many firings were taken: those that there were, and those that are under way
     pub taken : length (tickets c.history.entries) ≡ c.tickets
-    pub fired : fires c.history.entries ≡ c.tickets
+    pub fired : c.tickets ≡ fires c.history.entries + length (open_in c.history.entries)
+    -- while one is under way the limit of firings is not reached
+    pub limit : (o : Taken) → Contains (open_in c.history.entries) o → fires c.history.entries < c.turns
 
   -- what is kept of one that has ended so
   pub record IsEndedCourse (c : Course H) (e : End) : Type 0 where
@@ -99,10 +109,11 @@ module _ {H : Type 0} where
     pub room : c.state.budget * (c.turns + 1) < 2 ^ 63
     pub delays : c.delays ≡ has_delays c.state.program.now
     pub closed : IsClosed c.state.program.now c.state.budget c.turns c.history.entries c.time.waited e
-    -- a fault leaves all as it was, so that the firing that faulted is pending
-    pub at : IsAt (now c) (now c).pending c.state
+    -- the stores stand for the situation; what is left of its pending firings says nothing any more
+    pub left : List Pair
+    pub at : IsAt (now c) left c.state
     pub taken : length (tickets c.history.entries) ≡ c.tickets
-    pub fired : AreAllTaken e (fires c.history.entries) c.tickets
+    pub fired : AreAllTaken e c.history.entries c.tickets
 
   abbrev pub IsKept : Course H → Option End → Type 0
   IsKept c None = IsOpenCourse c
@@ -127,6 +138,7 @@ module _ {H : Type 0} where
   pub record HasGoneOn (draw : Draw H) (moment moment' : Option ℕ) (before after : Course H) (did : Stepped) : Type 0 where
     pub program : after.state.program ≡ before.state.program
     pub limits : limits_of after ≡ limits_of before
+    pub writer : after.writer ≡ before.writer
     pub planned : IsPlannedOn draw before.state.program.now before.state.budget before.turns before.history.entries before.chooser before.time moment after.history.entries after.chooser after.time moment' did
 
   abbrev pub left_to_do : Course H → ℕ
@@ -142,7 +154,7 @@ module _ {H : Type 0} where
     pub keeps : IsCourse after
     pub goes_on : HasGoneOn draw moment moment' before after did
     pub leaves : Leaves before after did
-    pub adds : Adds before.end before.history.entries after.history.entries did
+    pub adds : Adds before.writer before.turns before.end before.history.entries after.history.entries did
     pub waits : Waits before.state.program.now before.state.budget before.history.entries before.time after.time did
     -- it has ended by the clock only if it says so
     pub ends : after.end ≡ Some Clock → did ≡ stepped.Ended Clock
@@ -152,6 +164,7 @@ module _ {H : Type 0} where
     pub keeps : IsCourse after
     pub program : after.state.program ≡ before.state.program
     pub limits : limits_of after ≡ limits_of before
+    pub writer : after.writer ≡ before.writer
     pub entries : entries_of after ≡ entries_of before
     pub time : after.time ≡ before.time
     pub systems : after.systems.items ≡ before.systems.items

@@ -6,7 +6,7 @@ ghost use Rattle.estelle_model_legality.specs.Instances.{LeadsToStates};
 ghost use Rattle.situation.specs.Runs.{noted};
 ghost use Rattle.situation.specs.Steps.{IsFresh, IsBegun};
 
-use crate::course::{Course, event};
+use crate::course::Course;
 use crate::delays::has_delays;
 use crate::limits::Limits;
 use crate::systems::all_systems;
@@ -19,6 +19,7 @@ use run_history::History;
 use situation_state::{State, fault_in};
 use situation_steps::Time;
 use std::alloc::{AllocError, Global};
+use std::collections::VecDeque;
 
 impl<H: Chooser + Drop> Course<'_, H> {
     ghost use Rattle.estelle_model.specs.Firing.{bare};
@@ -29,13 +30,13 @@ impl<H: Chooser + Drop> Course<'_, H> {
     /// Notes the start that was put.
     fn note_start(&mut self, alloc: Global)
         requires { 1 ≤ self.old.history.spare }
-        ensures noted { self.new.history.entries ≡ self.old.history.entries ++ noted (events.Start self.old.state.notes.outs.items self.old.state.notes.drops.items) ∷ [] }
+        ensures noted { self.new.history.entries ≡ self.old.history.entries ++ noted self.old.writer (events.Start self.old.state.notes.outs.items self.old.state.notes.drops.items) ∷ [] }
         ensures empty { NothingNoted self.new.state.notes }
         ensures told { self.new.state ≡ record self.old.state { notes = self.new.state.notes } }
         ensures rest { self.new ≡ record self.old { history = self.new.history; state = self.new.state } }
     {
         let (outs, drops) = self.state.take_told(alloc);
-        self.history.add(event(Event::Start { outs, drops }));
+        self.note(Event::Start { outs, drops });
     }
 
     /// Puts what the initialization did.
@@ -93,6 +94,8 @@ fn fresh<'a, H: Chooser + Drop>(
         },
         history: History::none(alloc),
         tickets: 0,
+        flying: VecDeque::new(alloc),
+        writer: 0,
         end: None,
         chooser,
     })

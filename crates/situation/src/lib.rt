@@ -9,17 +9,21 @@
 //! through, once for each instance. A firing copies the private part of its instance.
 #![tactic(auto)]
 
+mod advancing;
 mod begin;
+mod committing;
 mod course;
 mod delays;
 mod executor;
 mod laws;
 mod limits;
 mod putting;
+mod stepping;
 mod systems;
+mod tickets;
 mod world;
 
 pub use executor::execute;
 pub use laws::planned_steps_reach;
-pub use limits::{Limits, Stepped};
+pub use limits::{Advanced, Committed, Limits, Stepped};
 pub use world::World;

@@ -108,8 +108,9 @@ fn run_of<H: Chooser + Drop>(alloc: Global, text: &[u8], chooser: H) -> Option<(
         turns: 10_000,
         budget: 5,
     };
-    let mut clock = VirtualClock { moment: 0 };
-    execute(alloc, &checked, limits, &mut clock, chooser).ok()
+    let clock = VirtualClock { moment: 0 };
+    let (ran, _) = execute(alloc, &checked, limits, clock, chooser);
+    ran.ok()
 }
 
 fn firings(events: &[Event]) -> usize {

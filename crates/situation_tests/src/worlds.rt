@@ -1,5 +1,8 @@
 //! Worlds of two cells: what their steps do, what they tell at their end, and the clock that they give back.
 
+ghost use Rattle.std.specs.Prelude.{◌≡◌, [], IfSome};
+ghost use Rattle.run_history.specs.OpenTickets.{open_in};
+
 use crate::firings::is_trace;
 use accepted_program::AcceptedProgram;
 use compiled_program::CompiledProgram;
@@ -13,25 +16,29 @@ use std::process::Abort;
 use test_texts::{WORKED, accepted};
 
 /// The clock that each world is given. No transition has a delay, so nobody asks it.
-const CLOCK: VirtualClock = VirtualClock { moment: 7 };
+pub(crate) const CLOCK: VirtualClock = VirtualClock { moment: 7 };
 
-/// How many firings a world may have; what its steps do, the last one behind its end; how often it fires, and its trace.
-type Row = (u32, &'static [Stepped], u64, &'static str);
+/// How many firings a world may have; what its steps do, the last one behind its end, and the end behind each; how often it fires, and
+/// its trace.
+type Row = (u32, &'static [(Stepped, Option<End>)], u64, &'static str);
 
 const ROWS: [Row; 3] = [
     (
         0,
-        &[Stepped::Ended(End::Turns), Stepped::Ended(End::Turns)],
+        &[
+            (Stepped::Ended(End::Turns), Some(End::Turns)),
+            (Stepped::Ended(End::Turns), Some(End::Turns)),
+        ],
         0,
         "estelle trace 1\nstart\nend turns\n",
     ),
     (
         1,
         &[
-            Stepped::Selected,
-            Stepped::Fired,
-            Stepped::Ended(End::Turns),
-            Stepped::Ended(End::Turns),
+            (Stepped::Selected, None),
+            (Stepped::Fired, Some(End::Turns)),
+            (Stepped::Ended(End::Turns), Some(End::Turns)),
+            (Stepped::Ended(End::Turns), Some(End::Turns)),
         ],
         1,
         "estelle trace 1\nstart\nselect / now 0 takes /1:1 /2:1\nfire /1 1\nend turns\n",
@@ -39,12 +46,12 @@ const ROWS: [Row; 3] = [
     (
         10_000,
         &[
-            Stepped::Selected,
-            Stepped::Fired,
-            Stepped::Fired,
-            Stepped::Selected,
-            Stepped::Ended(End::Dead),
-            Stepped::Ended(End::Dead),
+            (Stepped::Selected, None),
+            (Stepped::Fired, None),
+            (Stepped::Fired, None),
+            (Stepped::Selected, None),
+            (Stepped::Ended(End::Dead), Some(End::Dead)),
+            (Stepped::Ended(End::Dead), Some(End::Dead)),
         ],
         2,
         "estelle trace 1\nstart\nselect / now 0 takes /1:1 /2:1\nfire /1 1\nfire /2 1\nselect / now 0 takes -\nend deadlock\n",
@@ -55,29 +62,26 @@ fn begun<'a>(
     alloc: Global,
     program: &'a CompiledProgram<'a>,
     turns: u32,
-) -> Option<World<'a, VirtualClock, FirstChooser>> {
+) -> Option<World<'a, VirtualClock, FirstChooser>>
+    ensures { IfSome result (λ world. open_in world.history.entries ≡ []) }
+{
     let limits = Limits { turns, budget: 100 };
     World::begin(alloc, program, limits, CLOCK, FirstChooser).ok()
 }
 
-/// The end that a step tells.
-fn end_of(stepped: Stepped) -> Option<End> {
-    match stepped {
-        Stepped::Ended(end) => Some(end),
-        _ => None,
-    }
-}
-
-/// Whether the next steps do this, and there is an end exactly behind those that tell one.
+/// Whether the next steps do this, each with this end behind it.
 fn goes(
     alloc: Global,
     world: &mut World<'_, VirtualClock, FirstChooser>,
-    steps: &[Stepped],
-) -> bool {
-    for wanted in steps {
+    steps: &[(Stepped, Option<End>)],
+) -> bool
+    requires { open_in world.old.history.entries ≡ [] }
+    ensures { open_in world.new.history.entries ≡ [] }
+{
+    for (wanted, end) in steps {
         match world.step(alloc) {
             Ok(did) => {
-                if did != *wanted || world.end() != end_of(did) {
+                if did != *wanted || world.end() != *end {
                     return false;
                 }
             }
@@ -95,7 +99,7 @@ fn is_told(alloc: Global, history: &History, end: End, trace: &str) -> bool {
 }
 
 /// Whether a world has ended with so many firings and this trace, and its clock is as it was given.
-fn is_finished(
+pub(crate) fn is_finished(
     alloc: Global,
     world: World<'_, VirtualClock, FirstChooser>,
     fires: u64,
@@ -123,7 +127,7 @@ fn is_run(alloc: Global, program: &CompiledProgram, row: &Row) -> bool {
 fn is_given_up(alloc: Global, program: &CompiledProgram) -> bool {
     match begun(alloc, program, 10_000) {
         Some(mut world) => {
-            goes(alloc, &mut world, &[Stepped::Selected]) && world.give_up() == CLOCK
+            goes(alloc, &mut world, &[(Stepped::Selected, None)]) && world.give_up() == CLOCK
         }
         None => false,
     }

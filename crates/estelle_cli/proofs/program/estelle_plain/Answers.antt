@@ -10,39 +10,39 @@ use Rattle.estelle_cli.proofs.Causes.{at_task, of_task, output_refused, refused_
 use Rattle.estelle_cli.proofs.Ranges.{in_range}
 use Rattle.estelle_cli.proofs.program.estelle_plain.Goals as goal
 
-pub perform-requires : goal.perform-requires
-perform-requires g c = in_range (texts c.args.words.now) _ (rw c.in-Ok-Some.field-0-is at c.in-Ok-Some.ensures)
+pub perform-outcome-requires : goal.perform-outcome-requires
+perform-outcome-requires g c = in_range (texts c.args.words.now) _ (rw c.in-Ok-Some.field-0-is at c.in-Ok-Some.ensures)
 
 pub returns-in-Done-clause-refuses : goal.returns-in-Done-clause-refuses
 returns-in-Done-clause-refuses g c = λ refusal input asked left.
     let refuses = of_task _ _ (λ task. ReadsInput task × IsRefusable (contents_of task) refusal input) (rw c.in-Ok-Some.field-0-is at c.in-Ok-Some.ensures) asked in
-    absurd (output_refused one_tree _ _ _ _ _ c.in-Done.ensures.explains.0.output refusal input left refuses)
+    absurd (output_refused one_tree _ _ _ _ _ (rw c.in-Done.is at c.perform-outcome.ensures.explains).0.output refusal input left refuses)
 
 pub returns-in-PascalFault-clause-refuses : goal.returns-in-PascalFault-clause-refuses
 returns-in-PascalFault-clause-refuses g c = λ refusal input asked left.
     let refuses = of_task _ _ (λ task. ReadsInput task × IsRefusable (contents_of task) refusal input) (rw c.in-Ok-Some.field-0-is at c.in-Ok-Some.ensures) asked in
-    absurd (output_refused one_tree _ _ _ _ _ c.in-PascalFault.ensures.explains.0.output refusal input left refuses)
+    absurd (output_refused one_tree _ _ _ _ _ (rw c.in-PascalFault.is at c.perform-outcome.ensures.explains).0.output refusal input left refuses)
 
 pub returns-in-ClockFault-clause-refuses : goal.returns-in-ClockFault-clause-refuses
 returns-in-ClockFault-clause-refuses g c = λ refusal input asked left.
     let refuses = of_task _ _ (λ task. ReadsInput task × IsRefusable (contents_of task) refusal input) (rw c.in-Ok-Some.field-0-is at c.in-Ok-Some.ensures) asked in
-    absurd (output_refused one_tree _ _ _ _ _ c.in-ClockFault.ensures.explains.0.output refusal input left refuses)
+    absurd (output_refused one_tree _ _ _ _ _ (rw c.in-ClockFault.is at c.perform-outcome.ensures.explains).0.output refusal input left refuses)
 
 pub returns-in-WriteFault-clause-refuses : goal.returns-in-WriteFault-clause-refuses
 returns-in-WriteFault-clause-refuses g c = λ refusal input asked left.
     let refuses = of_task _ _ (λ task. ReadsInput task × IsRefusable (contents_of task) refusal input) (rw c.in-Ok-Some.field-0-is at c.in-Ok-Some.ensures) asked in
-    absurd (output_refused one_tree _ _ _ _ _ c.in-WriteFault.ensures.explains.1.output refusal input left refuses)
+    absurd (output_refused one_tree _ _ _ _ _ (rw c.in-WriteFault.is at c.perform-outcome.ensures.explains).1.output refusal input left refuses)
 
 pub returns-in-Refused-clause-complete : goal.returns-in-Refused-clause-complete
 returns-in-Refused-clause-complete g c = λ input asked left _ _ _.
     let right = of_task _ _ (λ task. ReadsInput task × IsInput (contents_of task) input) (rw c.in-Ok-Some.field-0-is at c.in-Ok-Some.ensures) asked in
-    absurd (refused_input one_tree _ _ c.in-Refused.field-0 input c.in-Refused.ensures.explains.0 left right.1)
+    absurd (refused_input one_tree _ _ c.in-Refused.field-0 input (rw c.in-Refused.is at c.perform-outcome.ensures.explains).0 left right.1)
 
 pub returns-in-Refused-clause-refused : goal.returns-in-Refused-clause-refused
 returns-in-Refused-clause-refused g c = λ _.
-    let words : c.items.result.now ≡ refusal_line c.in-Refused.field-0 = c.items.ensures ∙ c.in-Refused.ensures.explains.1 in (
+    let words : c.items.result.now ≡ refusal_line c.in-Refused.field-0 = c.items.ensures ∙ (rw c.in-Refused.is at c.perform-outcome.ensures.explains).1 in (
       c.in-Refused.field-0,
-      at_task _ _ _ (rw c.in-Ok-Some.field-0-is at c.in-Ok-Some.ensures) c.in-Refused.ensures.explains.0,
+      at_task _ _ _ (rw c.in-Ok-Some.field-0-is at c.in-Ok-Some.ensures) (rw c.in-Refused.is at c.perform-outcome.ensures.explains).0,
       subst (λ (line : List ℕ). Reports (g.E.Sink.held c.args.err.now) (g.E.Sink.held c.report-in-Refused.new.err) (g.E.Sink.faults c.args.err.now) (g.E.Sink.faults c.report-in-Refused.new.err) line) words c.report-in-Refused.ensures,
     )
 
@@ -62,4 +62,4 @@ returns-in-Err-clause-stops g c =
 pub returns-in-PascalFault-clause-pascal_fault : goal.returns-in-PascalFault-clause-pascal_fault
 returns-in-PascalFault-clause-pascal_fault g c = λ _.
     let line = c.fault_line.ensures in
-    (c.in-PascalFault.kind, at_task _ _ _ (rw c.in-Ok-Some.field-0-is at c.in-Ok-Some.ensures) c.in-PascalFault.ensures.explains.0, rw line at c.report-in-PascalFault.ensures)
+    (c.in-PascalFault.kind, at_task _ _ _ (rw c.in-Ok-Some.field-0-is at c.in-Ok-Some.ensures) (rw c.in-PascalFault.is at c.perform-outcome.ensures.explains).0, rw line at c.report-in-PascalFault.ensures)

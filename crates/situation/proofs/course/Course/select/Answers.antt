@@ -1,9 +1,8 @@
 use Rattle.std.proofs.Common.{◌≡◌, true, sym, subst, inl, rules}
 use Rattle.outside.specs.Counts.{Rose}
 use Rattle.estelle_model.specs.declared.event.End.TheVariants.{Clock}
-use Rattle.situation.specs.declared.limits.Stepped.TheVariants as did
-use Rattle.situation.specs.Worlds.{HasStepped}
-use Rattle.situation.specs.Steps.{MayBeNow}
+use Rattle.situation.specs.declared.limits.Advanced.TheVariants as did
+use Rattle.situation.specs.Steps.{HasAdvanced, MayBeNow}
 use Rattle.situation_state.proofs.At.{on_err}
 use Rattle.situation.proofs.Ended.{clock_step}
 use Rattle.situation.proofs.Answering.{stepped_at, no_cause}
@@ -28,9 +27,9 @@ returns-in-Err-clause-stepped g c =
     let told = g.C.Clock.moment c.args.clock.now in
     let after = g.C.Clock.moment c.moment.new.clock in
     let asked : old.delays ≡ true = search rules in
-    subst (λ m. HasStepped g.H.Chooser.draw told m old c.ended.new.self c.ended.result) (sym c.moment.ensures.told)
-    (subst (HasStepped g.H.Chooser.draw told told old c.ended.new.self) (sym c.ended.ensures.says)
-    (subst (λ x. HasStepped g.H.Chooser.draw told told old x (did.Ended Clock)) (sym c.ended.ensures.rest)
+    subst (λ m. HasAdvanced g.H.Chooser.draw told m old c.ended.new.self c.ended.result) (sym c.moment.ensures.told)
+    (subst (HasAdvanced g.H.Chooser.draw told told old c.ended.new.self) (sym c.ended.ensures.says)
+    (subst (λ x. HasAdvanced g.H.Chooser.draw told told old x (did.Ended Clock)) (sym c.ended.ensures.rest)
     (clock_step g.H.Chooser.draw told old c.ended.new.self c.args.at 2 c.requires.open c.requires.due asked c.ended.ensures.noted)))
 
 pub returns-in-Err-clause-cause : goal.returns-in-Err-clause-cause

@@ -7,10 +7,11 @@ use Rattle.delay_timers.specs.Moments.{AreDifferent}
 use Rattle.situation_offers.specs.declared.selection.SelectFault.{SelectFault}
 use Rattle.situation_offers.specs.Selections.{IsSelection, IsRefusal, LeavesChooser}
 use Rattle.situation_steps.specs.declared.systems.System.{System}
-use Rattle.situation.specs.declared.limits.Stepped.TheVariants as did
-use Rattle.situation.specs.Worlds.{HasStepped, now}
+use Rattle.situation.specs.declared.limits.Advanced.TheVariants as did
+use Rattle.situation.specs.Worlds.{now, left_in}
+use Rattle.situation.specs.Steps.{HasAdvanced}
 use Rattle.situation.proofs.Listed.{system_here}
-use Rattle.situation.proofs.Computed.{unchanged}
+use Rattle.situation.proofs.Kept.{unchanged}
 use Rattle.situation.proofs.Selected.{unchanged_before}
 use Rattle.situation.proofs.course.Course.select_at.Goals as goal
 
@@ -22,7 +23,7 @@ put_selected-requires-clause-different g c =
     let there = c.requires.due.first.1.there in
     let is : c.index.result.now ≡ x = c.index.ensures ∙ get_or_from_slice_get old.systems.items c.args.at x _ there in
     let system = subst (λ (y : System). IsSystem old.state.program.now (now old) y.path) (sym is) (system_here old.state.program.now (now old) old.systems.items o.going.under_way.all c.args.at x there) in
-    subst AreDifferent (sym c.deref.ensures.value) (c.in-Ok.ensures.selected (now old) (now old).pending o.at o.going.under_way.legal system).different
+    subst AreDifferent (sym c.deref.ensures.value) (c.in-Ok.ensures.selected (now old) (left_in old) o.at o.going.under_way.legal system).different
 
 pub returns-in-Ok-clause-stepped : goal.returns-in-Ok-clause-stepped
 returns-in-Ok-clause-stepped g c =
@@ -37,7 +38,7 @@ returns-in-Ok-clause-stepped g c =
     (λ x there.
     let is : c.index.result.now ≡ x = c.index.ensures ∙ get_or_from_slice_get old.systems.items c.args.at x _ there in
     let system = subst (λ (y : System). IsSystem s (now old) y.path) (sym is) (system_here s (now old) old.systems.items o.going.under_way.all c.args.at x there) in
-    let it = c.in-Ok.ensures.selected (now old) (now old).pending o.at o.going.under_way.legal system in
+    let it = c.in-Ok.ensures.selected (now old) (left_in old) o.at o.going.under_way.legal system in
     subst (λ ws. IsSelection draw s b (now old) x.path c.args.now old.chooser after c.in-Ok.field-0.takes.items ws) (sym c.deref.ensures.value)
     (subst (λ (y : System). IsSelection draw s b (now old) y.path c.args.now old.chooser after c.in-Ok.field-0.takes.items c.in-Ok.field-0.wanted.items) is it)))
     c.put_selected.ensures.stepped
@@ -54,7 +55,7 @@ fault-requires-clause-first g c x there =
     let b = old.state.budget in
     let is : c.index.result.now ≡ x = c.index.ensures ∙ get_or_from_slice_get old.systems.items c.args.at x _ there in
     let system = subst (λ (y : System). IsSystem s (now old) y.path) (sym is) (system_here s (now old) old.systems.items o.going.under_way.all c.args.at x there) in
-    let first = c.in-Err-Guard.ensures.faults (now old) (now old).pending o.at o.going.under_way.legal system in
+    let first = c.in-Err-Guard.ensures.faults (now old) (left_in old) o.at o.going.under_way.legal system in
     rw c.in-Err-Guard.field-0-is (subst (λ (e : SelectFault). IsRefusal s b (now old) x.path e) c.in-Err-Guard.field-0-is
     (subst (λ (y : System). IsRefusal s b (now old) y.path c.in-Err-Guard.field-0) is first))
 
@@ -62,7 +63,7 @@ pub returns-in-Err-Guard-clause-stepped : goal.returns-in-Err-Guard-clause-stepp
 returns-in-Err-Guard-clause-stepped g c moment may =
     let old = c.args.self.now in
     let same = subst (λ (e : SelectFault). LeavesChooser old.chooser c.choose.new.chooser e) c.in-Err-Guard.field-0-is c.in-Err-Guard.ensures.leaves in
-    subst (λ h. HasStepped g.H.Chooser.draw moment moment (record old { chooser = h }) c.fault.new.self c.fault.result) same (c.fault.ensures.stepped moment)
+    subst (λ h. HasAdvanced g.H.Chooser.draw moment moment (record old { chooser = h }) c.fault.new.self c.fault.result) same (c.fault.ensures.stepped moment)
 
 pub returns-in-Err-Guard-clause-unclocked : goal.returns-in-Err-Guard-clause-unclocked
 returns-in-Err-Guard-clause-unclocked g c is =

@@ -1,22 +1,33 @@
-use Rattle.std.proofs.Common.{◌≡◌, Some, sym, ap, ◌∙◌, arith}
-use Rattle.estelle_tree.specs.Timers.{pair}
+use Rattle.std.proofs.Common.{◌≡◌, [], ◌∷◌, ◌++◌, Some, sym, ap, subst, ◌∙◌, arith}
+use Rattle.std.specs.Prelude.{map as each}
+use Rattle.estelle_tree.specs.Paths.{Path}
+use Rattle.estelle_model.specs.declared.event.Event.TheVariants.{Fire, Fault}
+use Rattle.estelle_model.specs.declared.event.End.TheVariants.{Faulted}
+use Rattle.situation_steps.specs.Systems.{after_firing}
 use Rattle.situation_state.proofs.Ran.{ran_if}
 use Rattle.situation.specs.declared.course.Course.{Course}
-use Rattle.situation.proofs.Settled.{may_put, settled_fired, settled_failed, put_and_noted}
+use Rattle.situation.specs.Runs.{noted, ending}
 use Rattle.situation.specs.Worlds.{now}
+use Rattle.situation.proofs.Settled.{settled_fired, settled_failed, put_and_noted, its_own}
 use Rattle.situation.proofs.course.Course.settle.Goals as goal
 
 pub put-requires : goal.put-requires
-put-requires g c =
-    let old = c.args.self.now in
-    may_put old c.args.at c.args.done (c.requires.may.may (ran_if c.args.done.outcome (sym c.in-None.ensures))) c.take-path.new.self c.take-path.ensures.rest (λ ps h. c.take-path.ensures.at (now old) ps h)
+put-requires g c = c.requires.may.may (ran_if c.args.done.outcome (sym c.in-None.ensures))
 
 pub note_firing-requires : goal.note_firing-requires
 note_firing-requires g c =
-    let first : c.put.new.self.history.spare ≡ c.args.self.now.history.spare = ap (λ (x : Course g.row.H.Denot). x.history.spare) c.put.ensures.rest in
-    let then : c.put_others.new.self.history.spare ≡ c.put.new.self.history.spare = ap (λ (x : Course g.row.H.Denot). x.history.spare) c.put_others.ensures.rest in
+    let first = ap (λ (x : Course g.row.H.Denot). x.history.spare) c.put.ensures.rest in
+    let then = ap (λ (x : Course g.row.H.Denot). x.history.spare) c.put_others.ensures.rest in
     let spare = c.requires.may.spare in
     omega (arith, first, then, spare)
+
+pub end_at_limit-requires : goal.end_at_limit-requires
+end_at_limit-requires g c =
+    let first = ap (λ (x : Course g.row.H.Denot). x.history.spare) c.put.ensures.rest in
+    let then = ap (λ (x : Course g.row.H.Denot). x.history.spare) c.put_others.ensures.rest in
+    let last = c.note_firing.ensures.spare in
+    let spare = c.requires.may.spare in
+    omega (arith, first, then, last, spare)
 
 pub fail-requires : goal.fail-requires
 fail-requires g c = c.requires.may.spare
@@ -24,14 +35,31 @@ fail-requires g c = c.requires.may.spare
 pub returns-in-None : goal.returns-in-None
 returns-in-None g c =
     let old = c.args.self.now in
-    let r = c.take-path.result in
-    let both : Some r ≡ Some (pair c.args.done.path c.args.done.trans) = sym c.take-path.ensures.its ∙ c.requires.there in
-    let r_is : r ≡ pair c.args.done.path c.args.done.trans = cc (both) in
-    let fired = put_and_noted old c.args.at c.args.done (c.requires.may.may (ran_if c.args.done.outcome (sym c.in-None.ensures))) c.take-path.new.self c.take-path.ensures.rest (λ ps h. c.take-path.ensures.at (now old) ps h)
-    r r_is c.put.new.self c.put_others.new.self c.note_firing.new.self c.put.ensures.put c.put.ensures.rest c.put_others.ensures.systems c.put_others.ensures.rest c.note_firing.ensures.noted c.note_firing.ensures.empty c.note_firing.ensures.told c.note_firing.ensures.rest in
-    settled_fired (now old) old c.args.at c.args.done c.note_firing.new.self (sym c.in-None.ensures) fired
+    let done = c.args.done in
+    let own = its_own old c.args.at done c.requires.there c.in-Some.field-0 c.in-Some.ensures.value in
+    let path_is = own.0 in
+    let trans_is = own.1 in
+    let f : Course g.row.H.Denot = record old { flying = c.remove.new.self } in
+    let m = c.put.new.self in
+    let o = c.put_others.new.self in
+    let q = c.note_firing.new.self in
+    let n = c.end_at_limit.new.self in
+    let systems = subst (λ (at : Path). o.systems.items ≡ each (after_firing at m.state.notes.arrivals.items) m.systems.items) path_is c.put_others.ensures.systems in
+    let noted_is : q.history.entries ≡ o.history.entries ++ noted o.writer (Fire done.path done.trans o.state.notes.outs.items o.state.notes.drops.items) ∷ [] =
+    c.note_firing.ensures.noted ∙ (λ i. o.history.entries ++ noted o.writer (Fire (path_is i) (trans_is i) o.state.notes.outs.items o.state.notes.drops.items) ∷ []) in
+    settled_fired (now old) old c.args.at done n (sym c.in-None.ensures)
+    (put_and_noted old c.args.at done (c.requires.may.may (ran_if done.outcome (sym c.in-None.ensures))) f m o q n c.in-Some.ensures.items c.put.ensures.put c.put.ensures.rest systems c.put_others.ensures.rest noted_is c.note_firing.ensures.empty c.note_firing.ensures.told c.note_firing.ensures.rest c.end_at_limit.ensures.noted c.end_at_limit.ensures.rest)
 
-pub returns-in-Some : goal.returns-in-Some
-returns-in-Some g c =
-    settled_failed (now c.args.self.now) c.args.self.now c.args.at c.args.done c.fail.new.self c.in-Some.kind (sym c.in-Some.ensures)
-    (record { noted = c.fail.ensures.noted; rest = c.fail.ensures.rest })
+pub returns-in-Some-fault_in : goal.returns-in-Some-fault_in
+returns-in-Some-fault_in g c =
+    let old = c.args.self.now in
+    let done = c.args.done in
+    let own = its_own old c.args.at done c.requires.there c.in-Some.field-0 c.in-Some.ensures.value in
+    let path_is = own.0 in
+    let trans_is = own.1 in
+    let n = c.fail.new.self in
+    let kind = c.in-Some-fault_in.kind in
+    let flying_is = sym (ap (λ (x : Course g.row.H.Denot). x.flying) c.fail.ensures.rest) in
+    let noted_is = c.fail.ensures.noted ∙ (λ i. (old.history.entries ++ noted old.writer (Fault (path_is i) (trans_is i) kind) ∷ []) ++ ending old.writer (Faulted kind) ∷ []) in
+    let rest = c.fail.ensures.rest ∙ (λ i. record old { flying = flying_is i; history = n.history; end = Some (Faulted kind) }) in
+    settled_failed (now old) old c.args.at done n kind (sym c.in-Some-fault_in.ensures) (record { noted = noted_is; rest = rest })
