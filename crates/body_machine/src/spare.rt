@@ -10,7 +10,7 @@ use std::alloc::{AllocError, Global};
 const MOST: usize = 16;
 
 /// Paths and stacks that are not in use.
-pub struct Spare {
+pub(crate) struct Spare {
     paths: Vec<Path>,
     stacks: Vec<Vec<Item>>,
 }
@@ -25,7 +25,7 @@ impl Drop for Spare {
 }
 
 impl Spare {
-    pub fn none(alloc: Global) -> Spare {
+    pub(crate) fn none(alloc: Global) -> Spare {
         Spare {
             paths: Vec::new(alloc),
             stacks: Vec::new(alloc),
@@ -33,7 +33,7 @@ impl Spare {
     }
 
     /// A copy of a path. It takes no memory where the spare one is the same; that of the root takes none at all.
-    pub fn path(&mut self, alloc: Global, path: &Path) -> Result<Path, AllocError>
+    pub(crate) fn path(&mut self, alloc: Global, path: &Path) -> Result<Path, AllocError>
         ensures { IfOk result (λ copy. copy ≡ path.now) }
     {
         if path.items().is_empty() {
@@ -45,7 +45,7 @@ impl Spare {
         }
     }
 
-    pub fn keep_path(&mut self, path: Path) {
+    pub(crate) fn keep_path(&mut self, path: Path) {
         if path.items().is_empty() {
             return;
         }
@@ -55,7 +55,7 @@ impl Spare {
     }
 
     /// An empty stack.
-    pub fn stack(&mut self, alloc: Global) -> Vec<Item>
+    pub(crate) fn stack(&mut self, alloc: Global) -> Vec<Item>
         ensures { result.items ≡ [] }
     {
         match self.stacks.pop() {
@@ -64,7 +64,7 @@ impl Spare {
         }
     }
 
-    pub fn keep_stack(&mut self, items: Vec<Item>) {
+    pub(crate) fn keep_stack(&mut self, items: Vec<Item>) {
         if self.stacks.len() < MOST {
             let _ = self.stacks.push(items);
         }
