@@ -6,11 +6,11 @@ use crate::denoter::Denoter;
 use estelle_tree::Stmts;
 use std::alloc::{AllocError, Global};
 use std::marker::Model;
-use std::rc::Rc;
+use std::sync::Arc;
 
 /// A type denoter that is shared by all that have it.
 pub struct Type {
-    denoter: Rc<Denoter>,
+    denoter: Arc<Denoter>,
 }
 
 impl Drop for Type {
@@ -35,7 +35,7 @@ impl Type {
     pub fn of(alloc: Global, denoter: Denoter) -> Result<Type, AllocError>
         ensures { IfOk result (λ shared. shared ≡ denoter) }
     {
-        match Rc::new(alloc, denoter) {
+        match Arc::new(alloc, denoter) {
             Ok(denoter) => Ok(Type { denoter }),
             Err(_) => Err(AllocError),
         }

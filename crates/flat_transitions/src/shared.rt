@@ -5,11 +5,11 @@ ghost use Rattle.std.specs.Prelude.{◌≡◌, IfOk};
 use estelle_tree::{Items, Sequence};
 use std::alloc::{AllocError, Global};
 use std::marker::Model;
-use std::rc::Rc;
+use std::sync::Arc;
 
 /// Items that are shared by all that have them.
 pub struct Shared<T> {
-    items: Rc<Items<T>>,
+    items: Arc<Items<T>>,
 }
 
 impl<T: Drop> Drop for Shared<T> {
@@ -33,7 +33,7 @@ impl<T: Drop> Shared<T> {
     pub fn of(alloc: Global, items: Items<T>) -> Result<Shared<T>, AllocError>
         ensures { IfOk result (λ shared. shared ≡ items) }
     {
-        match Rc::new(alloc, items) {
+        match Arc::new(alloc, items) {
             Ok(items) => Ok(Shared { items }),
             Err(_) => Err(AllocError),
         }

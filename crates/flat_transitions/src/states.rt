@@ -9,7 +9,7 @@ use estelle_tree::{Items, Sequence};
 use indexmap::IndexSet;
 use std::alloc::{AllocError, Global};
 use std::marker::Model;
-use std::rc::Rc;
+use std::sync::Arc;
 
 /// The numbers of states in order, and as a set.
 pub struct Numbers {
@@ -70,7 +70,7 @@ impl Numbers {
 
 /// States by their numbers. All that have them share one list and one set.
 pub struct StateSet {
-    numbers: Rc<Numbers>,
+    numbers: Arc<Numbers>,
 }
 
 impl Drop for StateSet {
@@ -91,7 +91,7 @@ impl StateSet {
     pub fn of(alloc: Global, states: Items<u32>) -> Result<StateSet, AllocError>
         ensures { IfOk result (λ set. set ≡ states) }
     {
-        match Rc::new(alloc, Numbers::of(alloc, states)?) {
+        match Arc::new(alloc, Numbers::of(alloc, states)?) {
             Ok(numbers) => Ok(StateSet { numbers }),
             Err(_) => Err(AllocError),
         }

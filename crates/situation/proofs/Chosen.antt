@@ -28,17 +28,17 @@ use Rattle.run_history.proofs.Lists.{of_filter}
 use Rattle.situation_state.specs.At.{IsAt}
 use Rattle.situation_steps.specs.UnderWay.{IsUnderWay}
 use Rattle.situation_units.specs.Counting.{births_of, births_at}
-use Rattle.situation.specs.declared.course.Course.{Course}
+use Rattle.situation.specs.declared.execution.Execution.{Execution}
 use Rattle.situation.specs.declared.tickets.Choice.{Choice}
 use Rattle.situation.specs.Runs.{take_of, taken_as, IsWithin, IsGoing}
-use Rattle.situation.specs.Worlds.{IsOpenCourse, now, left_in}
+use Rattle.situation.specs.Worlds.{IsOpenExecution, now, left_in}
 use Rattle.situation.specs.Steps.{HasChosen, HasTakenAt}
 use Rattle.situation.proofs.Firings.{found_at, once_more}
 use Rattle.situation.proofs.Steps.{project_take, fires_same, counted_take}
 use Rattle.situation.proofs.OpenTickets.{taken_tickets, taken_open, taken_count}
 use Rattle.situation.proofs.Untaken.{are_once, left_of_take}
 
-module _ {H : Type 0} (c : Course H) (o : IsOpenCourse c) (below : fires c.history.entries < c.turns) (at : ℕ) (p : Pair) (there : slice_get c.state.untaken.items at ≡ Some p) where
+module _ {H : Type 0} (c : Execution H) (o : IsOpenExecution c) (below : fires c.history.entries < c.turns) (at : ℕ) (p : Pair) (there : slice_get c.state.untaken.items at ≡ Some p) where
   abbrev s : Subject
   s = c.state.program.now
 
@@ -106,13 +106,13 @@ module _ {H : Type 0} (c : Course H) (o : IsOpenCourse c) (below : fires c.histo
       ap (λ (os : List Taken). untaken os (now c).pending) (taken_open es c.writer (c.tickets + 1) p)
       ∙ left_of_take (open_in es) its (now c).pending (are_once s (now c) o.going.under_way.legal.pending) at left_there
 
-  module _ (n : Course H) (t : HasTakenAt at p c n) where
-    -- the course then, written out
-    abbrev after : Course H
+  module _ (n : Execution H) (t : HasTakenAt at p c n) where
+    -- the execution then, written out
+    abbrev after : Execution H
     after = record c { state = record c.state { untaken = n.state.untaken }; history = n.history; tickets = c.tickets + 1; flying = n.flying }
 
     state_is : n.state ≡ record c.state { untaken = n.state.untaken }
-    state_is = ap (λ (x : Course H). x.state) t.rest
+    state_is = ap (λ (x : Execution H). x.state) t.rest
 
     at_then : IsAt (situation s b (project n.history.entries)) (untaken (open_in n.history.entries) (situation s b (project n.history.entries)).pending) after.state
     at_then =
@@ -120,7 +120,7 @@ module _ {H : Type 0} (c : Course H) (o : IsOpenCourse c) (below : fires c.histo
         (subst (λ (events : List Event). IsAt (situation s b events) (untaken (open_in with_take) (situation s b events).pending) after.state) (sym same_events)
         (subst (λ (ps : List Pair). IsAt (now c) ps after.state) (sym left_then) (subst (IsAt (now c) (remove (left_in c) at)) state_is (t.stands (now c) (left_in c) o.at))))
 
-    opened_after : IsOpenCourse after
+    opened_after : IsOpenExecution after
     opened_after = record {
       leads = o.leads;
       room = o.room;
@@ -137,8 +137,8 @@ module _ {H : Type 0} (c : Course H) (o : IsOpenCourse c) (below : fires c.histo
         counts = omega (arith, o.fired, same_fires, ap length (taken_open es c.writer (c.tickets + 1) p), length-append (open_in es) (its ∷ []))
 
     -- the run goes on
-    pub taken_opens : IsOpenCourse n
-    taken_opens = subst IsOpenCourse (sym t.rest) opened_after
+    pub taken_opens : IsOpenExecution n
+    taken_opens = subst IsOpenExecution (sym t.rest) opened_after
 
     -- this is the job of the ticket
     pub taken_job : (job : Job) → job ≡ legal.job_of s (now c) (c.tickets + 1) b p → IsJobOf s b n.history.entries job
@@ -168,7 +168,7 @@ module _ {H : Type 0} (c : Course H) (o : IsOpenCourse c) (below : fires c.histo
 
 -- ---- what is picked
 
-module _ {H : Type 0} (draw : Draw H) (c m : Course H) (o : IsOpenCourse c) (below : fires c.history.entries < c.turns) (choice : Choice) (r : Pair) (here : slice_get c.state.untaken.items choice.at ≡ Some r) (path_is : choice.path ≡ r.path)
+module _ {H : Type 0} (draw : Draw H) (c m : Execution H) (o : IsOpenExecution c) (below : fires c.history.entries < c.turns) (choice : Choice) (r : Pair) (here : slice_get c.state.untaken.items choice.at ≡ Some r) (path_is : choice.path ≡ r.path)
     (job_is : choice.job ≡ legal.job_of c.state.program.now (now c) (c.tickets + 1) c.state.budget r) where
   abbrev p : Pair
   p = pair choice.path choice.job.trans

@@ -34,9 +34,9 @@ use Rattle.situation_steps.specs.declared.systems.Time.{Time}
 use Rattle.situation_steps.proofs.Ends.{turns_end}
 use Rattle.situation_images.specs.Putting.{arrivals_of}
 use Rattle.situation.specs.declared.limits.Committed.{Committed}
-use Rattle.situation.specs.declared.course.Course.{Course}
+use Rattle.situation.specs.declared.execution.Execution.{Execution}
 use Rattle.situation.specs.Runs.{noted, ending, taken_as, IsGoing, IsClosed, IsJobFor}
-use Rattle.situation.specs.Worlds.{IsOpenCourse, IsEndedCourse, IsKept, IsCourse, now, left_in}
+use Rattle.situation.specs.Worlds.{IsOpenExecution, IsEndedExecution, IsKept, IsExecution, now, left_in}
 use Rattle.situation.specs.Steps.{NoneHas, IsTicketAt, IsUnderTicket, MayCommit, MaySettle, HasFired, HasFailed, SettledSo, HasSettled, HasMade, HasFaulted, HasCommitted}
 use Rattle.situation.proofs.Steps.{project_end, fires_same, fault_situation, fault_fires, fault_tickets, ended_closes}
 use Rattle.situation.proofs.OpenTickets.{one_fewer, ended_open}
@@ -72,7 +72,7 @@ full a b same = grind (arith, nat_tests)
 same_outputs : (x y n : ℕ) → x ≡ y → y + n < 2 ^ 64 → x + n < 2 ^ 64
 same_outputs x y n e h = omega (arith, e, h)
 
-module _ {H : Type 0} (c : Course H) (o : IsOpenCourse c) (done : Done) (may : MayCommit c done) where
+module _ {H : Type 0} (c : Execution H) (o : IsOpenExecution c) (done : Done) (may : MayCommit c done) where
   abbrev s : Subject
   s = c.state.program.now
 
@@ -145,16 +145,16 @@ module _ {H : Type 0} (c : Course H) (o : IsOpenCourse c) (done : Done) (may : M
 
     -- ---- its fault
 
-    made_failed : (n : Course H) (kind : fault.Fault) → done.outcome ≡ outcome.Faulted kind → c.end ≡ None → HasFailed (record c { flying = n.flying }) n done.path done.trans kind → HasFaulted c n done
+    made_failed : (n : Execution H) (kind : fault.Fault) → done.outcome ≡ outcome.Faulted kind → c.end ≡ None → HasFailed (record c { flying = n.flying }) n done.path done.trans kind → HasFaulted c n done
     made_failed n kind is unended h =
         let w = c.writer in
         let faults : FiringFaults s b (now c) done.path done.trans kind = failing s b (now c) o.going.under_way.legal (pair done.path done.trans) is_pending may.job is_for done may.answers kind is in
-        let after : Course H = record c { flying = n.flying; history = n.history; end = Some (Faulted kind) } in
+        let after : Execution H = record c { flying = n.flying; history = n.history; end = Some (Faulted kind) } in
         let fewer = one_fewer (open_in es) at it there in
         let left_open : length (open_in n.history.entries) ≡ length (remove (open_in es) at) = ap (λ (xs : List Entry). length (open_in xs)) h.noted ∙ ap length (failed_open s o.leads b t es c.time c.systems.items o.going at it there kind) in
         let fired : fires n.history.entries ≡ fires es = ap fires h.noted ∙ fault_fires es w done.path done.trans kind in
         let one_more : c.tickets ≡ fires n.history.entries + length (open_in n.history.entries) + 1 = omega (arith, o.fired, fewer, left_open, fired) in
-        let closes : IsEndedCourse after (Faulted kind) = record {
+        let closes : IsEndedExecution after (Faulted kind) = record {
           leads = o.leads;
           room = o.room;
           delays = o.delays;
@@ -164,11 +164,11 @@ module _ {H : Type 0} (c : Course H) (o : IsOpenCourse c) (done : Done) (may : M
           taken = ap (λ (xs : List Entry). length (tickets xs)) h.noted ∙ fault_tickets es w done.path done.trans kind ∙ o.taken;
           fired = inr one_more;
         } in
-        record { keeps = subst IsCourse (sym h.rest) closes; unended = unended; kind = kind; is = is; faults = faults; failed = h }
+        record { keeps = subst IsExecution (sym h.rest) closes; unended = unended; kind = kind; is = is; faults = faults; failed = h }
 
     -- ---- it ran
 
-    module _ (n : Course H) (unended : c.end ≡ None) (image : Image) (effects : List Effect) (is : done.outcome ≡ outcome.Ran image effects) (h : HasFired (now c) c n at done) where
+    module _ (n : Execution H) (unended : c.end ≡ None) (image : Image) (effects : List Effect) (is : done.outcome ≡ outcome.Ran image effects) (h : HasFired (now c) c n at done) where
       abbrev a : Acting
       a = after_put s (now c) done
 
@@ -184,9 +184,9 @@ module _ {H : Type 0} (c : Course H) (o : IsOpenCourse c) (done : Done) (may : M
       abbrev later : Situation
       later = record a.situation { timers = map.remove (now c).timers (pair done.path done.trans); pending = without (pair done.path done.trans) (now c).pending }
 
-      -- the course as it is before an end is noted
-      abbrev put_course : Course H
-      put_course = record c { state = own c n.state; history = record n.history { entries = its }; flying = n.flying; systems = n.systems; time = time }
+      -- the execution as it is before an end is noted
+      abbrev put_execution : Execution H
+      put_execution = record c { state = own c n.state; history = record n.history { entries = its }; flying = n.flying; systems = n.systems; time = time }
 
       now_is : situation s b (project its) ≡ later
       now_is = fired_situation s o.leads b t es c.time c.systems.items o.going at it there below may.job is_for done may.answers image effects is
@@ -200,12 +200,12 @@ module _ {H : Type 0} (c : Course H) (o : IsOpenCourse c) (done : Done) (may : M
       count : fires its ≡ fires es + 1
       count = count_is s o.leads b t es c.time c.systems.items o.going at it there below may.job is_for done may.answers image effects is
 
-      at_then : IsAt (now put_course) (left_in put_course) (own c n.state)
+      at_then : IsAt (now put_execution) (left_in put_execution) (own c n.state)
       at_then =
           let left = fired_left s o.leads b t es c.time c.systems.items o.going at it there below may.job is_for done may.answers image effects is in
           let at_later : IsAt later (left_in c) n.state = h.fired (left_in c) (without (pair done.path done.trans) (now c).pending) o.at in
           subst (λ (g : Situation). IsAt g (untaken (open_in its) g.pending) (own c n.state)) (sym now_is)
-          (subst (λ (ps : List Pair). IsAt later ps (own c n.state)) (sym left) (subst (IsAt later (left_in c)) (ap (λ (x : Course H). x.state) h.rest) at_later))
+          (subst (λ (ps : List Pair). IsAt later ps (own c n.state)) (sym left) (subst (IsAt later (left_in c)) (ap (λ (x : Execution H). x.state) h.rest) at_later))
 
       tickets_are : length (tickets its) ≡ c.tickets
       tickets_are = ap length (tickets_same es (noted c.writer fire_event) refl) ∙ o.taken
@@ -213,10 +213,10 @@ module _ {H : Type 0} (c : Course H) (o : IsOpenCourse c) (done : Done) (may : M
       fired_are : c.tickets ≡ fires its + length (open_in its)
       fired_are = omega (arith, o.fired, count, ap length still_open, one_fewer (open_in es) at it there)
 
-      may_end : MayEnd put_course
-      may_end = record { leads = o.leads; room = o.room; delays = o.delays; left = left_in put_course; at = at_then; taken = tickets_are; fired = fired_are }
+      may_end : MayEnd put_execution
+      may_end = record { leads = o.leads; room = o.room; delays = o.delays; left = left_in put_execution; at = at_then; taken = tickets_are; fired = fired_are }
 
-      goes_on : nat_eq (fires its) t ≡ false → IsOpenCourse put_course
+      goes_on : nat_eq (fires its) t ≡ false → IsOpenExecution put_execution
       goes_on e = record {
         leads = o.leads;
         room = o.room;
@@ -233,10 +233,10 @@ module _ {H : Type 0} (c : Course H) (o : IsOpenCourse c) (done : Done) (may : M
       closed_then : nat_eq (fires its) t ≡ true → IsClosed s b t (its ++ ending c.writer Turns ∷ []) time.waited Turns
       closed_then e = ended_closes s b t its time n.systems.items going c.writer Turns (turns_end s b t (project its) time n.systems.items going.under_way (full (fires its) t e))
 
-      keeps_by : (x : Bool) → nat_eq (fires its) t ≡ x → (r : History) → r.entries ≡ cond x (its ++ ending c.writer Turns ∷ []) its → IsCourse (record put_course { history = r; end = cond x (Some Turns) c.end })
-      keeps_by false e r entries_are = subst (IsKept (record put_course { history = r })) (sym unended) (kept_so put_course r entries_are None (goes_on e))
+      keeps_by : (x : Bool) → nat_eq (fires its) t ≡ x → (r : History) → r.entries ≡ cond x (its ++ ending c.writer Turns ∷ []) its → IsExecution (record put_execution { history = r; end = cond x (Some Turns) c.end })
+      keeps_by false e r entries_are = subst (IsKept (record put_execution { history = r })) (sym unended) (kept_so put_execution r entries_are None (goes_on e))
       keeps_by true e r entries_are =
-          ends_so put_course (record c { history = r }) Turns may_end
+          ends_so put_execution (record c { history = r }) Turns may_end
           (subst (λ (xs : List Entry). IsClosed s b t xs time.waited Turns) (sym entries_are) (closed_then e))
           (ap (λ (xs : List Entry). situation s b (project xs)) entries_are ∙ ap (situation s b) (project_end its c.writer Turns))
           (ap fires entries_are ∙ fires_same its (ending c.writer Turns) refl)
@@ -245,7 +245,7 @@ module _ {H : Type 0} (c : Course H) (o : IsOpenCourse c) (done : Done) (may : M
 
       made_so : HasMade c n done
       made_so = record {
-        keeps = subst IsCourse (sym h.rest) (keeps_by (nat_eq (fires its) t) refl n.history h.noted);
+        keeps = subst IsExecution (sym h.rest) (keeps_by (nat_eq (fires its) t) refl n.history h.noted);
         unended = unended;
         outs = a.outs;
         drops = a.drops;
@@ -256,7 +256,7 @@ module _ {H : Type 0} (c : Course H) (o : IsOpenCourse c) (done : Done) (may : M
         rest = h.rest;
       }
 
-    pub committed_so : (n : Course H) (d : Committed) → c.end ≡ None → HasSettled (now c) c n at done d → HasCommitted c n done d
+    pub committed_so : (n : Execution H) (d : Committed) → c.end ≡ None → HasSettled (now c) c n at done d → HasCommitted c n done d
     committed_so n d unended settled = by done.outcome refl settled
       where
         by : (x : Outcome) → done.outcome ≡ x → SettledSo (now c) c n at done x d → HasCommitted c n done d

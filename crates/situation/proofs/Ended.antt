@@ -25,10 +25,10 @@ use Rattle.situation_steps.proofs.Dead.{dead_ends}
 use Rattle.situation_steps.proofs.Waiting.{timers_are_waited_for}
 use Rattle.situation.specs.declared.limits.Stepped.{Stepped}
 use Rattle.situation.specs.declared.limits.Stepped.TheVariants as did
-use Rattle.situation.specs.declared.course.Course.{Course}
+use Rattle.situation.specs.declared.execution.Execution.{Execution}
 use Rattle.situation.specs.Planned.{IsPlannedOn}
 use Rattle.situation.specs.Runs.{noted, ending, IsClosed}
-use Rattle.situation.specs.Worlds.{AddsEnd, IsOpenCourse, IsEndedCourse, HasStepped, now, left_in}
+use Rattle.situation.specs.Worlds.{AddsEnd, IsOpenExecution, IsEndedExecution, HasStepped, now, left_in}
 use Rattle.situation.specs.Steps.{GoesOn, IsDueAt, IsIdle, MayWaitFor, IsFaultAt}
 use Rattle.situation.proofs.Adding.{adds_on, all_taken}
 use Rattle.situation.proofs.Planned.{leads_ended}
@@ -44,11 +44,11 @@ says e x = did.Ended (unwrap_or x e)
 module _ {H : Type 0} where
   -- ---- ends
 
-  abbrev pub with_end : Course H → Course H → End → Course H
+  abbrev pub with_end : Execution H → Execution H → End → Execution H
   with_end c n e = record c { history = n.history; end = Some e }
 
   -- what is kept of it, whatever the limit of firings
-  pub record MayEnd (c : Course H) : Type 0 where
+  pub record MayEnd (c : Execution H) : Type 0 where
     pub leads : LeadsToStates c.state.program.now
     pub room : c.state.budget * (c.turns + 1) < 2 ^ 63
     pub delays : c.delays ≡ has_delays c.state.program.now
@@ -57,13 +57,13 @@ module _ {H : Type 0} where
     pub taken : length (tickets c.history.entries) ≡ c.tickets
     pub fired : c.tickets ≡ fires c.history.entries + length (open_in c.history.entries)
 
-  pub may_end : (c : Course H) → IsOpenCourse c → MayEnd c
+  pub may_end : (c : Execution H) → IsOpenExecution c → MayEnd c
   may_end c o = record { leads = o.leads; room = o.room; delays = o.delays; left = left_in c; at = o.at; taken = o.taken; fired = o.fired }
 
-  -- a history that ends, and leads to the same situation, ends the course
-  pub ends_so : (c n : Course H) (e : End) → MayEnd c → IsClosed c.state.program.now c.state.budget c.turns n.history.entries c.time.waited e
+  -- a history that ends, and leads to the same situation, ends the execution
+  pub ends_so : (c n : Execution H) (e : End) → MayEnd c → IsClosed c.state.program.now c.state.budget c.turns n.history.entries c.time.waited e
       → situation c.state.program.now c.state.budget (project n.history.entries) ≡ now c → fires n.history.entries ≡ fires c.history.entries
-      → length (tickets n.history.entries) ≡ length (tickets c.history.entries) → open_in n.history.entries ≡ open_in c.history.entries → IsEndedCourse (with_end c n e) e
+      → length (tickets n.history.entries) ≡ length (tickets c.history.entries) → open_in n.history.entries ≡ open_in c.history.entries → IsEndedExecution (with_end c n e) e
   ends_so c n e o closed same count given still = record {
     leads = o.leads;
     room = o.room;
@@ -76,7 +76,7 @@ module _ {H : Type 0} where
   }
 
   -- an end that a step says is the end
-  pub ended_step : (draw : Draw H) (moment : Option ℕ) (c n : Course H) (e : End) (k : ℕ) → GoesOn k c → IsClosed c.state.program.now c.state.budget c.turns (c.history.entries ++ ending c.writer e ∷ []) c.time.waited e
+  pub ended_step : (draw : Draw H) (moment : Option ℕ) (c n : Execution H) (e : End) (k : ℕ) → GoesOn k c → IsClosed c.state.program.now c.state.budget c.turns (c.history.entries ++ ending c.writer e ∷ []) c.time.waited e
       → n.history.entries ≡ c.history.entries ++ ending c.writer e ∷ [] → AddsEnd c.writer c.history.entries n.history.entries e → HasStepped draw moment moment c (with_end c n e) (did.Ended e)
   ended_step draw moment c n e k opened closed entries_are adds = record {
     keeps = ends_so c n e (may_end c opened.is_open) (subst (λ (xs : List Entry). IsClosed c.state.program.now c.state.budget c.turns xs c.time.waited e) (sym entries_are) closed)
@@ -97,13 +97,13 @@ module _ {H : Type 0} where
   }
 
   -- so is one of the events
-  ended_so : (draw : Draw H) (moment : Option ℕ) (c n : Course H) (e : End) (k : ℕ) → GoesOn k c → HasEnded c.state.program.now c.state.budget c.turns (project c.history.entries) c.time.waited e
+  ended_so : (draw : Draw H) (moment : Option ℕ) (c n : Execution H) (e : End) (k : ℕ) → GoesOn k c → HasEnded c.state.program.now c.state.budget c.turns (project c.history.entries) c.time.waited e
       → n.history.entries ≡ c.history.entries ++ ending c.writer e ∷ [] → AddsEnd c.writer c.history.entries n.history.entries e → HasStepped draw moment moment c (with_end c n e) (did.Ended e)
   ended_so draw moment c n e k opened h entries_are adds =
       ended_step draw moment c n e k opened (ended_closes c.state.program.now c.state.budget c.turns c.history.entries c.time c.systems.items opened.is_open.going c.writer e h) entries_are adds
 
   -- the first guard that faults ends the run
-  pub faulted_step : (draw : Draw H) (moment : Option ℕ) (c n : Course H) (at : ℕ) → GoesOn 2 c → IsDueAt at c → (m : Path) (k : ℕ) (kind : fault.Fault) → IsFaultAt at c m k kind
+  pub faulted_step : (draw : Draw H) (moment : Option ℕ) (c n : Execution H) (at : ℕ) → GoesOn 2 c → IsDueAt at c → (m : Path) (k : ℕ) (kind : fault.Fault) → IsFaultAt at c m k kind
       → n.history.entries ≡ (c.history.entries ++ noted c.writer (Fault m k kind) ∷ []) ++ ending c.writer (Faulted kind) ∷ [] → HasStepped draw moment moment c (with_end c n (Faulted kind)) (did.Ended (Faulted kind))
   faulted_step draw moment c n at opened due m k kind first entries_are =
       let o = opened.is_open in
@@ -130,18 +130,18 @@ module _ {H : Type 0} where
       }
 
   -- where nothing is left and nothing is under way, nothing is pending
-  pub none_pending : (c : Course H) → IsOpenCourse c → IsIdle c → (now c).pending ≡ []
+  pub none_pending : (c : Execution H) → IsOpenExecution c → IsIdle c → (now c).pending ≡ []
   none_pending c o idle =
       sym (all_untaken (now c).pending) ∙ ap (λ (os : List Taken). untaken os (now c).pending) (sym (sym o.flying ∙ idle.none_flying)) ∙ sym o.at.left ∙ idle.none
 
   -- so does the limit of firings
-  pub turns_step : (draw : Draw H) (moment : Option ℕ) (c n : Course H) (k : ℕ) → GoesOn k c → fires c.history.entries ≡ c.turns → n.history.entries ≡ c.history.entries ++ ending c.writer Turns ∷ []
+  pub turns_step : (draw : Draw H) (moment : Option ℕ) (c n : Execution H) (k : ℕ) → GoesOn k c → fires c.history.entries ≡ c.turns → n.history.entries ≡ c.history.entries ++ ending c.writer Turns ∷ []
       → HasStepped draw moment moment c (with_end c n Turns) (did.Ended Turns)
   turns_step draw moment c n k opened full entries_are =
       ended_so draw moment c n Turns k opened (turns_end c.state.program.now c.state.budget c.turns (project c.history.entries) c.time c.systems.items opened.is_open.going.under_way full) entries_are entries_are
 
   -- a deadlock
-  pub dead_step : (draw : Draw H) (moment : Option ℕ) (c n : Course H) (k : ℕ) → GoesOn k c → IsIdle c → next_due c.state.timers ≡ None → n.history.entries ≡ c.history.entries ++ ending c.writer Dead ∷ []
+  pub dead_step : (draw : Draw H) (moment : Option ℕ) (c n : Execution H) (k : ℕ) → GoesOn k c → IsIdle c → next_due c.state.timers ≡ None → n.history.entries ≡ c.history.entries ++ ending c.writer Dead ∷ []
       → HasStepped draw moment moment c (with_end c n Dead) (did.Ended Dead)
   dead_step draw moment c n k opened idle none entries_are =
       let o = opened.is_open in
@@ -150,7 +150,7 @@ module _ {H : Type 0} where
       entries_are entries_are
 
   -- and a clock that fails, where it is asked for a selection
-  pub clock_step : (draw : Draw H) (moment : Option ℕ) (c n : Course H) (at k : ℕ) → GoesOn k c → IsDueAt at c → c.delays ≡ true → n.history.entries ≡ c.history.entries ++ ending c.writer Clock ∷ []
+  pub clock_step : (draw : Draw H) (moment : Option ℕ) (c n : Execution H) (at k : ℕ) → GoesOn k c → IsDueAt at c → c.delays ≡ true → n.history.entries ≡ c.history.entries ++ ending c.writer Clock ∷ []
       → HasStepped draw moment moment c (with_end c n Clock) (did.Ended Clock)
   clock_step draw moment c n at k opened due delays entries_are =
       let o = opened.is_open in
@@ -159,7 +159,7 @@ module _ {H : Type 0} where
       entries_are entries_are
 
   -- or is waited for
-  pub wait_fails : (draw : Draw H) (moment : Option ℕ) (c n : Course H) (due k : ℕ) → GoesOn k c → MayWaitFor due c → n.history.entries ≡ c.history.entries ++ ending c.writer Clock ∷ []
+  pub wait_fails : (draw : Draw H) (moment : Option ℕ) (c n : Execution H) (due k : ℕ) → GoesOn k c → MayWaitFor due c → n.history.entries ≡ c.history.entries ++ ending c.writer Clock ∷ []
       → HasStepped draw moment moment c (with_end c n Clock) (did.Ended Clock)
   wait_fails draw moment c n due k opened may entries_are =
       let o = opened.is_open in

@@ -1,6 +1,7 @@
 -- The run of a world that has ended.
 use Rattle.std.proofs.Common.{◌≡◌, ℕ, Option, Some, subst, ◌∙◌}
 use Rattle.estelle_model.specs.declared.event.End.{End}
+use Rattle.estelle_model.specs.Ends.{Stops}
 use Rattle.estelle_model.specs.Runs.{IsRun}
 use Rattle.estelle_model_legality.specs.Instances.{LeadsToStates}
 use Rattle.estelle_model.specs.Choosers.{Draw}
@@ -10,15 +11,19 @@ use Rattle.situation.specs.declared.limits.Limits.{Limits}
 use Rattle.situation.specs.declared.limits.Stepped.{Stepped}
 use Rattle.situation.specs.Known.{Known, IsReachedBy, IsPlannedStep}
 use Rattle.situation.proofs.Planned.{steps_reach}
-use Rattle.situation.specs.declared.course.Course.{Course}
-use Rattle.situation.specs.Worlds.{IsCourse, IsKept}
+use Rattle.situation.specs.declared.execution.Execution.{Execution}
+use Rattle.situation.specs.Worlds.{IsExecution, IsKept}
 
 -- its events are a run
-pub ended_run : {H : Type 0} (c : Course H) → IsCourse c → (e : End) → c.end ≡ Some e → IsRun c.state.program.now c.state.budget (project c.history.entries)
+pub ended_run : {H : Type 0} (c : Execution H) → IsExecution c → (e : End) → c.end ≡ Some e → IsRun c.state.program.now c.state.budget (project c.history.entries)
 ended_run c keeps e is = (subst (IsKept c) is keeps).closed.run
 
+-- which stops with this end
+pub ended_stops : {H : Type 0} (c : Execution H) → IsExecution c → (e : End) → c.end ≡ Some e → Stops c.state.program.now c.state.budget c.turns (project c.history.entries) e
+ended_stops c keeps e is = (subst (IsKept c) is keeps).closed.stops
+
 -- and its bodies lead to states of their own
-pub ended_leads : {H : Type 0} (c : Course H) → IsCourse c → (e : End) → c.end ≡ Some e → LeadsToStates c.state.program.now
+pub ended_leads : {H : Type 0} (c : Execution H) → IsExecution c → (e : End) → c.end ≡ Some e → LeadsToStates c.state.program.now
 ended_leads c keeps e is = (subst (IsKept c) is keeps).leads
 
 -- what holds of what the planned steps lead to then holds of it from where they began

@@ -36,11 +36,11 @@ use Rattle.situation.specs.declared.limits.Stepped.TheVariants as did
 use Rattle.situation.specs.declared.limits.Limits.{Limits}
 use Rattle.situation.specs.declared.limits.Committed.{Committed}
 use Rattle.situation.specs.declared.limits.Committed.TheVariants as committed
-use Rattle.situation.specs.declared.course.Course.{Course}
+use Rattle.situation.specs.declared.execution.Execution.{Execution}
 use Rattle.situation.specs.Planned.{kept_of, StepsTo, a_firing, a_fault}
 use Rattle.situation.specs.declared.tickets.Choice.{Choice}
 use Rattle.situation.specs.Runs.{noted, ending, take_of, taken_as, ended_at, end_at}
-use Rattle.situation.specs.Worlds.{IsOpenCourse, IsKept, IsCourse, IsUnchanged, HasStepped, Adds, limits_of, now, work, left_to_do}
+use Rattle.situation.specs.Worlds.{IsOpenExecution, IsKept, IsExecution, IsUnchanged, HasStepped, Adds, limits_of, now, work, left_to_do}
 use Rattle.situation.specs.Steps.{IsReady, IsFlying, HasChosen, HasReserved, HasTakenAt, MayCommit, HasMade, HasFaulted, HasCommitted, IsInTime, IsStepOf, IsCause}
 use Rattle.situation.proofs.Adding.{adds_on}
 use Rattle.situation.proofs.Less.{left_open, less_fired}
@@ -71,7 +71,7 @@ less_ended n x y x_is y_is = omega (arith, x_is, y_is)
 
 module _ {H : Type 0} where
   -- a firing of the run was taken, and nothing else has happened
-  pub record IsTakenFrom (c m : Course H) (p : Pair) : Type 0 where
+  pub record IsTakenFrom (c m : Execution H) (p : Pair) : Type 0 where
     pub program : m.state.program ≡ c.state.program
     pub limits : limits_of m ≡ limits_of c
     pub writer : m.writer ≡ c.writer
@@ -80,8 +80,8 @@ module _ {H : Type 0} where
     pub end : m.end ≡ c.end
     pub entries : m.history.entries ≡ c.history.entries ++ take_of c.writer (c.tickets + 1) p ∷ []
 
-  module _ (draw : Draw H) (c : Course H) (o : IsOpenCourse c) (unended : c.end ≡ None) (ready : IsReady c) (none : open_in c.history.entries ≡ []) (p : Pair) (chooser : H) (picked : Picks draw c.chooser c.state.untaken.items p chooser)
-      (m : Course H) (from : IsTakenFrom c m p) (n : Course H) (done : Done) (done_is : pair done.path done.trans ≡ p) (same_chooser : n.chooser ≡ chooser) where
+  module _ (draw : Draw H) (c : Execution H) (o : IsOpenExecution c) (unended : c.end ≡ None) (ready : IsReady c) (none : open_in c.history.entries ≡ []) (p : Pair) (chooser : H) (picked : Picks draw c.chooser c.state.untaken.items p chooser)
+      (m : Execution H) (from : IsTakenFrom c m p) (n : Execution H) (done : Done) (done_is : pair done.path done.trans ≡ p) (same_chooser : n.chooser ≡ chooser) where
     abbrev s : Subject
     s = c.state.program.now
 
@@ -127,11 +127,11 @@ module _ {H : Type 0} where
         let turns_is : m.turns ≡ t = ap (λ (l : Limits). l.turns) from.limits in
         let mid : m.history.entries ++ noted m.writer (Fire done.path done.trans h.outs h.drops) ∷ [] ≡ its = (λ i. from.entries i ++ noted (from.writer i) (Fire (done_is i).path (done_is i).trans h.outs h.drops) ∷ []) in
         let entries_are : n.history.entries ≡ ended_at w t its = h.noted ∙ (λ i. ended_at (from.writer i) (turns_is i) (mid i)) in
-        let end_is : n.end ≡ end_at t c.end its = ap (λ (x : Course H). x.end) h.rest ∙ (λ i. end_at (turns_is i) (from.end i) (mid i)) in
-        let program : n.state.program ≡ c.state.program = ap (λ (x : Course H). x.state.program) h.rest ∙ from.program in
-        let limits : limits_of n ≡ limits_of c = limits_are (limits_of n) (ap (λ (x : Course H). limits_of x) h.rest) in
-        let writer : n.writer ≡ w = ap (λ (x : Course H). x.writer) h.rest ∙ from.writer in
-        let time : n.time ≡ record c.time { may_wait = true } = ap (λ (x : Course H). x.time) h.rest ∙ ap (λ (x : Time). record x { may_wait = true }) from.time in
+        let end_is : n.end ≡ end_at t c.end its = ap (λ (x : Execution H). x.end) h.rest ∙ (λ i. end_at (turns_is i) (from.end i) (mid i)) in
+        let program : n.state.program ≡ c.state.program = ap (λ (x : Execution H). x.state.program) h.rest ∙ from.program in
+        let limits : limits_of n ≡ limits_of c = limits_are (limits_of n) (ap (λ (x : Execution H). limits_of x) h.rest) in
+        let writer : n.writer ≡ w = ap (λ (x : Execution H). x.writer) h.rest ∙ from.writer in
+        let time : n.time ≡ record c.time { may_wait = true } = ap (λ (x : Execution H). x.time) h.rest ∙ ap (λ (x : Time). record x { may_wait = true }) from.time in
         let systems : n.systems.items ≡ each (after_firing p.path h.arrivals) c.systems.items = h.systems ∙ (λ i. each (after_firing (done_is i).path h.arrivals) (from.systems i)) in
         let events : project n.history.entries ≡ project es ++ fire_event ∷ [] = ap project entries_are ∙ project_ended w t its ∙ project_push with_take (noted w fire_event) ∙ ap (λ (xs : List Event). xs ++ fire_event ∷ []) same_events in
         let count : fires its ≡ fires es + 1 = omega (arith, fires_more with_take (noted w fire_event), fires_more es (take_of w (c.tickets + 1) p)) in
@@ -169,11 +169,11 @@ module _ {H : Type 0} where
         let fault_event : Event = Fault p.path p.trans h.kind in
         let its : List Entry = (with_take ++ noted w fault_event ∷ []) ++ ending w (Faulted h.kind) ∷ [] in
         let entries_are : n.history.entries ≡ its = h.failed.noted ∙ (λ i. (from.entries i ++ noted (from.writer i) (Fault (done_is i).path (done_is i).trans h.kind) ∷ []) ++ ending (from.writer i) (Faulted h.kind) ∷ []) in
-        let end_is : n.end ≡ Some (Faulted h.kind) = ap (λ (x : Course H). x.end) h.failed.rest in
-        let program : n.state.program ≡ c.state.program = ap (λ (x : Course H). x.state.program) h.failed.rest ∙ from.program in
-        let limits : limits_of n ≡ limits_of c = limits_are (limits_of n) (ap (λ (x : Course H). limits_of x) h.failed.rest) in
-        let writer : n.writer ≡ w = ap (λ (x : Course H). x.writer) h.failed.rest ∙ from.writer in
-        let time : n.time ≡ c.time = ap (λ (x : Course H). x.time) h.failed.rest ∙ from.time in
+        let end_is : n.end ≡ Some (Faulted h.kind) = ap (λ (x : Execution H). x.end) h.failed.rest in
+        let program : n.state.program ≡ c.state.program = ap (λ (x : Execution H). x.state.program) h.failed.rest ∙ from.program in
+        let limits : limits_of n ≡ limits_of c = limits_are (limits_of n) (ap (λ (x : Execution H). limits_of x) h.failed.rest) in
+        let writer : n.writer ≡ w = ap (λ (x : Execution H). x.writer) h.failed.rest ∙ from.writer in
+        let time : n.time ≡ c.time = ap (λ (x : Execution H). x.time) h.failed.rest ∙ from.time in
         let events : project n.history.entries ≡ project es ++ fault_event ∷ [] = ap project entries_are ∙ project_end (with_take ++ noted w fault_event ∷ []) w (Faulted h.kind) ∙ project_push with_take (noted w fault_event) ∙ ap (λ (xs : List Event). xs ++ fault_event ∷ []) same_events in
         let same : (m.state.program.now, m.state.budget, project m.history.entries) ≡ (s, b, project es) = (λ i. ((from.program i).now, (from.limits i).budget, (ap project from.entries ∙ same_events) i)) in
         let faults : FiringFaults s b (now c) p.path p.trans h.kind =
@@ -200,33 +200,33 @@ module _ {H : Type 0} where
 
 -- ---- what was picked, and is not taken yet
 
-module _ {H : Type 0} (draw : Draw H) (c m1 : Course H) (o : IsOpenCourse c) (unended : c.end ≡ None) (choice : Choice) (chosen : HasChosen draw c m1 choice) where
+module _ {H : Type 0} (draw : Draw H) (c m1 : Execution H) (o : IsOpenExecution c) (unended : c.end ≡ None) (choice : Choice) (chosen : HasChosen draw c m1 choice) where
   -- where memory is wanting, the run is as before
   pub chosen_unchanged : IsUnchanged c m1
   chosen_unchanged = subst (IsUnchanged c) (sym chosen.rest) (unchanged_memory c m1 o unended chosen.entries chosen.flying)
 
-  module _ (m2 : Course H) (reserved : HasReserved m1 m2) where
+  module _ (m2 : Execution H) (reserved : HasReserved m1 m2) where
     pub there_then : slice_get m2.state.untaken.items choice.at ≡ Some (pair choice.path choice.job.trans)
-    there_then = ap (λ (x : Course H). slice_get x.state.untaken.items choice.at) reserved.rest ∙ ap (λ (x : Course H). slice_get x.state.untaken.items choice.at) chosen.rest ∙ chosen.there
+    there_then = ap (λ (x : Execution H). slice_get x.state.untaken.items choice.at) reserved.rest ∙ ap (λ (x : Execution H). slice_get x.state.untaken.items choice.at) chosen.rest ∙ chosen.there
 
     pub reserved_unchanged : IsUnchanged c m2
     reserved_unchanged =
-        let grown : HasReserved (with_memory c m1) m2 = subst (λ (x : Course H). HasReserved x m2) chosen.rest reserved in
-        let opened : IsOpenCourse m2 = reserved_open (with_memory c m1) m2 (reopened c m1 o chosen.entries chosen.flying) grown in
-        let end_is : m2.end ≡ c.end = ap (λ (x : Course H). x.end) grown.rest in
+        let grown : HasReserved (with_memory c m1) m2 = subst (λ (x : Execution H). HasReserved x m2) chosen.rest reserved in
+        let opened : IsOpenExecution m2 = reserved_open (with_memory c m1) m2 (reopened c m1 o chosen.entries chosen.flying) grown in
+        let end_is : m2.end ≡ c.end = ap (λ (x : Execution H). x.end) grown.rest in
         record {
           keeps = subst (IsKept m2) (sym (end_is ∙ unended)) opened;
-          program = ap (λ (x : Course H). x.state.program) grown.rest;
-          limits = ap (λ (x : Course H). limits_of x) grown.rest;
-          writer = ap (λ (x : Course H). x.writer) grown.rest;
+          program = ap (λ (x : Execution H). x.state.program) grown.rest;
+          limits = ap (λ (x : Execution H). limits_of x) grown.rest;
+          writer = ap (λ (x : Execution H). x.writer) grown.rest;
           entries = grown.entries ∙ chosen.entries;
-          time = ap (λ (x : Course H). x.time) grown.rest;
-          systems = ap (λ (x : Course H). x.systems.items) grown.rest;
+          time = ap (λ (x : Execution H). x.time) grown.rest;
+          systems = ap (λ (x : Execution H). x.systems.items) grown.rest;
         }
 
 -- ---- what was picked, and computed with room for it, is taken, and may be committed
 
-module _ {H : Type 0} (draw : Draw H) (c m1 m2 m3 : Course H) (o : IsOpenCourse c) (below : fires c.history.entries < c.turns) (choice : Choice) (chosen : HasChosen draw c m1 choice) (reserved : HasReserved m1 m2)
+module _ {H : Type 0} (draw : Draw H) (c m1 m2 m3 : Execution H) (o : IsOpenExecution c) (below : fires c.history.entries < c.turns) (choice : Choice) (chosen : HasChosen draw c m1 choice) (reserved : HasReserved m1 m2)
     (taken : HasTakenAt choice.at (pair choice.path choice.job.trans) m2 m3) where
   abbrev its : Pair
   its = pair choice.path choice.job.trans
@@ -237,21 +237,21 @@ module _ {H : Type 0} (draw : Draw H) (c m1 m2 m3 : Course H) (o : IsOpenCourse 
   abbrev units : ℕ
   units = c.state.budget
 
-  -- the course with more memory
-  abbrev more : Course H
+  -- the execution with more memory
+  abbrev more : Execution H
   more = record (with_memory c m1) { state = record c.state { shared = m2.state.shared; notes = m2.state.notes }; history = m2.history }
 
   reserved_then : HasReserved (with_memory c m1) m2
-  reserved_then = subst (λ (x : Course H). HasReserved x m2) chosen.rest reserved
+  reserved_then = subst (λ (x : Execution H). HasReserved x m2) chosen.rest reserved
 
-  more_open : IsOpenCourse more
-  more_open = subst IsOpenCourse reserved_then.rest (reserved_open (with_memory c m1) m2 (reopened c m1 o chosen.entries chosen.flying) reserved_then)
+  more_open : IsOpenExecution more
+  more_open = subst IsOpenExecution reserved_then.rest (reserved_open (with_memory c m1) m2 (reopened c m1 o chosen.entries chosen.flying) reserved_then)
 
   entries_are : m2.history.entries ≡ c.history.entries
   entries_are = reserved_then.entries ∙ chosen.entries
 
   taken_then : HasTakenAt choice.at its more m3
-  taken_then = subst (λ (x : Course H). HasTakenAt choice.at its x m3) reserved_then.rest taken
+  taken_then = subst (λ (x : Execution H). HasTakenAt choice.at its x m3) reserved_then.rest taken
 
   below_then : fires m2.history.entries < c.turns
   below_then = subst (λ (es : List Entry). fires es < c.turns) (sym entries_are) below
@@ -259,32 +259,32 @@ module _ {H : Type 0} (draw : Draw H) (c m1 m2 m3 : Course H) (o : IsOpenCourse 
   job_then : choice.job ≡ legal.job_of program (now more) (c.tickets + 1) units its
   job_then = subst (λ (es : List Entry). choice.job ≡ legal.job_of program (situation program units (project es)) (c.tickets + 1) units its) (sym entries_are) chosen.job_is
 
-  pub opened_then : IsOpenCourse m3
+  pub opened_then : IsOpenExecution m3
   opened_then = taken_opens more more_open below_then choice.at its chosen.there m3 taken_then
 
-  pub kept_then : c.end ≡ None → IsCourse m3
-  kept_then unended = let end_is : m3.end ≡ c.end = ap (λ (x : Course H). x.end) taken_then.rest in subst (IsKept m3) (sym (end_is ∙ unended)) opened_then
+  pub kept_then : c.end ≡ None → IsExecution m3
+  kept_then unended = let end_is : m3.end ≡ c.end = ap (λ (x : Execution H). x.end) taken_then.rest in subst (IsKept m3) (sym (end_is ∙ unended)) opened_then
 
   -- no end comes before its commit
-  pub in_time : c.end ≡ None → (n : Course H) (done : Done) (d : Committed) → HasCommitted m3 n done d → IsInTime d
+  pub in_time : c.end ≡ None → (n : Execution H) (done : Done) (d : Committed) → HasCommitted m3 n done d → IsInTime d
   in_time unended n done committed.Fired h = tt
   in_time unended n done committed.Faulted h = tt
-  in_time unended n done (committed.Late e) h = let wrong : None ≡ Some e = sym unended ∙ sym (ap (λ (x : Course H). x.end) taken_then.rest) ∙ h.0 in absurd (cc)
+  in_time unended n done (committed.Late e) h = let wrong : None ≡ Some e = sym unended ∙ sym (ap (λ (x : Execution H). x.end) taken_then.rest) ∙ h.0 in absurd (cc)
 
   pub from_then : IsTakenFrom c m3 its
   from_then = record {
-    program = ap (λ (x : Course H). x.state.program) taken_then.rest;
-    limits = ap (λ (x : Course H). limits_of x) taken_then.rest;
-    writer = ap (λ (x : Course H). x.writer) taken_then.rest;
-    systems = ap (λ (x : Course H). x.systems.items) taken_then.rest;
-    time = ap (λ (x : Course H). x.time) taken_then.rest;
-    end = ap (λ (x : Course H). x.end) taken_then.rest;
+    program = ap (λ (x : Execution H). x.state.program) taken_then.rest;
+    limits = ap (λ (x : Execution H). limits_of x) taken_then.rest;
+    writer = ap (λ (x : Execution H). x.writer) taken_then.rest;
+    systems = ap (λ (x : Execution H). x.systems.items) taken_then.rest;
+    time = ap (λ (x : Execution H). x.time) taken_then.rest;
+    end = ap (λ (x : Execution H). x.end) taken_then.rest;
     entries = taken_then.noted ∙ ap (λ (es : List Entry). es ++ take_of c.writer (c.tickets + 1) its ∷ []) entries_are;
   }
 
   -- the chooser is as the pick left it
   pub chooser_then : m3.chooser ≡ m1.chooser
-  chooser_then = ap (λ (x : Course H). x.chooser) taken_then.rest
+  chooser_then = ap (λ (x : Execution H). x.chooser) taken_then.rest
 
   module _ (done : Done) (answers : Answers program choice.job done) (room : HasRoomFor done.outcome m2.state.shared m2.state.notes) (spare : 3 ≤ m2.history.spare) where
     pub done_is : ◌≡◌ {A = Pair} (pair done.path done.trans) its
@@ -295,9 +295,9 @@ module _ {H : Type 0} (draw : Draw H) (c m1 m2 m3 : Course H) (o : IsOpenCourse 
 
     pub may_commit : MayCommit m3 done
     may_commit =
-        let subject : m3.state.program.now ≡ program = ap (λ (x : Course H). x.state.program.now) taken_then.rest in
-        let budget : m3.state.budget ≡ units = ap (λ (x : Course H). x.state.budget) taken_then.rest in
-        let state : m3.state ≡ record m2.state { untaken = m3.state.untaken } = ap (λ (x : Course H). x.state) taken.rest in
+        let subject : m3.state.program.now ≡ program = ap (λ (x : Execution H). x.state.program.now) taken_then.rest in
+        let budget : m3.state.budget ≡ units = ap (λ (x : Execution H). x.state.budget) taken_then.rest in
+        let state : m3.state ≡ record m2.state { untaken = m3.state.untaken } = ap (λ (x : Execution H). x.state) taken.rest in
         record {
           is_open = subst (Contains (open_in m3.history.entries)) (λ i. taken_as (sym from_then.writer i) (sym ticket_is i) (sym done_is i)) (taken_is_open more more_open below_then choice.at its chosen.there m3 taken_then);
           job = choice.job;
@@ -323,9 +323,9 @@ ended_none by turns es none = one (nat_eq (fires es) turns)
     one true = ended_open es by Turns ∙ none
     one false = none
 
-module _ {H : Type 0} (draw : Draw H) (c : Course H) (o : IsOpenCourse c) (unended : c.end ≡ None) (ready : IsReady c) (none : open_in c.history.entries ≡ []) (m1 m2 m3 : Course H) (choice : Choice) (chosen : HasChosen draw c m1 choice)
+module _ {H : Type 0} (draw : Draw H) (c : Execution H) (o : IsOpenExecution c) (unended : c.end ≡ None) (ready : IsReady c) (none : open_in c.history.entries ≡ []) (m1 m2 m3 : Execution H) (choice : Choice) (chosen : HasChosen draw c m1 choice)
     (reserved : HasReserved m1 m2) (taken : HasTakenAt choice.at (pair choice.path choice.job.trans) m2 m3) (done : Done) (answers : Answers c.state.program.now choice.job done)
-    (room : HasRoomFor done.outcome m2.state.shared m2.state.notes) (spare : 3 ≤ m2.history.spare) (n : Course H) where
+    (room : HasRoomFor done.outcome m2.state.shared m2.state.notes) (spare : 3 ≤ m2.history.spare) (n : Execution H) where
   abbrev from : IsTakenFrom c m3 (pair choice.path choice.job.trans)
   from = from_then draw c m1 m2 m3 o ready.below choice chosen reserved taken
 
@@ -337,9 +337,9 @@ module _ {H : Type 0} (draw : Draw H) (c : Course H) (o : IsOpenCourse c) (unend
 
   pub fire_steps : (moment : Option ℕ) (d : Committed) (did : Stepped) → HasCommitted m3 n done d → IsStepOf d did → HasStepped draw moment moment c n did
   fire_steps moment committed.Fired did h is = subst (HasStepped draw moment moment c n) (sym is)
-      (fired_step draw c o unended ready none (pair choice.path choice.job.trans) m1.chooser chosen.picked m3 from n done same_pair (same_chooser n.chooser (ap (λ (x : Course H). x.chooser) h.rest)) moment h)
+      (fired_step draw c o unended ready none (pair choice.path choice.job.trans) m1.chooser chosen.picked m3 from n done same_pair (same_chooser n.chooser (ap (λ (x : Execution H). x.chooser) h.rest)) moment h)
   fire_steps moment committed.Faulted did h is = subst (HasStepped draw moment moment c n) (sym is)
-      (failed_step draw c o unended ready none (pair choice.path choice.job.trans) m1.chooser chosen.picked m3 from n done same_pair (same_chooser n.chooser (ap (λ (x : Course H). x.chooser) h.failed.rest)) moment h)
+      (failed_step draw c o unended ready none (pair choice.path choice.job.trans) m1.chooser chosen.picked m3 from n done same_pair (same_chooser n.chooser (ap (λ (x : Execution H). x.chooser) h.failed.rest)) moment h)
   fire_steps moment (committed.Late e) did h is = absurd is
 
   -- and nothing is under way then
@@ -374,13 +374,13 @@ advance_settles by turns None es after (did.Ended (ends.Faulted kind)) fired fau
     ∙ ap (λ (os : List Taken). filter (λ o. not (settled_by o.path o.trans (Fault h.0 h.1 kind))) os) none
 
 module _ {H : Type 0} where
-  pub stepped_settles : (draw : Draw H) (moment moment' : Option ℕ) (c n : Course H) (d : Stepped) → (d ≡ did.Fired → ⊥) → (d ≡ did.Faulted → ⊥) → open_in c.history.entries ≡ [] → HasStepped draw moment moment' c n d → open_in n.history.entries ≡ []
+  pub stepped_settles : (draw : Draw H) (moment moment' : Option ℕ) (c n : Execution H) (d : Stepped) → (d ≡ did.Fired → ⊥) → (d ≡ did.Faulted → ⊥) → open_in c.history.entries ≡ [] → HasStepped draw moment moment' c n d → open_in n.history.entries ≡ []
   stepped_settles draw moment moment' c n d fired faulted none h = advance_settles c.writer c.turns c.end c.history.entries n.history.entries d fired faulted none h.adds
 
   -- where nothing is under way, nothing is found to be
-  pub never_flying : (c : Course H) (k : ℕ) → IsCourse c → c.end ≡ None → open_in c.history.entries ≡ [] → IsFlying k c → ⊥
+  pub never_flying : (c : Execution H) (k : ℕ) → IsExecution c → c.end ≡ None → open_in c.history.entries ≡ [] → IsFlying k c → ⊥
   never_flying c k keeps unended none f =
-      let o : IsOpenCourse c = subst (IsKept c) unended keeps in
+      let o : IsOpenExecution c = subst (IsKept c) unended keeps in
       let wrong : None ≡ Some k = sym (ap (λ (os : List Taken). option_map (λ x. x.ticket) (slice_get os 0)) (o.flying ∙ none)) ∙ f.first in
       absurd (cc)
 

@@ -7,7 +7,7 @@ use Rattle.std.proofs.lemmas.Option.{slice_get_within, get_or_from_slice_get}
 use Rattle.run_history.specs.Histories.{fires}
 use Rattle.situation_steps.specs.declared.systems.System.{System}
 use Rattle.situation_steps.specs.Systems.{after_selection, after_wait}
-use Rattle.situation.specs.declared.course.Course.{Course}
+use Rattle.situation.specs.declared.execution.Execution.{Execution}
 use Rattle.situation.specs.Worlds.{work, left_to_do}
 
 -- how many systems await a selection
@@ -46,10 +46,10 @@ fewer_await systems at x count there waits =
     let was = ap (λ (y : System). one_if y.awaits) (get_or_from_slice_get systems at x x there) in
     omega (arith, set, it, was)
 
--- ---- courses
+-- ---- executions
 
 module _ {H : Type 0} where
-  pub left_open : (c : Course H) → c.end ≡ None → left_to_do c ≡ work c.turns (fires c.history.entries) c.systems.items c.time.may_wait None
+  pub left_open : (c : Execution H) → c.end ≡ None → left_to_do c ≡ work c.turns (fires c.history.entries) c.systems.items c.time.may_wait None
   left_open c e = ap (work c.turns (fires c.history.entries) c.systems.items c.time.may_wait) e
 
 -- a selection leaves less to do

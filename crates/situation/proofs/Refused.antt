@@ -12,11 +12,11 @@ use Rattle.run_history.specs.declared.entry.What.TheVariants as what
 use Rattle.run_history.specs.Histories.{event_of, project}
 use Rattle.run_history.specs.Tickets.{ticket_of, tickets}
 use Rattle.estelle_model.specs.Choosers.{Draw}
-use Rattle.situation.specs.declared.course.Course.{Course}
+use Rattle.situation.specs.declared.execution.Execution.{Execution}
 use Rattle.situation.specs.declared.limits.Stepped.{Stepped}
 use Rattle.situation.specs.declared.limits.Stepped.TheVariants as did
 use Rattle.situation.specs.Runs.{ending, AreCounted}
-use Rattle.situation.specs.Worlds.{IsKept, IsCourse, IsUnchanged, HasStepped, Leaves, limits_of}
+use Rattle.situation.specs.Worlds.{IsKept, IsExecution, IsUnchanged, HasStepped, Leaves, limits_of}
 use Rattle.situation.specs.Steps.{IsCause, IsCounted}
 use Rattle.situation.specs.Known.{Known, IsAsBefore, IsPlannedStep, LeavesLess}
 
@@ -67,7 +67,7 @@ rose_still first faults faults' later rose = omega (arith, later, rose)
 -- ---- refusals
 
 module _ {H : Type 0} where
-  end_as_before : (c n : Course H) → IsCourse c → IsUnchanged c n → n.end ≡ c.end
+  end_as_before : (c n : Execution H) → IsExecution c → IsUnchanged c n → n.end ≡ c.end
   end_as_before c n k u = by c.end n.end k u.keeps
     where
       by : (x y : Option End) → IsKept c x → IsKept n y → y ≡ x
@@ -77,16 +77,16 @@ module _ {H : Type 0} where
       by (Some e) (Some f) k l = ap Some (one_end l.closed.before k.closed.before l.closed.writer k.closed.writer f e (sym l.closed.last ∙ u.entries ∙ k.closed.last))
 
   -- what a caller knows of a run
-  abbrev pub seen : {C : Type 0} → ℕ → Course H → C → Known C H
+  abbrev pub seen : {C : Type 0} → ℕ → Execution H → C → Known C H
   seen first c clock = record { first = first; writer = c.writer; room = record { shared = c.state.shared; notes = c.state.notes }; subject = c.state.program.now; limits = limits_of c; history = c.history; end = c.end; time = c.time; systems = c.systems.items; chooser = c.chooser; clock = clock }
 
-  pub as_before : {A E C : Type 0} (first : ℕ) (r : Result A E) (c n : Course H) (clock clock' : C) → IsCourse c → OnErr r (IsUnchanged c n) → OnErr r (IsAsBefore (seen first c clock) (seen first n clock'))
+  pub as_before : {A E C : Type 0} (first : ℕ) (r : Result A E) (c n : Execution H) (clock clock' : C) → IsExecution c → OnErr r (IsUnchanged c n) → OnErr r (IsAsBefore (seen first c clock) (seen first n clock'))
   as_before first (Ok a) c n clock clock' k u = tt
   as_before first (Err e) c n clock clock' k u = record { first = refl; writer = u.writer; subject = ap (λ p. p.now) u.program; limits = u.limits; entries = u.entries; end = end_as_before c n k u; time = u.time; systems = u.systems }
 
   -- ---- steps
 
-  leaves_so : {C : Type 0} (first : ℕ) (c n : Course H) (clock clock' : C) (d : Stepped) → Leaves c n d → LeavesLess (seen first c clock) (seen first n clock') d
+  leaves_so : {C : Type 0} (first : ℕ) (c n : Execution H) (clock clock' : C) (d : Stepped) → Leaves c n d → LeavesLess (seen first c clock) (seen first n clock') d
   leaves_so first c n clock clock' did.Selected h = h
   leaves_so first c n clock clock' did.Waited h = h
   leaves_so first c n clock clock' did.Fired h = h
@@ -94,19 +94,19 @@ module _ {H : Type 0} where
   leaves_so first c n clock clock' (did.Ended e) h = h
 
   -- the run is kept, with its program
-  pub still_kept : {E : Type 0} (draw : Draw H) (moment moment' : Option ℕ) (r : Result Stepped E) (c n : Course H) → IfOk r (HasStepped draw moment moment' c n) → OnErr r (IsUnchanged c n) → IsCourse n × (n.state.program.now ≡ c.state.program.now)
+  pub still_kept : {E : Type 0} (draw : Draw H) (moment moment' : Option ℕ) (r : Result Stepped E) (c n : Execution H) → IfOk r (HasStepped draw moment moment' c n) → OnErr r (IsUnchanged c n) → IsExecution n × (n.state.program.now ≡ c.state.program.now)
   still_kept draw moment moment' (Ok d) c n h u = (h.keeps, ap (λ p. p.now) h.goes_on.program)
   still_kept draw moment moment' (Err e) c n h u = (u.keeps, ap (λ p. p.now) u.program)
 
   -- what is known of the clock's count then
-  pub still_counted : {E : Type 0} (draw : Draw H) (moment moment' : Option ℕ) (r : Result Stepped E) (c n : Course H) (first faults faults' : ℕ) → IsCourse c → faults ≤ faults' → IsCounted first c.end faults
+  pub still_counted : {E : Type 0} (draw : Draw H) (moment moment' : Option ℕ) (r : Result Stepped E) (c n : Execution H) (first faults faults' : ℕ) → IsExecution c → faults ≤ faults' → IsCounted first c.end faults
       → IfOk r (HasStepped draw moment moment' c n) → OnErr r (IsUnchanged c n) → IfOk r (IsCause c.end faults faults') → IsCounted first n.end faults'
   still_counted draw moment moment' (Ok d) c n first faults faults' k later before h u cause =
       record { later = omega (arith, before.later, later); rose = λ ended. ⊎_elim (λ (rose : Rose faults faults'). rose_since first faults faults' before.later rose) (λ (was : c.end ≡ Some Clock). rose_still first faults faults' later (before.rose was)) (cause (h.ends ended)) }
   still_counted draw moment moment' (Err e) c n first faults faults' k later before h u cause =
       record { later = omega (arith, before.later, later); rose = λ ended. rose_still first faults faults' later (before.rose (sym (end_as_before c n k u) ∙ ended)) }
 
-  pub planned_step : {C : Type 0} (draw : Draw H) (moment : C → Option ℕ) (first : ℕ) (d : Stepped) (c n : Course H) (clock clock' : C) → HasStepped draw (moment clock) (moment clock') c n d
+  pub planned_step : {C : Type 0} (draw : Draw H) (moment : C → Option ℕ) (first : ℕ) (d : Stepped) (c n : Execution H) (clock clock' : C) → HasStepped draw (moment clock) (moment clock') c n d
       → IsPlannedStep draw moment (seen first c clock) (seen first n clock') d
   planned_step draw moment first d c n clock clock' h = record {
     first = refl;
@@ -120,7 +120,7 @@ module _ {H : Type 0} where
     ends = h.ends;
   }
 
-  pub planned : {E C : Type 0} (draw : Draw H) (moment : C → Option ℕ) (first : ℕ) (r : Result Stepped E) (c n : Course H) (clock clock' : C) → IfOk r (HasStepped draw (moment clock) (moment clock') c n)
+  pub planned : {E C : Type 0} (draw : Draw H) (moment : C → Option ℕ) (first : ℕ) (r : Result Stepped E) (c n : Execution H) (clock clock' : C) → IfOk r (HasStepped draw (moment clock) (moment clock') c n)
       → IfOk r (IsPlannedStep draw moment (seen first c clock) (seen first n clock'))
   planned draw moment first (Ok d) c n clock clock' h = planned_step draw moment first d c n clock clock' h
   planned draw moment first (Err e) c n clock clock' h = tt

@@ -26,7 +26,7 @@ use Rattle.situation_steps.specs.Systems.{after_selection}
 use Rattle.situation_steps.specs.UnderWay.{IsUnderWay}
 use Rattle.situation_steps.proofs.Selections.{selections_go_on}
 use Rattle.situation.specs.declared.limits.Stepped.TheVariants as did
-use Rattle.situation.specs.declared.course.Course.{Course}
+use Rattle.situation.specs.declared.execution.Execution.{Execution}
 use Rattle.situation.specs.Runs.{noted, IsWithin, IsGoing}
 use Rattle.situation.specs.Worlds.{IsKept, HasStepped, IsUnchanged, now, left_in, left_to_do}
 use Rattle.situation.specs.Steps.{GoesOn, IsDueAt, MayBeNow}
@@ -47,12 +47,12 @@ and_left true b h = refl
 and_left false b h = h
 
 module _ {H : Type 0} where
-  -- the course with what was selected
-  abbrev pub with_selection : Course H → State → Course H → ℕ → Course H
+  -- the execution with what was selected
+  abbrev pub with_selection : Execution H → State → Execution H → ℕ → Execution H
   with_selection c y n moment = record c { state = y; systems = n.systems; time = record c.time { known = moment }; history = n.history; chooser = n.chooser }
 
   -- a system selects
-  pub selected_step : (draw : Draw H) (told : Option ℕ) (c n : Course H) (at moment : ℕ) (takes : List Pair) (wants : List Wanted)
+  pub selected_step : (draw : Draw H) (told : Option ℕ) (c n : Execution H) (at moment : ℕ) (takes : List Pair) (wants : List Wanted)
       → GoesOn 2 c → (due : IsDueAt at c) → MayBeNow told moment c
       → IsSelection draw c.state.program.now c.state.budget (now c) due.first.0.path moment c.chooser n.chooser takes wants
       → (y : State) → y.program ≡ c.state.program → y.budget ≡ c.state.budget
@@ -121,7 +121,7 @@ module _ {H : Type 0} where
       })
 
   -- it has selected, by a chooser that is left as it is now
-  pub selected_by : (draw : Draw H) (told : Option ℕ) (first : H) (c n : Course H) → n.chooser ≡ c.chooser → (at moment : ℕ) (takes : List Pair) (wants : List Wanted)
+  pub selected_by : (draw : Draw H) (told : Option ℕ) (first : H) (c n : Execution H) → n.chooser ≡ c.chooser → (at moment : ℕ) (takes : List Pair) (wants : List Wanted)
       → GoesOn 2 c → (due : IsDueAt at c) → MayBeNow told moment c
       → IsSelection draw c.state.program.now c.state.budget (now c) due.first.0.path moment first c.chooser takes wants
       → (y : State) → y.program ≡ c.state.program → y.budget ≡ c.state.budget
@@ -137,5 +137,5 @@ module _ {H : Type 0} where
   -- ---- refusals
 
   -- where it is as before the selection, it is as before the chooser was asked
-  pub unchanged_before : (c : Course H) (chooser : H) (n : Course H) → IsUnchanged (record c { chooser = chooser }) n → IsUnchanged c n
+  pub unchanged_before : (c : Execution H) (chooser : H) (n : Execution H) → IsUnchanged (record c { chooser = chooser }) n → IsUnchanged c n
   unchanged_before c chooser n same = record { keeps = same.keeps; program = same.program; limits = same.limits; writer = same.writer; entries = same.entries; time = same.time; systems = same.systems }

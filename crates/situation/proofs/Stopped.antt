@@ -6,9 +6,9 @@ use Rattle.estelle_model.specs.Choosers.{Draw}
 use Rattle.run_history.specs.declared.entry.Entry.{Entry}
 use Rattle.run_history.specs.Histories.{project}
 use Rattle.situation_steps.specs.declared.systems.Time.{Time}
-use Rattle.situation.specs.declared.course.Course.{Course}
+use Rattle.situation.specs.declared.execution.Execution.{Execution}
 use Rattle.situation.specs.Runs.{IsClosed, AreReached, IsStopped}
-use Rattle.situation.specs.Worlds.{IsKept, IsCourse, IsReached}
+use Rattle.situation.specs.Worlds.{IsKept, IsExecution, IsReached}
 
 pub closed_stops : {C : Type 0} (draw : Draw C) (s : Subject) (budget turns : ℕ) (clock moment : Option ℕ) (first c : C) (entries : List Entry) (time : Time) (e : End) → IsClosed s budget turns entries time.waited e
     → AreReached draw s budget turns clock first entries c time moment → IsStopped draw first clock s budget turns (project entries) e
@@ -22,7 +22,7 @@ closed_stops draw s budget turns clock moment first c entries time e closed reac
   };
 }
 
--- a course that has ended so
-pub course_stops : {H : Type 0} (draw : Draw H) (c : Course H) → IsCourse c → (clock moment : Option ℕ) (first : H) → IsReached draw clock first c moment → (e : End) → c.end ≡ Some e
+-- a execution that has ended so
+pub execution_stops : {H : Type 0} (draw : Draw H) (c : Execution H) → IsExecution c → (clock moment : Option ℕ) (first : H) → IsReached draw clock first c moment → (e : End) → c.end ≡ Some e
     → IsStopped draw first clock c.state.program.now c.state.budget c.turns (project c.history.entries) e
-course_stops draw c keeps clock moment first reached e is = closed_stops draw c.state.program.now c.state.budget c.turns clock moment first c.chooser c.history.entries c.time e (subst (IsKept c) is keeps).closed reached
+execution_stops draw c keeps clock moment first reached e is = closed_stops draw c.state.program.now c.state.budget c.turns clock moment first c.chooser c.history.entries c.time e (subst (IsKept c) is keeps).closed reached

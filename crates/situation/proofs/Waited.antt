@@ -11,9 +11,9 @@ use Rattle.situation_steps.specs.Systems.{after_wait}
 use Rattle.situation_steps.specs.Laws.{MayWait}
 use Rattle.situation_steps.proofs.Waiting.{timers_are_waited_for, waits_go_on}
 use Rattle.situation.specs.declared.limits.Stepped.TheVariants as did
-use Rattle.situation.specs.declared.course.Course.{Course}
+use Rattle.situation.specs.declared.execution.Execution.{Execution}
 use Rattle.situation.specs.Runs.{IsGoing}
-use Rattle.situation.specs.Worlds.{IsOpenCourse, IsKept, HasStepped, work, left_to_do}
+use Rattle.situation.specs.Worlds.{IsOpenExecution, IsKept, HasStepped, work, left_to_do}
 use Rattle.situation.specs.Steps.{GoesOn, MayWaitFor}
 use Rattle.situation.proofs.Planned.{leads_waited}
 use Rattle.situation.proofs.Steps.{may_answer, still_told}
@@ -23,19 +23,19 @@ use Rattle.situation.proofs.Less.{less_waited, left_open}
 
 module _ {H : Type 0} where
   -- the clock is waited for
-  pub may_wait : (c : Course H) (due : ℕ) → IsOpenCourse c → MayWaitFor due c → MayWait c.state.program.now c.state.budget (project c.history.entries) c.time due
+  pub may_wait : (c : Execution H) (due : ℕ) → IsOpenExecution c → MayWaitFor due c → MayWait c.state.program.now c.state.budget (project c.history.entries) c.time due
   may_wait c due o may =
       timers_are_waited_for c.state.program.now o.leads c.state.budget (project c.history.entries) c.time c.systems.items o.going.under_way may.idle.none_due (none_pending c o may.idle) due (ap next_due (sym o.at.timers) ∙ may.due)
 
   -- so some transition has a delay
-  pub waits_delayed : (c : Course H) (due : ℕ) → IsOpenCourse c → MayWaitFor due c → c.delays ≡ true
+  pub waits_delayed : (c : Execution H) (due : ℕ) → IsOpenExecution c → MayWaitFor due c → c.delays ≡ true
   waits_delayed c due o may = let w = may_wait c due o may in o.delays ∙ w.delays
 
-  -- the course after the wait
-  abbrev pub with_wait : Course H → Course H → ℕ → Course H
+  -- the execution after the wait
+  abbrev pub with_wait : Execution H → Execution H → ℕ → Execution H
   with_wait c n moment = record c { systems = n.systems; time = record { known = moment; waited = length (project c.history.entries); may_wait = false } }
 
-  pub waited_step : (draw : Draw H) (told after : Option ℕ) (c n : Course H) (due moment : ℕ) → GoesOn 2 c → MayWaitFor due c → max due c.time.known ≤ moment
+  pub waited_step : (draw : Draw H) (told after : Option ℕ) (c n : Execution H) (due moment : ℕ) → GoesOn 2 c → MayWaitFor due c → max due c.time.known ≤ moment
       → IfSome told (λ m. moment ≡ max m (max due c.time.known)) → IfSome told (λ m. after ≡ Some moment)
       → n.systems.items ≡ map after_wait c.systems.items → HasStepped draw told after c (with_wait c n moment) did.Waited
   waited_step draw told after c n due moment opened may no_earlier is moved systems_are =

@@ -27,7 +27,7 @@ use Rattle.situation_steps.specs.declared.systems.Time.{Time}
 use Rattle.situation.specs.declared.limits.Limits.{Limits}
 use Rattle.situation.specs.declared.limits.Stepped.{Stepped}
 use Rattle.situation.specs.declared.limits.Stepped.TheVariants as stepped
-use Rattle.situation.specs.declared.course.Course.{Course}
+use Rattle.situation.specs.declared.execution.Execution.{Execution}
 use Rattle.situation.specs.Planned.{IsPlannedOn}
 use Rattle.situation.specs.Runs.{noted, ending, take_of, ended_at, IsGoing, IsClosed, AreAllTaken, AreReached}
 
@@ -73,22 +73,22 @@ HasOnlyStarted (Failed kind left) entries ended = (entries ≡ noted 0 (event.Fa
 HasOnlyStarted Undefined entries ended = ⊥
 
 module _ {H : Type 0} where
-  abbrev pub entries_of : Course H → List Entry
+  abbrev pub entries_of : Execution H → List Entry
   entries_of c = c.history.entries
 
-  abbrev pub limits_of : Course H → Limits
+  abbrev pub limits_of : Execution H → Limits
   limits_of c = record { turns = c.turns; budget = c.state.budget }
 
   -- the situation that the run has come to
-  abbrev pub now : Course H → Situation
+  abbrev pub now : Execution H → Situation
   now c = situation c.state.program.now c.state.budget (project c.history.entries)
 
   -- what is pending in it and was not taken
-  abbrev pub left_in : Course H → List Pair
+  abbrev pub left_in : Execution H → List Pair
   left_in c = untaken (open_in c.history.entries) (now c).pending
 
   -- what is kept of a run that goes on
-  pub record IsOpenCourse (c : Course H) : Type 0 where
+  pub record IsOpenExecution (c : Execution H) : Type 0 where
     -- bodies lead to states of their own, and no count comes to its end
     pub leads : LeadsToStates c.state.program.now
     pub room : c.state.budget * (c.turns + 1) < 2 ^ 63
@@ -104,7 +104,7 @@ module _ {H : Type 0} where
     pub limit : (o : Taken) → Contains (open_in c.history.entries) o → fires c.history.entries < c.turns
 
   -- what is kept of one that has ended so
-  pub record IsEndedCourse (c : Course H) (e : End) : Type 0 where
+  pub record IsEndedExecution (c : Execution H) (e : End) : Type 0 where
     pub leads : LeadsToStates c.state.program.now
     pub room : c.state.budget * (c.turns + 1) < 2 ^ 63
     pub delays : c.delays ≡ has_delays c.state.program.now
@@ -115,43 +115,43 @@ module _ {H : Type 0} where
     pub taken : length (tickets c.history.entries) ≡ c.tickets
     pub fired : AreAllTaken e c.history.entries c.tickets
 
-  abbrev pub IsKept : Course H → Option End → Type 0
-  IsKept c None = IsOpenCourse c
-  IsKept c (Some e) = IsEndedCourse c e
+  abbrev pub IsKept : Execution H → Option End → Type 0
+  IsKept c None = IsOpenExecution c
+  IsKept c (Some e) = IsEndedExecution c e
 
-  abbrev pub IsCourse : Course H → Type 0
-  IsCourse c = IsKept c c.end
+  abbrev pub IsExecution : Execution H → Type 0
+  IsExecution c = IsKept c c.end
 
-  pub record IsOfProgram (s : Subject) (limits : Limits) (c : Course H) : Type 0 where
+  pub record IsOfProgram (s : Subject) (limits : Limits) (c : Execution H) : Type 0 where
     pub subject : c.state.program.now ≡ s
     pub same : limits_of c ≡ limits
 
-  -- from this chooser and a clock that tells the first moment, or none, the planned steps lead to the course, and to a clock that tells this
-  abbrev pub IsReached : Draw H → Option ℕ → H → Course H → Option ℕ → Type 0
+  -- from this chooser and a clock that tells the first moment, or none, the planned steps lead to the execution, and to a clock that tells this
+  abbrev pub IsReached : Draw H → Option ℕ → H → Execution H → Option ℕ → Type 0
   IsReached draw clock first c moment = AreReached draw c.state.program.now c.state.budget c.turns clock first c.history.entries c.chooser c.time moment
 
   -- before its first step, with a clock that tells this
-  abbrev pub HasBegun : Draw H → Option ℕ → H → Course H → Type 0
+  abbrev pub HasBegun : Draw H → Option ℕ → H → Execution H → Type 0
   HasBegun draw moment chooser c = IsReached draw moment chooser c moment
 
   -- a step that did this, in which the clock came from telling one moment to telling another, is the planned one
-  pub record HasGoneOn (draw : Draw H) (moment moment' : Option ℕ) (before after : Course H) (did : Stepped) : Type 0 where
+  pub record HasGoneOn (draw : Draw H) (moment moment' : Option ℕ) (before after : Execution H) (did : Stepped) : Type 0 where
     pub program : after.state.program ≡ before.state.program
     pub limits : limits_of after ≡ limits_of before
     pub writer : after.writer ≡ before.writer
     pub planned : IsPlannedOn draw before.state.program.now before.state.budget before.turns before.history.entries before.chooser before.time moment after.history.entries after.chooser after.time moment' did
 
-  abbrev pub left_to_do : Course H → ℕ
+  abbrev pub left_to_do : Execution H → ℕ
   left_to_do c = work c.turns (fires c.history.entries) c.systems.items c.time.may_wait c.end
 
   -- a step that is not the end leaves less to do
-  abbrev pub Leaves : Course H → Course H → Stepped → Type 0
+  abbrev pub Leaves : Execution H → Execution H → Stepped → Type 0
   Leaves before after (stepped.Ended e) = after.end ≡ Some e
   Leaves before after _ = left_to_do after < left_to_do before
 
   -- what a step comes to
-  pub record HasStepped (draw : Draw H) (moment moment' : Option ℕ) (before after : Course H) (did : Stepped) : Type 0 where
-    pub keeps : IsCourse after
+  pub record HasStepped (draw : Draw H) (moment moment' : Option ℕ) (before after : Execution H) (did : Stepped) : Type 0 where
+    pub keeps : IsExecution after
     pub goes_on : HasGoneOn draw moment moment' before after did
     pub leaves : Leaves before after did
     pub adds : Adds before.writer before.turns before.end before.history.entries after.history.entries did
@@ -160,8 +160,8 @@ module _ {H : Type 0} where
     pub ends : after.end ≡ Some Clock → did ≡ stepped.Ended Clock
 
   -- after a refusal the run is as before
-  pub record IsUnchanged (before after : Course H) : Type 0 where
-    pub keeps : IsCourse after
+  pub record IsUnchanged (before after : Execution H) : Type 0 where
+    pub keeps : IsExecution after
     pub program : after.state.program ≡ before.state.program
     pub limits : limits_of after ≡ limits_of before
     pub writer : after.writer ≡ before.writer

@@ -6,7 +6,7 @@ ghost use Rattle.estelle_model.specs.declared.event.End.TheVariants.{Clock as By
 ghost use Rattle.estelle_model.specs.Delays.{has_delays};
 ghost use Rattle.situation.specs.declared.limits.Advanced.TheVariants as did;
 
-use crate::course::Course;
+use crate::execution::Execution;
 use crate::limits::Advanced;
 use crate::systems::{first_due, wake_all};
 use compiled_program::CompiledProgram;
@@ -19,12 +19,12 @@ use situation_offers::{Chosen, SelectFault};
 use situation_steps::Time;
 use std::alloc::{AllocError, Global};
 
-impl<H: Chooser + Drop> Course<'_, H> {
+impl<H: Chooser + Drop> Execution<'_, H> {
     ghost use Rattle.delay_timers.specs.Moments.{AreDifferent};
     ghost use Rattle.run_history.specs.Histories.{project, fires};
     ghost use Rattle.situation_steps.specs.declared.systems.System.{System as Kept};
     ghost use Rattle.situation_steps.specs.Systems.{after_selection, after_wait};
-    ghost use Rattle.situation.specs.Worlds.{IsOpenCourse, IsCourse, IsUnchanged};
+    ghost use Rattle.situation.specs.Worlds.{IsOpenExecution, IsExecution, IsUnchanged};
     ghost use Rattle.situation.specs.Steps.{GoesOn, IsDueAt, IsIdle, MayBeNow, HasSelected, HasAdvanced, IsFaultAt, MayWaitFor, IsCauseOf, LeavesClock};
 
     /// A system has selected so many firings, and awaits no selection.
@@ -104,7 +104,7 @@ impl<H: Chooser + Drop> Course<'_, H> {
 
     /// The moment of a selection.
     fn moment<C: Clock>(&self, clock: &mut C) -> Result<u64, Failed>
-        requires { IsOpenCourse self.now }
+        requires { IsOpenExecution self.now }
         ensures now { IfOk result (λ now. MayBeNow (C.moment clock.old) now self.now) }
         ensures told { C.moment clock.new ≡ C.moment clock.old }
         ensures cause { HasCause (C.faults clock.old) (C.faults clock.new) result }
@@ -144,7 +144,7 @@ impl<H: Chooser + Drop> Course<'_, H> {
 
     /// The clock was waited for, and it is this moment.
     fn put_wait(&mut self, now: u64)
-        requires { IsOpenCourse self.old }
+        requires { IsOpenExecution self.old }
         ensures systems { self.new.systems.items ≡ each after_wait self.old.systems.items }
         ensures rest { self.new ≡ record self.old { systems = self.new.systems; time = record { known = now; waited = length (project self.old.history.entries); may_wait = false } } }
     {
@@ -227,7 +227,7 @@ impl<H: Chooser + Drop> Course<'_, H> {
         clock: &mut C,
     ) -> Result<Advanced, AllocError>
         requires code { code.now ≡ self.old.state.program.now }
-        requires keeps { IsCourse self.old }
+        requires keeps { IsExecution self.old }
         ensures advanced { IfOk result (HasAdvanced H.draw (C.moment clock.old) (C.moment clock.new) self.old self.new) }
         ensures refused { OnErr result (IsUnchanged self.old self.new) }
         ensures left { IfOk result (λ done. LeavesClock done clock.old clock.new) }

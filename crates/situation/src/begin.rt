@@ -6,8 +6,8 @@ ghost use Rattle.estelle_model_legality.specs.Instances.{LeadsToStates};
 ghost use Rattle.situation.specs.Runs.{noted};
 ghost use Rattle.situation.specs.Steps.{IsFresh, IsBegun};
 
-use crate::course::Course;
 use crate::delays::has_delays;
+use crate::execution::Execution;
 use crate::limits::Limits;
 use crate::systems::all_systems;
 use body_program::Program;
@@ -21,7 +21,7 @@ use situation_steps::Time;
 use std::alloc::{AllocError, Global};
 use std::collections::VecDeque;
 
-impl<H: Chooser + Drop> Course<'_, H> {
+impl<H: Chooser + Drop> Execution<'_, H> {
     ghost use Rattle.estelle_model.specs.Firing.{bare};
     ghost use Rattle.situation_state.specs.At.{NothingNoted};
     ghost use Rattle.situation_state.specs.Firings.{MayFire, IsFired};
@@ -79,10 +79,10 @@ fn fresh<'a, H: Chooser + Drop>(
     program: &'a Program<'a>,
     limits: Limits,
     chooser: H,
-) -> Result<Course<'a, H>, AllocError>
+) -> Result<Execution<'a, H>, AllocError>
     ensures { IfOk result (IsFresh program.now limits chooser) }
 {
-    Ok(Course {
+    Ok(Execution {
         state: State::bare(alloc, program, limits.budget)?,
         turns: limits.turns,
         delays: has_delays(program)?,
@@ -108,18 +108,18 @@ pub(crate) fn begin<'a, H: Chooser + Drop>(
     code: &CompiledProgram,
     limits: Limits,
     chooser: H,
-) -> Result<Course<'a, H>, AllocError>
+) -> Result<Execution<'a, H>, AllocError>
     requires code { code.now ≡ program.now }
     requires leads { LeadsToStates program.now }
     requires room { limits.budget * (limits.turns + 1) < 2 ^ 63 }
     ensures { IfOk result (IsBegun H.draw program.now limits chooser) }
 {
-    let mut course = fresh(alloc, program, limits, chooser)?;
-    let job = course.state.start_job(alloc)?;
+    let mut execution = fresh(alloc, program, limits, chooser)?;
+    let job = execution.state.start_job(alloc)?;
     let done = code.fire(alloc, job)?;
-    course.history.reserve(2)?;
-    course.state.reserve(alloc, &done)?;
-    course.start(alloc, done);
-    course.find_systems(alloc)?;
-    Ok(course)
+    execution.history.reserve(2)?;
+    execution.state.reserve(alloc, &done)?;
+    execution.start(alloc, done);
+    execution.find_systems(alloc)?;
+    Ok(execution)
 }

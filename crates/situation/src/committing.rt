@@ -3,7 +3,7 @@
 ghost use Rattle.std.specs.Prelude.{◌≡◌, ◌≤◌, ◌<◌, ℕ, true, slice_get, Some, map as each};
 ghost use Rattle.situation.specs.Runs.{ended_at, end_at};
 
-use crate::course::Course;
+use crate::execution::Execution;
 use crate::limits::Committed;
 use crate::putting::put_firing;
 use crate::systems::note_in_all;
@@ -15,10 +15,10 @@ use run_history::{Taken, count_fires};
 use situation_state::fault_in;
 use std::alloc::Global;
 
-impl<H: Chooser + Drop> Course<'_, H> {
+impl<H: Chooser + Drop> Execution<'_, H> {
     ghost use Rattle.situation_state.specs.Firings.{MayFire, IsFired};
     ghost use Rattle.situation_steps.specs.Systems.{after_firing};
-    ghost use Rattle.situation.specs.Worlds.{IsCourse, now};
+    ghost use Rattle.situation.specs.Worlds.{IsExecution, now};
     ghost use Rattle.situation.specs.Steps.{MaySettle, HasSettled, IsUnderTicket, MayCommit, HasCommitted};
 
     /// Puts what a firing did into the situation that the run has come to.
@@ -76,7 +76,7 @@ impl<H: Chooser + Drop> Course<'_, H> {
 
     /// Commits what was computed of a firing that is under way. Behind an end nothing changes. It takes no memory.
     pub(crate) fn commit(&mut self, alloc: Global, done: Done) -> Committed
-        requires keeps { IsCourse self.old }
+        requires keeps { IsExecution self.old }
         requires may { MayCommit self.old done }
         ensures { HasCommitted self.old self.new done result }
     {

@@ -12,12 +12,13 @@
 mod advancing;
 mod begin;
 mod committing;
-mod course;
 mod delays;
+mod execution;
 mod executor;
 mod laws;
 mod limits;
 mod putting;
+mod recorded;
 mod stepping;
 mod systems;
 mod tickets;

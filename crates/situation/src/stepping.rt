@@ -6,7 +6,7 @@ ghost use Rattle.estelle_model.specs.Delays.{has_delays};
 ghost use Rattle.situation.specs.declared.limits.Stepped.TheVariants as did;
 ghost use Rattle.situation.specs.Steps.{IsInTime, IsStepOf};
 
-use crate::course::Course;
+use crate::execution::Execution;
 use crate::limits::{Advanced, Committed, Stepped};
 use crate::tickets::Choice;
 use compiled_program::CompiledProgram;
@@ -25,9 +25,9 @@ fn stepped(committed: Committed) -> Stepped
     }
 }
 
-impl<H: Chooser + Drop> Course<'_, H> {
+impl<H: Chooser + Drop> Execution<'_, H> {
     ghost use Rattle.run_history.specs.OpenTickets.{open_in};
-    ghost use Rattle.situation.specs.Worlds.{IsCourse, HasStepped, IsUnchanged};
+    ghost use Rattle.situation.specs.Worlds.{IsExecution, HasStepped, IsUnchanged};
     ghost use Rattle.situation.specs.Steps.{GoesOn, IsReady, IsCause};
 
     /// One pending firing, which the chooser picks, is computed, taken and committed.
@@ -56,7 +56,7 @@ impl<H: Chooser + Drop> Course<'_, H> {
         clock: &mut C,
     ) -> Result<Stepped, AllocError>
         requires code { code.now ≡ self.old.state.program.now }
-        requires keeps { IsCourse self.old }
+        requires keeps { IsExecution self.old }
         requires none { open_in self.old.history.entries ≡ [] }
         ensures stepped { IfOk result (HasStepped H.draw (C.moment clock.old) (C.moment clock.new) self.old self.new) }
         ensures settled { open_in self.new.history.entries ≡ [] }

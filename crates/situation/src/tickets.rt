@@ -4,7 +4,7 @@ ghost use Rattle.std.specs.Prelude.{◌≡◌, ◌≢◌, ◌≤◌, ◌<◌, �
 ghost use Rattle.std.specs.VecDeque.{deque_len, deque_capacity};
 ghost use Rattle.situation.specs.Steps.{NoneHas, IsTicketAt};
 
-use crate::course::Course;
+use crate::execution::Execution;
 use estelle_model::{Done, Job, Pair};
 use estelle_tree::Path;
 use outside::Chooser;
@@ -33,7 +33,7 @@ pub(crate) fn place_of(flying: &VecDeque<Taken>, ticket: u64) -> Option<usize>
     None
 }
 
-impl<H: Chooser + Drop> Course<'_, H> {
+impl<H: Chooser + Drop> Execution<'_, H> {
     ghost use Rattle.estelle_tree.specs.Timers.{pair};
     ghost use Rattle.effect_log.specs.Rooms.{HasRoomFor};
     ghost use Rattle.situation.specs.Worlds.{IsUnchanged};

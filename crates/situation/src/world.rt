@@ -2,6 +2,7 @@
 
 ghost use Rattle.std.specs.Prelude.{◌≡◌, ◌≤◌, ◌*◌, ◌+◌, ◌<◌, ◌^◌, [], false, ℕ, Option, Some, IfOk, IfErr, IfSome, OnOk, OnErr, IsSome};
 ghost use Rattle.estelle_model.specs.Delays.{has_delays};
+ghost use Rattle.estelle_model.specs.Ends.{Stops};
 ghost use Rattle.estelle_model.specs.Runs.{IsRun};
 ghost use Rattle.estelle_model_fates.specs.Fates.{HaveOneFate};
 ghost use Rattle.estelle_model_fates.specs.Order.{AreFirstInFirstOut};
@@ -9,7 +10,7 @@ ghost use Rattle.run_history.specs.Histories.{project};
 ghost use Rattle.run_history.specs.OpenTickets.{open_in};
 
 use crate::begin;
-use crate::course::Course;
+use crate::execution::Execution;
 use crate::limits::{Advanced, Committed, Limits, Stepped};
 use crate::tickets::Choice;
 use compiled_program::CompiledProgram;
@@ -24,7 +25,7 @@ use std::marker::Model;
 #[derive(Drop)]
 pub struct World<'a, C: Clock, H> {
     program: &'a CompiledProgram<'a>,
-    course: Course<'a, H>,
+    execution: Execution<'a, H>,
     clock: C,
     /// How often the clock had failed when the world was begun.
     first: u64,
@@ -44,11 +45,20 @@ impl<'a, C: Clock, H> Model for World<'a, C, H> {
 
     ghost coded = { Prim.hlevel (codes, of_specs.the_row.coded, of_values.the_row.coded, of_shared.the_row.coded, of_notes.the_row.coded, C.code, H.code) };
 
-    ghost use Rattle.situation.specs.Worlds.{IsCourse, limits_of};
+    ghost use Rattle.situation.specs.Worlds.{IsExecution, limits_of};
 
-    ghost view = { λ w. record { subject = w.course.state.program.now; limits = limits_of w.course; history = w.course.history; end = w.course.end; time = w.course.time; systems = w.course.systems.items; chooser = w.course.chooser; clock = w.clock; first = w.first; writer = w.course.writer; room = record { shared = w.course.state.shared; notes = w.course.state.notes } } };
+    ghost view = { λ w. record { subject = w.execution.state.program.now; limits = limits_of w.execution; history = w.execution.history; end = w.execution.end; time = w.execution.time; systems = w.execution.systems.items; chooser = w.execution.chooser; clock = w.clock; first = w.first; writer = w.execution.writer; room = record { shared = w.execution.state.shared; notes = w.execution.state.notes } } };
 
-    ghost invariant = { λ w. IsCourse w.course × (w.program.now ≡ w.course.state.program.now) × IsCounted w.first w.course.end (C.faults w.clock) };
+    ghost invariant = { λ w. IsExecution w.execution × (w.program.now ≡ w.execution.state.program.now) × IsCounted w.first w.execution.end (C.faults w.clock) };
+}
+
+impl<C: Clock, H> World<'_, C, H> {
+    /// What was noted so far.
+    pub fn history(&self) -> &History
+        ensures { result.now ≡ self.now.history }
+    {
+        &self.execution.history
+    }
 }
 
 impl<'a, C: Clock, H: Chooser + Drop> World<'a, C, H> {
@@ -77,9 +87,9 @@ impl<'a, C: Clock, H: Chooser + Drop> World<'a, C, H> {
     {
         let first = clock.faults();
         match begin::begin(alloc, program.program(), program, limits, chooser) {
-            Ok(course) => Ok(World {
+            Ok(execution) => Ok(World {
                 program,
-                course,
+                execution,
                 clock,
                 first,
             }),
@@ -98,7 +108,7 @@ impl<'a, C: Clock, H: Chooser + Drop> World<'a, C, H> {
     pub fn write_as(&mut self, number: u32)
         ensures { self.new ≡ record self.old { writer = number } }
     {
-        self.course.writer = number;
+        self.execution.writer = number;
     }
 
     /// A selection, a wait for the clock, or the end, where one of them is next. Else a firing is next: one that nobody has taken, or
@@ -113,7 +123,7 @@ impl<'a, C: Clock, H: Chooser + Drop> World<'a, C, H> {
         ensures cause { IfOk result (IsCauseOf self.old.end (C.faults self.old.clock) (C.faults self.new.clock)) }
         ensures unasked { has_delays self.old.subject ≡ false → self.new.clock ≡ self.old.clock }
     {
-        self.course.advance(alloc, self.program, &mut self.clock)
+        self.execution.advance(alloc, self.program, &mut self.clock)
     }
 
     /// Takes one of the firings that are pending and that nobody has taken, as the chooser picks, under the next ticket, and gives its
@@ -125,8 +135,8 @@ impl<'a, C: Clock, H: Chooser + Drop> World<'a, C, H> {
         ensures refused { OnErr result (IsAsBefore self.old self.new) }
         ensures clock { self.new.clock ≡ self.old.clock }
     {
-        let Choice { at, path, job } = self.course.choose(alloc)?;
-        self.course.take(at, path);
+        let Choice { at, path, job } = self.execution.choose(alloc)?;
+        self.execution.take(at, path);
         Ok(job)
     }
 
@@ -135,7 +145,7 @@ impl<'a, C: Clock, H: Chooser + Drop> World<'a, C, H> {
         ensures room { OnOk result (HasRoomFor self.new done.now) }
         ensures same { IsStill self.old self.new }
     {
-        self.course.reserve(alloc, done)
+        self.execution.reserve(alloc, done)
     }
 
     /// Puts what was computed of a firing that was taken and not committed into the situation as it is now, and notes it. Behind an end
@@ -147,7 +157,7 @@ impl<'a, C: Clock, H: Chooser + Drop> World<'a, C, H> {
         ensures keeps { IsOfRun self.new }
         ensures committed { HasCommitted self.old self.new done result }
     {
-        self.course.commit(alloc, done)
+        self.execution.commit(alloc, done)
     }
 
     /// One step: an advance, or where a firing is next, one that is taken, computed and committed. After a refusal, which is want of memory, what is kept is
@@ -163,7 +173,7 @@ impl<'a, C: Clock, H: Chooser + Drop> World<'a, C, H> {
         ensures cause { IfOk result (IsCause self.old.end (C.faults self.old.clock) (C.faults self.new.clock)) }
         ensures unasked { has_delays self.old.subject ≡ false → self.new.clock ≡ self.old.clock }
     {
-        self.course.step(alloc, self.program, &mut self.clock)
+        self.execution.step(alloc, self.program, &mut self.clock)
     }
 
     /// The end, once there is one.
@@ -172,13 +182,14 @@ impl<'a, C: Clock, H: Chooser + Drop> World<'a, C, H> {
         ensures keeps { IsOfRun self.now }
         ensures counted { IsCounted self.now.first self.now.end (C.faults self.now.clock) }
     {
-        self.course.end
+        self.execution.end
     }
 
     /// The history of a run that has ended, its end, and the clock.
     pub fn finish(self) -> (History, End, C)
         requires { IsSome self.end }
         ensures run { IsRun self.entry.subject self.entry.limits.budget (project result.0.entries) }
+        ensures stops { Stops self.entry.subject self.entry.limits.budget self.entry.limits.turns (project result.0.entries) result.1 }
         ensures fates { HaveOneFate self.entry.subject self.entry.limits.budget (project result.0.entries) }
         ensures order { AreFirstInFirstOut self.entry.subject self.entry.limits.budget (project result.0.entries) }
         ensures stopped { (clock : Option ℕ) (first : H) → IsReachedBy H.draw C.moment clock first self.entry
@@ -192,11 +203,11 @@ impl<'a, C: Clock, H: Chooser + Drop> World<'a, C, H> {
         first_in_is_first_out();
         let World {
             program: _,
-            course,
+            execution,
             clock,
             first: _,
         } = self;
-        let Course { history, end, .. } = course;
+        let Execution { history, end, .. } = execution;
         match end {
             Some(end) => (history, end, clock),
             None => unreachable!(),
@@ -209,7 +220,7 @@ impl<'a, C: Clock, H: Chooser + Drop> World<'a, C, H> {
     {
         let World {
             program: _,
-            course: _,
+            execution: _,
             clock,
             first: _,
         } = self;

@@ -20,7 +20,7 @@ use Rattle.estelle_model.specs.Runs.{IsRun}
 use Rattle.effect_log.specs.Putting.{IsRan, after_put}
 use Rattle.effect_log.specs.Rooms.{HasRoomFor}
 use Rattle.situation_units.proofs.Weighing.{starts_are_within}
-use Rattle.trace_check.specs.declared.replay.Replay.{Replay}
+use Rattle.trace_check.specs.declared.judged_part.JudgedPart.{JudgedPart}
 use Rattle.situation_units.specs.Counting.{births_at}
 use Rattle.situation_units.proofs.Bare.{no_births}
 use Rattle.situation_state.specs.declared.state.State.{State}
@@ -28,10 +28,10 @@ use Rattle.situation_state.specs.At.{IsAt, NothingNoted}
 use Rattle.situation_state.specs.Firings.{MayFire, IsFired}
 use Rattle.situation_state.proofs.Fired.{at_fired}
 use Rattle.estelle_model_legality.specs.Jobs.{start_job}
-use Rattle.trace_check.specs.Replays.{IsKept, IsNext, HasGoneOn, IsFresh, IsOf, HasBegun, MayBegin, FailsFirst}
+use Rattle.trace_check.specs.JudgedParts.{IsKept, IsNext, HasGoneOn, IsFresh, IsOf, HasBegun, MayBegin, FailsFirst}
 use Rattle.trace_check.proofs.Starting.{start_answers, start_is, start_fails, started_to, started_at, started_made, no_start, no_first_selection, no_first_firing, first_told, first_faulted, no_first_select, no_first_fire, no_first_fault, start_told, first_is, start_goes}
 
-module _ (r : Replay) (fresh : IsFresh r) (e : Event) (at : IsNext r e) where
+module _ (r : JudgedPart) (fresh : IsFresh r) (e : Event) (at : IsNext r e) where
   pub first_at : slice_get r.events.now 0 ≡ Some e
   first_at = subst (λ (k : ℕ). slice_get r.events.now k ≡ Some e) fresh.count at
 
@@ -43,7 +43,7 @@ module _ (r : Replay) (fresh : IsFresh r) (e : Event) (at : IsNext r e) where
 
 -- ---- it ran
 
-module _ (r : Replay) (done : Done) (may : MayBegin r done) (is : IsRan done.outcome) where
+module _ (r : JudgedPart) (done : Done) (may : MayBegin r done) (is : IsRan done.outcome) where
   abbrev s : Subject
   s = r.state.program.now
 
@@ -85,7 +85,7 @@ module _ (r : Replay) (done : Done) (may : MayBegin r done) (is : IsRan done.out
       let budget : y.budget ≡ b = ap (λ (c : State). c.budget) rest ∙ ap (λ (c : State). c.budget) fired.rest in
       let z : State = record y { program = r.state.program; budget = b } in
       let own : y ≡ z = (λ i. record y { program = program i; budget = budget i }) in
-      let m : Replay = record r { state = z; count = 1 } in
+      let m : JudgedPart = record r { state = z; count = 1 } in
       subst (λ (c : State). HasGoneOn r (record r { state = c; count = 1 })) (sym own) (record {
         keeps = subst (IsKept m) (sym may.fresh.unended) (record {
           unended = may.fresh.unended;
@@ -116,11 +116,11 @@ module _ (r : Replay) (done : Done) (may : MayBegin r done) (is : IsRan done.out
 
 -- ---- it faulted
 
-pub fails_first : (r : Replay) (done : Done) → MayBegin r done → (kind : fault.Fault) → done.outcome ≡ outcome.Faulted kind → FailsFirst r kind
+pub fails_first : (r : JudgedPart) (done : Done) → MayBegin r done → (kind : fault.Fault) → done.outcome ≡ outcome.Faulted kind → FailsFirst r kind
 fails_first r done may kind is = (done.left, start_fails r.state.program.now r.state.budget done may.answers kind is)
 
-module _ (r : Replay) (fresh : IsFresh r) (own : fault.Fault) (fails : FailsFirst r own) where
-  pub fail_on : (m : Path) (n : ℕ) (kind : fault.Fault) → IsNext r (Fault m n kind) → m ≡ [] → n ≡ 0 → kind ≡ own → (x : Replay) → x ≡ record r { fault = Some own; count = 1 } → HasGoneOn r x
+module _ (r : JudgedPart) (fresh : IsFresh r) (own : fault.Fault) (fails : FailsFirst r own) where
+  pub fail_on : (m : Path) (n : ℕ) (kind : fault.Fault) → IsNext r (Fault m n kind) → m ≡ [] → n ≡ 0 → kind ≡ own → (x : JudgedPart) → x ≡ record r { fault = Some own; count = 1 } → HasGoneOn r x
   fail_on m n kind at path trans same x rest = subst (HasGoneOn r) (sym rest) (record {
     keeps = first_faulted r.state.program.now r.state.budget r.events.now own fails.0 fails.1 m n kind (first_at r fresh (Fault m n kind) at) path trans same;
     program = refl;
@@ -144,7 +144,7 @@ module _ (r : Replay) (fresh : IsFresh r) (own : fault.Fault) (fails : FailsFirs
 -- ---- before it
 
 -- with the room for what was done
-pub may_begin : (s : Subject) (budget : ℕ) (events : List Event) (f : Replay) (y : State) (done : Done) → IsFresh f → IsOf s budget events f → LeadsToStates s → length events < 2 ^ 31 → budget * length events < 2 ^ 63 → (first : Event) → slice_get events 0 ≡ Some first
+pub may_begin : (s : Subject) (budget : ℕ) (events : List Event) (f : JudgedPart) (y : State) (done : Done) → IsFresh f → IsOf s budget events f → LeadsToStates s → length events < 2 ^ 31 → budget * length events < 2 ^ 63 → (first : Event) → slice_get events 0 ≡ Some first
     → Answers s (start_job s budget) done → y.program ≡ f.state.program → y.budget ≡ f.state.budget → ((g : Situation) (ps : List Pair) → IsAt g ps f.state → IsAt g ps y) → HasRoomFor done.outcome y.shared y.notes → MayBegin (record f { state = y }) done
 may_begin s budget events f y done fresh of leads few room first at answers program budget_is same room_for =
     let some : 1 ≤ length events = slice_get_within events 0 first at in
@@ -169,9 +169,9 @@ may_begin s budget events f y done fresh of leads few room first at answers prog
 
 -- ---- after it
 
-module _ (s : Subject) (budget : ℕ) (events : List Event) (f : Replay) (y : State) (of : IsOf s budget events f) (program : y.program ≡ f.state.program) (budget_is : y.budget ≡ f.state.budget) (none : f.count ≡ 0) where
+module _ (s : Subject) (budget : ℕ) (events : List Event) (f : JudgedPart) (y : State) (of : IsOf s budget events f) (program : y.program ≡ f.state.program) (budget_is : y.budget ≡ f.state.budget) (none : f.count ≡ 0) where
   -- with other room
-  abbrev k : Replay
+  abbrev k : JudgedPart
   k = record f { state = y }
 
   still_of : IsOf s budget events k
@@ -187,7 +187,7 @@ module _ (s : Subject) (budget : ℕ) (events : List Event) (f : Replay) (y : St
   pub next_first : (first : Event) → slice_get events 0 ≡ Some first → IsNext k first
   next_first first at = subst (λ (x : ℕ). slice_get k.events.now x ≡ Some first) (sym still_none) (subst (λ (es : List Event). slice_get es 0 ≡ Some first) (sym still_of.events_are) at)
 
-  pub begun_so : (n : Replay) → HasGoneOn k n → HasBegun s budget events n
+  pub begun_so : (n : JudgedPart) → HasGoneOn k n → HasBegun s budget events n
   begun_so n on = record {
     keeps = on.keeps;
     of = record {

@@ -13,7 +13,7 @@ pub mod Found
 pub mod Closing
 pub mod Refusing
 -- ---- what is kept
-pub mod Replaying
+pub mod JudgingOn
 pub mod Beginning
 pub mod Settling
 pub mod Judged

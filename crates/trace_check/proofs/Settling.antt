@@ -23,10 +23,10 @@ use Rattle.situation_state.specs.Firings as state
 use Rattle.situation_state.specs.Firings.{IsFired}
 use Rattle.situation_state.specs.Places.{IsPlaceOf}
 use Rattle.situation_state.proofs.Fired.{at_fired}
-use Rattle.trace_check.specs.declared.replay.Replay.{Replay}
-use Rattle.trace_check.specs.Replays.{now, IsOpen, IsNext, HasGoneOn, MayBegin}
+use Rattle.trace_check.specs.declared.judged_part.JudgedPart.{JudgedPart}
+use Rattle.trace_check.specs.JudgedParts.{now, IsOpen, IsNext, HasGoneOn, MayBegin}
 use Rattle.trace_check.proofs.Computed.{answers_in, outs_told}
-use Rattle.trace_check.proofs.Replaying.{now_same, within, wrong, pending_there, few_outputs, fired_on}
+use Rattle.trace_check.proofs.JudgingOn.{now_same, within, wrong, pending_there, few_outputs, fired_on}
 use Rattle.trace_check.proofs.Beginning.{start_on, not_so_started}
 
 abbrev AreNoted : State → List Out → List ℕ → Type 0
@@ -34,7 +34,7 @@ AreNoted c outs drops = (c.notes.outs.items ≡ outs) × (c.notes.drops.items �
 
 -- ---- the start
 
-module _ (r : Replay) (done : Done) (may : MayBegin r done) (is : IsRan done.outcome) (outs : List Out) (drops : List ℕ) (at : IsNext r (Start outs drops)) (x : State) (fired : IsFired (bare r.state.program.now) r.state x done) where
+module _ (r : JudgedPart) (done : Done) (may : MayBegin r done) (is : IsRan done.outcome) (outs : List Out) (drops : List ℕ) (at : IsNext r (Start outs drops)) (x : State) (fired : IsFired (bare r.state.program.now) r.state x done) where
   pub start_refused : (AreNoted x outs drops → ⊥) → IsRun r.state.program.now r.state.budget (take (suc r.count) r.events.now) → ⊥
   start_refused differ = not_so_started r done may is outs drops at (λ same. differ (fired.outs ∙ same.0, fired.drops ∙ same.1))
 
@@ -44,11 +44,11 @@ module _ (r : Replay) (done : Done) (may : MayBegin r done) (is : IsRan done.out
 -- ---- a firing
 
 -- it is not pending, where it is not among what is kept
-pub not_pending : (r : Replay) → IsOpen r → (m : Path) (n : ℕ) (outs : List Out) (drops : List ℕ) → IsNext r (Fire m n outs drops) → (Contains r.state.untaken.items (pair m n) → ⊥)
+pub not_pending : (r : JudgedPart) → IsOpen r → (m : Path) (n : ℕ) (outs : List Out) (drops : List ℕ) → IsNext r (Fire m n outs drops) → (Contains r.state.untaken.items (pair m n) → ⊥)
     → IsRun r.state.program.now r.state.budget (take (suc r.count) r.events.now) → ⊥
 not_pending r o m n outs drops at none = wrong r o (Fire m n outs drops) at (λ (may : MayFire r.state.program.now r.state.budget (now r) m n outs drops). none (subst (λ (qs : List Pair). Contains qs (pair m n)) (sym o.at.left) may.pending))
 
-module _ (r : Replay) (o : IsOpen r) (m : Path) (n : ℕ) (at : ℕ) (place : IsPlaceOf (pair m n) r.state.untaken.items at) (done : Done) (answers : Answers r.state.program.now (job_of r.state.program.now (now r) 0 r.state.budget (pair m n)) done) (is : IsRan done.outcome)
+module _ (r : JudgedPart) (o : IsOpen r) (m : Path) (n : ℕ) (at : ℕ) (place : IsPlaceOf (pair m n) r.state.untaken.items at) (done : Done) (answers : Answers r.state.program.now (job_of r.state.program.now (now r) 0 r.state.budget (pair m n)) done) (is : IsRan done.outcome)
     (outs : List Out) (drops : List ℕ) (next_at : IsNext r (Fire m n outs drops)) (t : State) (program : t.program ≡ r.state.program) (budget : t.budget ≡ r.state.budget) (there : IsAt (now r) (remove (now r).pending at) t) where
   -- it may be put where it was taken, and there is room for it
   fire_may : HasRoomFor done.outcome t.shared t.notes → state.MayFire (now r) t done

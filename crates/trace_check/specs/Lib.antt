@@ -2,4 +2,4 @@
 pub mod Judging
 -- ---- what is known of the events so far, and what is kept of them
 pub mod Going
-pub mod Replays
+pub mod JudgedParts

@@ -5,9 +5,9 @@ ghost use Rattle.estelle_model.specs.declared.event.Event.TheVariants as told;
 ghost use Rattle.estelle_model.specs.Runs.{IsRun};
 ghost use Rattle.estelle_model_legality.specs.Instances.{LeadsToStates};
 ghost use Rattle.effect_log.specs.Putting.{IsRan};
-ghost use Rattle.trace_check.specs.Replays.{IsFresh, IsOf, HasBegun};
+ghost use Rattle.trace_check.specs.JudgedParts.{IsFresh, IsOf, HasBegun};
 
-use crate::replay::Replay;
+use crate::judged_part::JudgedPart;
 use body_program::Program;
 use body_walker::fire_plain;
 use estelle_model::{Done, Event, Out};
@@ -22,11 +22,11 @@ fn fresh<'a>(
     program: &'a Program<'a>,
     budget: u32,
     events: &'a [Event],
-) -> Result<Replay<'a>, AllocError>
+) -> Result<JudgedPart<'a>, AllocError>
     ensures fresh { IfOk result IsFresh }
     ensures of { IfOk result (IsOf program.now budget events.now) }
 {
-    Ok(Replay {
+    Ok(JudgedPart {
         state: State::bare(alloc, program, budget)?,
         events,
         count: 0,
@@ -34,10 +34,10 @@ fn fresh<'a>(
     })
 }
 
-impl Replay<'_> {
+impl JudgedPart<'_> {
     ghost use Rattle.estelle_model.specs.Firing.{bare};
     ghost use Rattle.situation_state.specs.Firings.{MayFire, IsFired};
-    ghost use Rattle.trace_check.specs.Replays.{IsNext, HasJudged, MayBegin, FailsFirst};
+    ghost use Rattle.trace_check.specs.JudgedParts.{IsNext, HasJudged, MayBegin, FailsFirst};
 
     /// Puts what the initialization did.
     fn put_first(&mut self, done: Done)
@@ -109,19 +109,19 @@ pub(crate) fn begin<'a>(
     budget: u32,
     events: &'a [Event],
     first: &Event,
-) -> Result<Option<Replay<'a>>, AllocError>
+) -> Result<Option<JudgedPart<'a>>, AllocError>
     requires leads { LeadsToStates program.now }
     requires few { length events.now < 2 ^ 31 }
     requires room { budget * length events.now < 2 ^ 63 }
     requires first { slice_get events.now 0 ≡ Some first.now }
     ensures { IfOk result (λ begun. MatchOption begun (IsRun program.now budget (take 1 events.now) → ⊥) (HasBegun program.now budget events.now)) }
 {
-    let mut replay = fresh(alloc, program, budget, events)?;
-    let job = replay.state.start_job(alloc)?;
+    let mut judged_part = fresh(alloc, program, budget, events)?;
+    let job = judged_part.state.start_job(alloc)?;
     let done = fire_plain(alloc, program, job)?;
-    replay.state.reserve(alloc, &done)?;
-    if replay.judge_first(done, first) {
-        Ok(Some(replay))
+    judged_part.state.reserve(alloc, &done)?;
+    if judged_part.judge_first(done, first) {
+        Ok(Some(judged_part))
     } else {
         Ok(None)
     }

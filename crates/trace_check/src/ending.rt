@@ -6,7 +6,7 @@ ghost use Rattle.estelle_model.specs.Ends.{IsDead, Closes};
 ghost use Rattle.transition_select.specs.declared.countings.Counting.{Counting as Seen};
 
 use crate::equality::same_kind;
-use crate::replay::Replay;
+use crate::judged_part::JudgedPart;
 use body_walker::ByTrees;
 use estelle_model::End;
 use estelle_tree::Path;
@@ -26,9 +26,9 @@ fn none_counted(counts: &[Counting]) -> bool
     true
 }
 
-impl Replay<'_> {
+impl JudgedPart<'_> {
     ghost use Rattle.trace_check.specs.Going.{AreOff};
-    ghost use Rattle.trace_check.specs.Replays.{IsOpen, IsReplay, now};
+    ghost use Rattle.trace_check.specs.JudgedParts.{IsOpen, IsJudgedPart, now};
 
     /// Whether no transition at or below a system is enabled.
     fn is_off(&self, alloc: Global, system: &Path) -> Result<bool, AllocError>
@@ -83,7 +83,7 @@ impl Replay<'_> {
 
     /// Whether the run may end so after all its events.
     pub(crate) fn may_end(&self, alloc: Global, end: End) -> Result<bool, AllocError>
-        requires keeps { IsReplay self.now }
+        requires keeps { IsJudgedPart self.now }
         requires all { self.now.count ≡ length self.now.events.now }
         ensures { IfOk result (λ may. IsTrue may ↔ (Closes self.now.state.program.now self.now.state.budget self.now.events.now end)) }
     {

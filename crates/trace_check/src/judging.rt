@@ -7,38 +7,43 @@ ghost use Rattle.estelle_model_fates.specs.Fates.{HaveOneFate};
 ghost use Rattle.estelle_model_fates.specs.Order.{AreFirstInFirstOut};
 ghost use Rattle.estelle_model_legality.specs.Instances.{LeadsToStates};
 ghost use Rattle.trace_check.specs.Judging.{IsRunTo, IsRefused};
-ghost use Rattle.trace_check.specs.Replays.{HasBegun};
+ghost use Rattle.trace_check.specs.JudgedParts.{HasBegun};
 
 use crate::begin::begin;
 use crate::error::JudgeError;
-use crate::replay::Replay;
+use crate::judged_part::JudgedPart;
 use accepted_program::AcceptedProgram;
 use estelle_model::{End, Run};
 use estelle_model_fates::{first_in_is_first_out, outputs_have_one_fate};
 use std::alloc::Global;
 
 /// Judges the events after the first, and the end.
-fn judge_rest(alloc: Global, mut replay: Replay, count: usize, end: End) -> Result<(), JudgeError>
+fn judge_rest(
+    alloc: Global,
+    mut judged_part: JudgedPart,
+    count: usize,
+    end: End,
+) -> Result<(), JudgeError>
     requires few { count < 2 ^ 31 }
-    requires all { count ≡ length replay.events.now }
-    requires begun { HasBegun replay.state.program.now replay.state.budget replay.events.now replay }
-    requires leads { LeadsToStates replay.state.program.now }
-    ensures run { IfOk result (λ _. IsRunTo replay.entry.state.program.now replay.entry.state.budget replay.entry.events.now end) }
-    ensures fates { IfOk result (λ _. HaveOneFate replay.entry.state.program.now replay.entry.state.budget replay.entry.events.now) }
-    ensures order { IfOk result (λ _. AreFirstInFirstOut replay.entry.state.program.now replay.entry.state.budget replay.entry.events.now) }
-    ensures refused { IfErr result (IsRefused replay.entry.state.program.now replay.entry.state.budget replay.entry.events.now end) }
+    requires all { count ≡ length judged_part.events.now }
+    requires begun { HasBegun judged_part.state.program.now judged_part.state.budget judged_part.events.now judged_part }
+    requires leads { LeadsToStates judged_part.state.program.now }
+    ensures run { IfOk result (λ _. IsRunTo judged_part.entry.state.program.now judged_part.entry.state.budget judged_part.entry.events.now end) }
+    ensures fates { IfOk result (λ _. HaveOneFate judged_part.entry.state.program.now judged_part.entry.state.budget judged_part.entry.events.now) }
+    ensures order { IfOk result (λ _. AreFirstInFirstOut judged_part.entry.state.program.now judged_part.entry.state.budget judged_part.entry.events.now) }
+    ensures refused { IfErr result (IsRefused judged_part.entry.state.program.now judged_part.entry.state.budget judged_part.entry.events.now end) }
 {
     outputs_have_one_fate();
     first_in_is_first_out();
-    let events = replay.events;
+    let events = judged_part.events;
     for index in 1..count {
-        if !replay.step(alloc, &events[index])? {
+        if !judged_part.step(alloc, &events[index])? {
             return Err(JudgeError::NotARun {
                 entry: index as u32 + 1,
             });
         }
     }
-    if replay.may_end(alloc, end)? {
+    if judged_part.may_end(alloc, end)? {
         Ok(())
     } else {
         Err(JudgeError::NotARun {
@@ -69,6 +74,6 @@ pub fn judge(
     let begun = begin(alloc, program.program(), budget, events, first)?;
     match begun {
         None => Err(JudgeError::NotARun { entry: 1 }),
-        Some(replay) => judge_rest(alloc, replay, events.len(), end),
+        Some(judged_part) => judge_rest(alloc, judged_part, events.len(), end),
     }
 }

@@ -9,9 +9,9 @@ mod begin;
 mod ending;
 mod equality;
 mod error;
+mod judged_part;
 mod judging;
 mod putting;
-mod replay;
 
 pub use error::JudgeError;
 pub use judging::judge;

@@ -5,7 +5,7 @@ use Rattle.estelle_model.specs.declared.event.Event.{Event}
 use Rattle.estelle_model.specs.Runs.{IsRun}
 use Rattle.estelle_model_fates.specs.Fates.{HaveOneFate}
 use Rattle.estelle_model_fates.specs.Order.{AreFirstInFirstOut}
-use Rattle.trace_check.specs.Replays.{HasBegun}
+use Rattle.trace_check.specs.JudgedParts.{HasBegun}
 use Rattle.trace_check.proofs.Judged.{empty_if, told_of}
 use Rattle.trace_check.proofs.Refusing.{no_events, wrong_first}
 use Rattle.trace_check.proofs.judging.judge.Goals as goal
@@ -29,7 +29,7 @@ returns-in-Some-begun-clause-fates c =
     let s = c.program.result.now in
     let b = c.args.budget in
     let es = c.as_slice-events.result.now in
-    let l = c.in-Some-begun.replay in
+    let l = c.in-Some-begun.judged_part in
     let begun = subst (λ x. MatchOption x (IsRun s b (take 1 es) → ⊥) (HasBegun s b es)) c.in-Some-begun.is c.in_ok-begun.ensures in
     rw (← c.program.ensures.same) (told_of HaveOneFate c.judge_rest.result s b es c.args.run.now.events l begun.of c.as_slice-events.ensures c.judge_rest.ensures.fates)
 
@@ -38,6 +38,6 @@ returns-in-Some-begun-clause-order c =
     let s = c.program.result.now in
     let b = c.args.budget in
     let es = c.as_slice-events.result.now in
-    let l = c.in-Some-begun.replay in
+    let l = c.in-Some-begun.judged_part in
     let begun = subst (λ x. MatchOption x (IsRun s b (take 1 es) → ⊥) (HasBegun s b es)) c.in-Some-begun.is c.in_ok-begun.ensures in
     rw (← c.program.ensures.same) (told_of AreFirstInFirstOut c.judge_rest.result s b es c.args.run.now.events l begun.of c.as_slice-events.ensures c.judge_rest.ensures.order)

@@ -6,7 +6,7 @@ use Rattle.situation.proofs.world.World.reserve.Goals as goal
 
 pub invariant_of-self : goal.invariant_of-self
 invariant_of-self g c =
-    let old = c.self.inside.course in
+    let old = c.self.inside.execution in
     let n = c.reserve.new.self in
     let same = reserved_same old n c.reserve.ensures.same in (
       reserved_kept old n c.self.invariant.0 c.reserve.ensures.same,
