@@ -6,4 +6,6 @@ mod log;
 mod one_thread;
 #[cfg(test)]
 mod two_threads;
+#[cfg(test)]
+mod workers;
 mod writing;

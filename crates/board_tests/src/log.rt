@@ -35,7 +35,8 @@ impl<'a> Recorded for Log<'a> {
 
 impl<'a> Log<'a> {
     pub fn none(alloc: Global, title: &'a u64) -> Log<'a>
-        ensures { result.lines.items ≡ [] }
+        ensures title { result.title.now ≡ title.now }
+        ensures lines { result.lines.items ≡ [] }
     {
         Log {
             title,

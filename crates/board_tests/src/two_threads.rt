@@ -9,7 +9,7 @@ use std::test::Fail;
 use std::thread::{Threads, join};
 use turn_board::Board;
 
-const LINES: u64 = 2000;
+pub(crate) const LINES: u64 = 2000;
 
 fn in_two<'a, R: Threads + Wait + Sync>(
     rt: &R,
@@ -37,7 +37,7 @@ fn in_two<'a, R: Threads + Wait + Sync>(
 }
 
 // This writer has all its lines, 0, 1, .. in order.
-fn has_all(lines: &[Line], by: u32) -> bool {
+pub(crate) fn has_all(lines: &[Line], by: u32) -> bool {
     let count = lines.iter().filter(|line| line.by == by).count();
     let mut own = lines.iter().filter(|line| line.by == by).enumerate();
     count as u64 == LINES && own.all(|(place, line)| line.what == place as u64)

@@ -8,6 +8,8 @@ mod link_ops_calls;
 #[cfg(test)]
 mod module_tree_calls;
 #[cfg(test)]
+mod offer_table_calls;
+#[cfg(test)]
 mod queue_store_calls;
 #[cfg(test)]
 mod run_history_calls;

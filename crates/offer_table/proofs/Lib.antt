@@ -1,0 +1,4 @@
+pub mod PathLaws
+pub mod OrderLaws
+pub mod TableLaws
+pub mod FoundLaws

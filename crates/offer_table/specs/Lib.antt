@@ -1,0 +1,6 @@
+-- ---- lists in path order
+pub mod Order
+-- ---- the table
+pub mod Tables
+-- ---- how it is searched
+pub mod Searches
