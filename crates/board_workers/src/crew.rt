@@ -6,18 +6,19 @@ ghost use Rattle.estelle_model_legality.specs.Jobs.{IsJob};
 ghost use Rattle.turn_board.specs.Passes.{own};
 ghost use Rattle.board_threads.specs.Workers.{IsFree, MayWork};
 ghost use Rattle.board_runner.specs.Histories.{subject_of};
+ghost use Rattle.board_runner.specs.Turns.{IsToCommit};
 ghost use Rattle.board_workers.specs.Jobs.{IsSamePass, HasJob, HasWork};
 
 use crate::gate::Gate;
 use crate::news::News;
-use crate::turns::{ask, hand_in};
+use crate::turns::{ask, give, hand_in};
 use board_runner::{RunBoard, RunPass, Work};
 use board_threads::Labour;
 use body_jobs::jobs_may_be_fired;
 use compiled_program::CompiledProgram;
 use estelle_model::{Done, Job};
 use outside::{Chooser, Clock};
-use situation::World;
+use situation::{Committed, World};
 use std::alloc::Global;
 use std::sync::Wait;
 use turn_board::{Board, Pass};
@@ -31,11 +32,19 @@ pub(crate) struct Crew<'p, 'q, 'g, G> {
     pub(crate) alloc: Global,
 }
 
+// How often in a row a worker meets others on its way to a turn before it rests: then bodies are so short that turns are what is wanted, and
+// more workers only make them dearer.
+const CROWDS: u32 = 3;
+
 /// What a worker was told in its last turn, and how much news there was before it.
 #[derive(Drop)]
 struct Told {
     work: Work,
     heard: u64,
+    /// How often in a row it met others on its way to a turn.
+    crowds: u32,
+    /// Whether it waits for more news first.
+    rests: bool,
 }
 
 impl<G: Gate> Crew<'_, '_, '_, G> {
@@ -52,6 +61,61 @@ impl<G: Gate> Crew<'_, '_, '_, G> {
         done
     }
 
+    // Commits a firing, and goes on in the same turn. There is no answer for want of memory.
+    fn go_on_behind<'a, C: Clock, H: Chooser + Drop, R: Wait>(
+        &self,
+        rt: &R,
+        board: &RunBoard<'a, C, H>,
+        pass: &mut RunPass<'a, C, H>,
+        done: Done,
+        crowds: u32,
+    ) -> Option<Told>
+        requires free { IsFree board.now pass.old }
+        requires its { IsToCommit (own pass.old) done }
+        ensures same { IsSamePass pass.old pass.new }
+        ensures has { IfSome result (λ told. HasWork (own pass.new) told.work) }
+    {
+        let heard = self.news.heard();
+        let work = hand_in(rt, self.alloc, board, pass, done);
+        self.news.go();
+        Some(Told {
+            work: work?,
+            heard,
+            crowds,
+            rests: false,
+        })
+    }
+
+    // Commits a firing, and rests, unless the run has ended. There is no answer for want of memory.
+    //
+    // Who rests has told one who sleeps, if there is one, who then asks; else others are awake, and will have a turn behind this one.
+    fn rest_behind<'a, C: Clock, H: Chooser + Drop, R: Wait>(
+        &self,
+        rt: &R,
+        board: &RunBoard<'a, C, H>,
+        pass: &mut RunPass<'a, C, H>,
+        done: Done,
+    ) -> Option<Told>
+        requires free { IsFree board.now pass.old }
+        requires its { IsToCommit (own pass.old) done }
+        ensures same { IsSamePass pass.old pass.new }
+        ensures has { IfSome result (λ told. HasWork (own pass.new) told.work) }
+    {
+        let committed = give(rt, self.alloc, board, pass, done);
+        self.news.go();
+        let rests = match committed? {
+            Committed::Fired => true,
+            Committed::Faulted => false,
+            Committed::Late(_) => false,
+        };
+        Some(Told {
+            work: Work::Moved,
+            heard: self.news.hand_over(),
+            crowds: 0,
+            rests,
+        })
+    }
+
     // Computes a firing and commits it. There is no answer for want of memory.
     fn perform<'a, C: Clock, H: Chooser + Drop, R: Wait>(
         &self,
@@ -59,6 +123,7 @@ impl<G: Gate> Crew<'_, '_, '_, G> {
         board: &RunBoard<'a, C, H>,
         pass: &mut RunPass<'a, C, H>,
         job: Job,
+        crowds: u32,
     ) -> Option<Told>
         requires free { IsFree board.now pass.old }
         requires code { self.now.code.now ≡ subject_of (own pass.old).base }
@@ -66,13 +131,19 @@ impl<G: Gate> Crew<'_, '_, '_, G> {
         ensures same { IsSamePass pass.old pass.new }
         ensures has { IfSome result (λ told. HasWork (own pass.new) told.work) }
     {
+        // What else is pending is for another.
+        self.news.call();
         let done = self.compute(rt, job)?;
-        let heard = self.news.heard();
-        let work = hand_in(rt, self.alloc, board, pass, done);
-        self.news.tell();
-        // what it told itself is no news to it
-        let heard = heard.wrapping_add(1);
-        Some(Told { work: work?, heard })
+        let crowds = if self.news.come() {
+            crowds.saturating_add(1)
+        } else {
+            0
+        };
+        if crowds < CROWDS {
+            self.go_on_behind(rt, board, pass, done, crowds)
+        } else {
+            self.rest_behind(rt, board, pass, done)
+        }
     }
 
     // Asks for something to do. There is no answer for want of memory.
@@ -81,14 +152,22 @@ impl<G: Gate> Crew<'_, '_, '_, G> {
         rt: &R,
         board: &RunBoard<'a, C, H>,
         pass: &mut RunPass<'a, C, H>,
+        crowds: u32,
     ) -> Option<Told>
         requires { IsFree board.now pass.old }
         ensures same { IsSamePass pass.old pass.new }
         ensures has { IfSome result (λ told. HasWork (own pass.new) told.work) }
     {
         let heard = self.news.heard();
-        let work = ask(rt, self.alloc, board, pass)?;
-        Some(Told { work, heard })
+        let _crowded = self.news.come();
+        let work = ask(rt, self.alloc, board, pass);
+        self.news.go();
+        Some(Told {
+            work: work?,
+            heard,
+            crowds,
+            rests: false,
+        })
     }
 
     // Where there is nothing, memory was missing: the others are told to stop.
@@ -118,17 +197,24 @@ impl<G: Gate> Crew<'_, '_, '_, G> {
         if self.news.has_failed() {
             return None;
         }
-        let Told { work, heard } = told;
+        let Told {
+            work,
+            heard,
+            crowds,
+            rests,
+        } = told;
+        if rests {
+            self.news.wait_past(rt, heard);
+        }
         match work {
-            Work::Job(job) => self.or_give_up(self.perform(rt, board, pass, job)),
-            Work::Moved => self.or_give_up(self.inquire(rt, board, pass)),
-            Work::Idle(_) => {
-                self.news.wait_past(rt, heard);
-                Some(Told {
-                    work: Work::Moved,
-                    heard,
-                })
-            }
+            Work::Job(job) => self.or_give_up(self.perform(rt, board, pass, job, crowds)),
+            Work::Moved => self.or_give_up(self.inquire(rt, board, pass, crowds)),
+            Work::Idle(_) => Some(Told {
+                work: Work::Moved,
+                heard,
+                crowds: 0,
+                rests: true,
+            }),
             Work::Ended(_) => {
                 self.news.tell();
                 None
@@ -149,6 +235,8 @@ impl<'a, C: Clock, H: Chooser + Drop, G: Gate> Labour<World<'a, C, H>> for Crew<
         let mut told = Told {
             work: Work::Moved,
             heard: 0,
+            crowds: 0,
+            rests: false,
         };
         for _ in rt.forever() {
             match self.go_on(rt, board, pass, told) {

@@ -7,11 +7,14 @@ use std::sync::atomic::{AtomicBool, AtomicU64, Ordering};
 // How often a worker looks for news before it sleeps.
 const LOOKS: u32 = 200;
 
-/// How much news there was, how many wait for more, and whether a worker gave up.
+/// How much news there was, how many wait for more, how many have a turn or wait for one, and whether a worker gave up.
 #[derive(Drop)]
 pub(crate) struct News {
     told: AtomicU64,
     asleep: AtomicU64,
+    // Whether a sleeper was called for what is pending, and has not come yet.
+    is_called: AtomicBool,
+    in_turns: AtomicU64,
     failed: AtomicBool,
 }
 
@@ -20,6 +23,8 @@ impl News {
         News {
             told: AtomicU64::new(0),
             asleep: AtomicU64::new(0),
+            is_called: AtomicBool::new(false),
+            in_turns: AtomicU64::new(0),
             failed: AtomicBool::new(false),
         }
     }
@@ -34,11 +39,37 @@ impl News {
         self.failed.load(Ordering::SeqCst)
     }
 
-    /// One piece of news more.
+    /// A worker asks for a turn. The answer is whether others have one or wait for one.
+    pub(crate) fn come(&self) -> bool {
+        self.in_turns.fetch_add(1, Ordering::SeqCst) > 0
+    }
+
+    /// Its turn is over.
+    pub(crate) fn go(&self) {
+        self.in_turns.fetch_sub(1, Ordering::SeqCst);
+    }
+
+    /// One piece of news more, for all.
     pub(crate) fn tell(&self) {
         self.told.fetch_add(1, Ordering::SeqCst);
         if self.asleep.load(Ordering::SeqCst) > 0 {
             self.told.wake_all();
+        }
+    }
+
+    /// One piece of news more, for one who sleeps. The answer is how much there was then.
+    pub(crate) fn hand_over(&self) -> u64 {
+        let before = self.told.fetch_add(1, Ordering::SeqCst);
+        if self.asleep.load(Ordering::SeqCst) > 0 {
+            self.told.wake_one();
+        }
+        before.wrapping_add(1)
+    }
+
+    /// Calls one who sleeps, if there is one, unless one was called who has not come yet.
+    pub(crate) fn call(&self) {
+        if self.asleep.load(Ordering::SeqCst) > 0 && !self.is_called.swap(true, Ordering::SeqCst) {
+            self.hand_over();
         }
     }
 
@@ -64,6 +95,7 @@ impl News {
             hint::spin_loop();
         }
         self.asleep.fetch_add(1, Ordering::SeqCst);
+        self.is_called.store(false, Ordering::SeqCst);
         for _ in rt.forever() {
             if self.has_come(heard) {
                 break;
@@ -71,5 +103,6 @@ impl News {
             self.told.park(rt, (heard % (1 << 32)) as u32);
         }
         self.asleep.fetch_sub(1, Ordering::SeqCst);
+        self.is_called.store(false, Ordering::SeqCst);
     }
 }

@@ -1,11 +1,10 @@
 -- An input that is what it is to be is none to refuse, and one that is refused has one reason.
-use Rattle.std.proofs.Common.{◌≡◌, ℕ, ◌≤◌, Bool, true, false, List, length, drop, Option, Some, None, Result, Ok, Err, sym, ap, ◌∙◌, subst, refl, arith}
-use Rattle.std.specs.Prelude.{IfSome, IsSomeAnd, IsNone, IsTrue}
+use Rattle.std.proofs.Common.{◌≡◌, ℕ, ◌≤◌, false, List, length, drop, Option, Some, None, Result, Ok, Err, sym, ap, ◌∙◌, subst, refl, arith}
+use Rattle.std.specs.Prelude.{IfSome, IsSomeAnd, IsNone}
 use Rattle.std.proofs.lemmas.Bool.Decides.{nat_tests}
 use Rattle.estelle_tree.specs.declared.token.Placed.{Placed}
 use Rattle.estelle_tree.specs.declared.tree.specification.Spec.{Spec}
 use Rattle.estelle_tree.specs.Input.{first_start}
-use Rattle.estelle_tree.specs.Lexed.{IsBlankFrom, IsFirstOther}
 use Rattle.estelle_tree.specs.Spells.{Spells}
 use Rattle.estelle_parser.specs.Answers.{IsFirstRefused}
 use Rattle.estelle_parser.proofs.Whole as parser
@@ -25,7 +24,7 @@ use Rattle.estelle_cli.specs.declared.contents.Contents.TheVariants.{Alone, Trac
 use Rattle.estelle_cli.specs.declared.outcome.Place.{Place}
 use Rattle.estelle_cli.specs.declared.outcome.Refusal.{Refusal}
 use Rattle.estelle_cli.specs.declared.outcome.Refusal.TheVariants.{TooLong, Bytes, TextAfterEnd, Syntax, Rule, BadTraceLine, NotARun}
-use Rattle.estelle_cli.specs.Input.{input_limit, subject, behind_line, IsEnded, IsOther, HasTokens, IsTextOf, Reads, HasTrace, Tells, Replays, IsInput, HasNoTokens, HasTextAfterEnd, HasNoTree, HasNoTreeAt, BreaksRule, IsNoTrace, IsNoRun, HasBadLine, HasWrongEntry, Refuses, IsRefusable, place_of}
+use Rattle.estelle_cli.specs.Input.{input_limit, subject, behind_line, IsEnded, IsOther, HasTokens, IsTextOf, Reads, HasTrace, Tells, Replays, IsInput, HasNoTokens, HasTextAfterEnd, HasNoTree, HasNoTreeAt, BreaksRule, HasBadLine, HasWrongEntry, Refuses, IsRefusable, place_of}
 use Rattle.estelle_cli.specs.declared.outcome.Close.{Close}
 use Rattle.estelle_cli.specs.declared.task.Task.{Task}
 use Rattle.estelle_cli.specs.declared.task.Task.TheVariants.{Run, Check, Show, Code, Replay, Make, Trial}
@@ -314,15 +313,15 @@ module _ (one : OneTree) where
   alone_refused left t reads r input is refuses = input_or_refused Alone r input (t, at_some (λ i. Reads Alone i t) left input is reads) refuses
 
   -- an input of which something is written is none to refuse
-  pub output_refused : (task : Task) (clock : Option ℕ) (left : Option (List ℕ)) (c : Close) (text : List ℕ) → IsOutput task clock left c text → (r : Refusal) (input : List ℕ) → left ≡ Some input → ReadsInput task × IsRefusable (contents_of task) r input → ⊥
-  output_refused (Run limits seed) clock left c text h r input is refuses = alone_refused left h.2.specification h.2.input r input is refuses.1
-  output_refused Check clock left c text h r input is refuses = alone_refused left h.1.specification h.1.input r input is refuses.1
-  output_refused Show clock left c text h r input is refuses = alone_refused left h.1.specification h.1.input r input is refuses.1
-  output_refused Code clock left c text h r input is refuses = alone_refused left h.1.specification h.1.input r input is refuses.1
-  output_refused (Replay budget) clock left c text h r input is refuses =
+  pub output_refused : (is_chosen : ℕ → Type 0) (task : Task) (clock : Option ℕ) (left : Option (List ℕ)) (c : Close) (text : List ℕ) → IsOutput is_chosen task clock left c text → (r : Refusal) (input : List ℕ) → left ≡ Some input → ReadsInput task × IsRefusable (contents_of task) r input → ⊥
+  output_refused is_chosen (Run limits seed workers) clock left c text h r input is refuses = alone_refused left h.2.specification h.2.input r input is refuses.1
+  output_refused is_chosen Check clock left c text h r input is refuses = alone_refused left h.1.specification h.1.input r input is refuses.1
+  output_refused is_chosen Show clock left c text h r input is refuses = alone_refused left h.1.specification h.1.input r input is refuses.1
+  output_refused is_chosen Code clock left c text h r input is refuses = alone_refused left h.1.specification h.1.input r input is refuses.1
+  output_refused is_chosen (Replay budget) clock left c text h r input is refuses =
       input_or_refused (Traced budget) r input (h.1.count, at_some (λ i. Replays budget i h.1.count) left input is h.1.input) refuses.1
-  output_refused (Make n) clock left c text h r input is refuses = absurd refuses.0
-  output_refused (Trial n limits seed) clock left c text h r input is refuses = absurd refuses.0
+  output_refused is_chosen (Make n) clock left c text h r input is refuses = absurd refuses.0
+  output_refused is_chosen (Trial n limits seed) clock left c text h r input is refuses = absurd refuses.0
 
   -- and one that is what it is to be is not refused
   pub refused_input : (contents : Contents) (left : Option (List ℕ)) (r : Refusal) (input : List ℕ) → IfSome left (Refuses contents r) → left ≡ Some input → IsInput contents input → ⊥

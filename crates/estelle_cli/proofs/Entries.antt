@@ -1,5 +1,5 @@
 -- The front of a run is a run, so one entry at most is the first that does not apply.
-use Rattle.std.proofs.Common.{◌≡◌, ℕ, zero, suc, ◌<◌, ◌≤◌, ◌⊎◌, inl, inr, List, [], ◌∷◌, length, take, refl, sym, ap, ◌∙◌, subst, arith}
+use Rattle.std.proofs.Common.{◌≡◌, ℕ, zero, suc, ◌<◌, ◌≤◌, ◌⊎◌, inl, inr, List, [], ◌∷◌, length, take, refl, ap, subst, arith}
 use Rattle.std.proofs.lemmas.List.{take-take}
 use Rattle.estelle_model.specs.declared.event.Event.{Event}
 use Rattle.estelle_model.specs.declared.event.Event.TheVariants.{Start, Select, Fire, Fault}
@@ -8,7 +8,6 @@ use Rattle.estelle_model.specs.Subject.{Subject}
 use Rattle.estelle_model.specs.Situation.{Situation}
 use Rattle.estelle_model.specs.Firing.{Firing, Ran, Failed, Undefined, start}
 use Rattle.estelle_model.specs.Runs.{IsLastIfFault, Goes, Begins, IsRun, next}
-use Rattle.estelle_model.specs.Ends.{Closes}
 use Rattle.trace_check.specs.Judging.{IsRunTo, Apply, IsFirstWrong}
 
 take_none : (n : ℕ) (es : List Event) → es ≡ [] → take n es ≡ []

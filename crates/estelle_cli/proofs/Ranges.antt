@@ -4,7 +4,7 @@ use Rattle.std.specs.Prelude.{◌&&◌, nat_le, if◌then◌else◌, IfSome, cod
 use Rattle.std.proofs.lemmas.Bool.Decides.{nat_tests}
 use Rattle.std.proofs.Math.Nat.{mul-le-mul_left}
 use Rattle.std.specs.Str.Parse.{digits_value}
-use Rattle.estelle_words.specs.Words.{Text, Pair, meaning, command_of, pairs_of, word_of, fits, options_of, value_in, settings_by, settings_if_fit, number_in, number_or, number_if_any, greatest_seed, is_decimal}
+use Rattle.estelle_words.specs.Words.{Text, Pair, meaning, command_of, pairs_of, word_of, fits, options_of, value_in, settings_by, settings_if_fit, number_or, number_if_any, greatest_seed, is_decimal}
 use Rattle.estelle_words.specs.declared.command.Settings.{Settings}
 use Rattle.estelle_words.specs.declared.command.Command.{Command}
 use Rattle.estelle_words.specs.declared.command.Command.TheVariants as command
@@ -39,6 +39,7 @@ ranged low high default above below (Some text) = tested (is_decimal text) low h
 
 record HasRange (set : Settings) : Type 0 where
   pub turns : set.turns ≤ 1000000
+  pub workers : set.workers ≤ 64
   pub budget : set.budget ≤ 100000000
   pub stations : IsFrom 2 200 set.stations
 
@@ -46,17 +47,17 @@ settings_ranged : (c : Command) (value : Text → Option Text) → IfSome (setti
 settings_ranged c value =
     go (number_or 0 1000000 10000 (value (codes "turns"))) (number_if_any 0 greatest_seed (value (codes "seed"))) (number_or 0 64 0 (value (codes "workers")))
     (number_or 1 100000000 1000000 (value (codes "budget"))) (number_or 2 200 2 (value (codes "stations")))
-    (ranged 0 1000000 10000 (omega arith) (omega arith) (value (codes "turns"))) (ranged 1 100000000 1000000 (omega arith) (omega arith) (value (codes "budget")))
+    (ranged 0 1000000 10000 (omega arith) (omega arith) (value (codes "turns"))) (ranged 0 64 0 (omega arith) (omega arith) (value (codes "workers"))) (ranged 1 100000000 1000000 (omega arith) (omega arith) (value (codes "budget")))
     (ranged 2 200 2 (omega arith) (omega arith) (value (codes "stations")))
   where
-    go : (turns : Option ℕ) (seed : Option (Option ℕ)) (workers budget stations : Option ℕ) → IfSome turns (IsFrom 0 1000000) → IfSome budget (IsFrom 1 100000000) → IfSome stations (IsFrom 2 200)
+    go : (turns : Option ℕ) (seed : Option (Option ℕ)) (workers budget stations : Option ℕ) → IfSome turns (IsFrom 0 1000000) → IfSome workers (IsFrom 0 64) → IfSome budget (IsFrom 1 100000000) → IfSome stations (IsFrom 2 200)
         → IfSome (turns >>= λ t. seed >>= λ s. workers >>= λ w. budget >>= λ b. stations >>= λ n. Some (record { command = c; turns = t; seed = s; workers = w; budget = b; stations = n })) HasRange
-    go None seed workers budget stations h i j = tt
-    go (Some t) None workers budget stations h i j = tt
-    go (Some t) (Some s) None budget stations h i j = tt
-    go (Some t) (Some s) (Some w) None stations h i j = tt
-    go (Some t) (Some s) (Some w) (Some b) None h i j = tt
-    go (Some t) (Some s) (Some w) (Some b) (Some n) h i j = record { turns = h.1; budget = i.1; stations = j }
+    go None seed workers budget stations h k i j = tt
+    go (Some t) None workers budget stations h k i j = tt
+    go (Some t) (Some s) None budget stations h k i j = tt
+    go (Some t) (Some s) (Some w) None stations h k i j = tt
+    go (Some t) (Some s) (Some w) (Some b) None h k i j = tt
+    go (Some t) (Some s) (Some w) (Some b) (Some n) h k i j = record { turns = h.1; workers = k.1; budget = i.1; stations = j }
 
 fitting : (c : Command) (ps : List Pair) → IfSome (settings_if_fit c ps) HasRange
 fitting c ps = by (fits (options_of c) ps)
@@ -77,7 +78,7 @@ meant (word ∷ rest) = go (command_of word) (pairs_of (map word_of rest))
 -- ---- tasks
 
 task_ranged : (c : Command) (set : Settings) → HasRange set → IsInRange (task_by c set)
-task_ranged command.Run set h = (h.turns, h.budget)
+task_ranged command.Run set h = ((h.turns, h.budget), h.workers)
 task_ranged command.Check set h = tt
 task_ranged command.Show set h = tt
 task_ranged command.Code set h = tt

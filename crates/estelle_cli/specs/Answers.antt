@@ -1,7 +1,7 @@
 -- What a call of the program answers, and why.
-use Rattle.std.specs.Prelude.{◌≡◌, ℕ, List, ◌++◌, Option, Some, None, IfSome, codes}
+use Rattle.std.specs.Prelude.{◌≡◌, ⊤, ℕ, List, ◌++◌, Option, Some, None, IfSome, codes}
 use Rattle.std.specs.Fmt.{decimal}
-use Rattle.std.specs.Io.KnownBytes.{Appends, IsAtEnd}
+use Rattle.std.specs.Io.KnownBytes.{Appends}
 use Rattle.outside.specs.Counts.{Rose}
 use Rattle.outside.specs.Bytes.{AppendsFront}
 use Rattle.outside.specs.Choices.{seeded, any_drawn}
@@ -41,8 +41,8 @@ use Rattle.estelle_cli.specs.declared.outcome.Close.TheVariants as close
 use Rattle.estelle_cli.specs.declared.outcome.Stop.{Stop}
 use Rattle.estelle_cli.specs.declared.outcome.Stop.TheVariants as stop
 use Rattle.estelle_cli.specs.declared.contents.Contents.TheVariants.{Alone}
-use Rattle.estelle_cli.specs.Tasks.{ReadsInput, contents_of}
-use Rattle.estelle_cli.specs.Input.{subject, Reads, Replays, Refuses, HasStopped}
+use Rattle.estelle_cli.specs.Tasks.{contents_of}
+use Rattle.estelle_cli.specs.Input.{subject, Reads, Replays, HasStopped}
 
 -- ---- what is written to out
 
@@ -59,16 +59,27 @@ abbrev pub chooser_by : Option ℕ → AnyChooser
 chooser_by None = First (record {})
 chooser_by (Some seed) = Seeded (seeded seed)
 
--- A text is the trace of a run of the input's specification that stops with this end: the run's first event is its
--- start, each later one applies to the situation before it, and all are those that the schedule chooses by the seed, or by taking
--- the first candidate each time, and by a clock that tells this moment, or none.
-pub record IsTrace (limits : Limits) (seed clock : Option ℕ) (left : Option (List ℕ)) (e : End) (written : List ℕ) : Type 0 where
+-- the run is the one that the schedule chooses whatever the number of workers, or where there are none alone
+abbrev pub Always : ℕ → Type 0
+Always workers = ⊤
+
+abbrev pub WithoutWorkers : ℕ → Type 0
+WithoutWorkers workers = workers ≡ 0
+
+-- The events are a run of a specification that stops with this end: the first is its start, each later one applies to the situation
+-- before it. Where that is so for the number of workers, they are those that the schedule chooses by the seed, or by taking the first
+-- candidate each time, and by a clock that tells this moment, or none.
+pub record IsExecuted (is_chosen : ℕ → Type 0) (s : Subject) (limits : Limits) (seed clock : Option ℕ) (workers : ℕ) (events : List Event) (e : End) : Type 0 where
+  pub run : IsRun s limits.budget events
+  pub stops : Stops s limits.budget limits.turns events e
+  pub scheduled : is_chosen workers → IsScheduled any_drawn s limits.budget limits.turns clock (chooser_by seed) events e
+
+-- a text is the trace of such events, of the specification that the input spells
+pub record IsTrace (is_chosen : ℕ → Type 0) (limits : Limits) (seed clock : Option ℕ) (workers : ℕ) (left : Option (List ℕ)) (e : End) (written : List ℕ) : Type 0 where
   pub specification : Spec
   pub events : List Event
   pub input : IfSome left (λ bytes. Reads Alone bytes specification)
-  pub run : IsRun (subject specification) limits.budget events
-  pub stops : Stops (subject specification) limits.budget limits.turns events e
-  pub scheduled : IsScheduled any_drawn (subject specification) limits.budget limits.turns clock (chooser_by seed) events e
+  pub executed : IsExecuted is_chosen (subject specification) limits seed clock workers events e
   pub lines : written ≡ text events e
 
 -- an end that no fault made
@@ -127,33 +138,34 @@ pub record IsTried (n : ℕ) (limits : Limits) (seed : Option ℕ) (written : Li
   pub stopped : IsStopped any_drawn (chooser_by seed) (Some 0) (subject specification) limits.budget limits.turns events e
   pub line : written ≡ counts_line events e
 
--- what a task writes, of an input where it reads one, by a clock that tells this moment, or none; and how it was done
-abbrev pub IsOutput : Task → Option ℕ → Option (List ℕ) → Close → List ℕ → Type 0
-IsOutput (Run limits seed) clock left c written = (e : End) × EndsWith c e × IsTrace limits seed clock left e written
-IsOutput Check clock left c written = (c ≡ close.Well) × IsAccepted left × (written ≡ accepted_line)
-IsOutput Show clock left c written = (c ≡ close.Well) × IsShown left written
-IsOutput Code clock left c written = (c ≡ close.Well) × IsListed left written
-IsOutput (Replay budget) clock left c written = (c ≡ close.Well) × IsReplayed budget left written
-IsOutput (Make n) clock left c written = (c ≡ close.Well) × IsMade n written
-IsOutput (Trial n limits seed) clock left c written = (c ≡ close.Well) × IsTried n limits seed written
-
--- out has grown by just that
-pub record Writes (task : Task) (clock : Option ℕ) (left : Option (List ℕ)) (c : Close) (held held' : Option (List ℕ)) : Type 0 where
-  pub written : List ℕ
-  pub output : IsOutput task clock left c written
-  pub appends : Appends held held' written
-
 -- a clock ends a run only where it has failed
 abbrev pub MayClose : Close → ℕ → ℕ → Type 0
 MayClose c asks asks' = c ≡ close.ByClock → Rose asks asks'
 
--- out has grown by a prefix of it
-pub record WritesPrefix (task : Task) (clock : Option ℕ) (asks asks' : ℕ) (left : Option (List ℕ)) (held held' : Option (List ℕ)) : Type 0 where
-  pub close : Close
-  pub cause : MayClose close asks asks'
-  pub written : List ℕ
-  pub output : IsOutput task clock left close written
-  pub appends : AppendsFront held held' written
+module _ (is_chosen : ℕ → Type 0) where
+  -- what a task writes, of an input where it reads one, by a clock that tells this moment, or none; and how it was done
+  abbrev pub IsOutput : Task → Option ℕ → Option (List ℕ) → Close → List ℕ → Type 0
+  IsOutput (Run limits seed workers) clock left c written = (e : End) × EndsWith c e × IsTrace is_chosen limits seed clock workers left e written
+  IsOutput Check clock left c written = (c ≡ close.Well) × IsAccepted left × (written ≡ accepted_line)
+  IsOutput Show clock left c written = (c ≡ close.Well) × IsShown left written
+  IsOutput Code clock left c written = (c ≡ close.Well) × IsListed left written
+  IsOutput (Replay budget) clock left c written = (c ≡ close.Well) × IsReplayed budget left written
+  IsOutput (Make n) clock left c written = (c ≡ close.Well) × IsMade n written
+  IsOutput (Trial n limits seed) clock left c written = (c ≡ close.Well) × IsTried n limits seed written
+
+  -- out has grown by just that
+  pub record Writes (task : Task) (clock : Option ℕ) (left : Option (List ℕ)) (c : Close) (held held' : Option (List ℕ)) : Type 0 where
+    pub written : List ℕ
+    pub output : IsOutput task clock left c written
+    pub appends : Appends held held' written
+
+  -- or by a prefix of it
+  pub record WritesPrefix (task : Task) (clock : Option ℕ) (asks asks' : ℕ) (left : Option (List ℕ)) (held held' : Option (List ℕ)) : Type 0 where
+    pub close : Close
+    pub cause : MayClose close asks asks'
+    pub written : List ℕ
+    pub output : IsOutput task clock left close written
+    pub appends : AppendsFront held held' written
 
 -- nothing went to out
 pub record IsQuiet (held held' : Option (List ℕ)) (faults faults' : ℕ) : Type 0 where
@@ -203,28 +215,6 @@ pub record Reports (held held' : Option (List ℕ)) (faults faults' : ℕ) (word
 
 -- ---- by the status
 
--- the task was done, and its output was written
-abbrev pub IsFinished : Status → Type 0
-IsFinished status.Done = Unit {0}
-IsFinished status.PascalFault = Unit {0}
-IsFinished status.Refused = ⊥
-IsFinished status.Usage = ⊥
-IsFinished status.ReadFault = ⊥
-IsFinished status.WriteFault = ⊥
-IsFinished status.ClockFault = Unit {0}
-IsFinished status.Memory = ⊥
-
--- there was nothing to write
-abbrev pub HasNoOutput : Status → Type 0
-HasNoOutput status.Done = ⊥
-HasNoOutput status.PascalFault = ⊥
-HasNoOutput status.WriteFault = ⊥
-HasNoOutput status.Refused = Unit {0}
-HasNoOutput status.Usage = Unit {0}
-HasNoOutput status.ReadFault = Unit {0}
-HasNoOutput status.ClockFault = ⊥
-HasNoOutput status.Memory = Unit {0}
-
 -- what may be answered where the input is to be refused: the refusal, or what comes before it
 abbrev pub MayRefuse : Status → Type 0
 MayRefuse status.Refused = Unit {0}
@@ -235,17 +225,6 @@ MayRefuse status.Usage = ⊥
 MayRefuse status.WriteFault = ⊥
 MayRefuse status.ClockFault = ⊥
 MayRefuse status.PascalFault = ⊥
-
--- what comes only of an input
-abbrev pub NeedsInput : Status → Type 0
-NeedsInput status.Refused = Unit {0}
-NeedsInput status.ReadFault = Unit {0}
-NeedsInput status.Done = ⊥
-NeedsInput status.Usage = ⊥
-NeedsInput status.WriteFault = ⊥
-NeedsInput status.ClockFault = ⊥
-NeedsInput status.Memory = ⊥
-NeedsInput status.PascalFault = ⊥
 
 -- what may be answered where nothing fails: the task is done, or memory is wanted
 abbrev pub MayFinish : Status → Type 0
@@ -296,19 +275,3 @@ IsRefusedOr refusal (outcome.PascalFault kind) = ⊥
 IsRefusedOr refusal outcome.ClockFault = ⊥
 IsRefusedOr refusal outcome.ReadFault = ⊥
 IsRefusedOr refusal outcome.WriteFault = ⊥
-
--- why a call ended so: by what the source had left and has, what out held and holds, what the clock told, and their counts
-abbrev pub Explains : Task → Option (List ℕ) → Option (List ℕ) → ℕ → ℕ → Option (List ℕ) → Option (List ℕ) → ℕ → ℕ → Option ℕ → ℕ → ℕ → Outcome → Type 0
-Explains task left left' reads reads' held held' writes writes' clock asks asks' outcome.Done =
-    Writes task clock left close.Well held held' × (ReadsInput task → IsAtEnd left')
-Explains task left left' reads reads' held held' writes writes' clock asks asks' (outcome.PascalFault kind) =
-    Writes task clock left (close.Faulted kind) held held' × (ReadsInput task → IsAtEnd left')
-Explains task left left' reads reads' held held' writes writes' clock asks asks' outcome.ClockFault =
-    Writes task clock left close.ByClock held held' × (ReadsInput task → IsAtEnd left') × Rose asks asks'
-Explains task left left' reads reads' held held' writes writes' clock asks asks' (outcome.Refused refusal words) =
-    IfSome left (Refuses (contents_of task) refusal) × (words ≡ refusal_line refusal) × IsQuiet held held' writes writes' × ReadsInput task
-Explains task left left' reads reads' held held' writes writes' clock asks asks' outcome.ReadFault =
-    Rose reads reads' × IsQuiet held held' writes writes' × ReadsInput task
-Explains task left left' reads reads' held held' writes writes' clock asks asks' outcome.WriteFault =
-    Rose writes writes' × WritesPrefix task clock asks asks' left held held'
-Explains task left left' reads reads' held held' writes writes' clock asks asks' outcome.Memory = IsQuiet held held' writes writes'

@@ -2,3 +2,4 @@ pub mod Tasks
 pub mod Statuses
 pub mod Input
 pub mod Answers
+pub mod Calls

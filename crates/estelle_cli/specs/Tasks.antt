@@ -13,9 +13,8 @@ use Rattle.estelle_cli.specs.declared.task.Task.TheVariants.{Run, Check, Show, C
 abbrev pub limits_of : Settings → Limits
 limits_of set = record { turns = set.turns; budget = set.budget }
 
--- a run goes on one thread, whatever the number of workers
 abbrev pub task_by : Command → Settings → Task
-task_by command.Run set = Run (limits_of set) set.seed
+task_by command.Run set = Run (limits_of set) set.seed set.workers
 task_by command.Check set = Check
 task_by command.Show set = Show
 task_by command.Code set = Code
@@ -33,7 +32,7 @@ asked words = option_map task_of (meaning words)
 
 -- it is done with the input
 abbrev pub ReadsInput : Task → Type 0
-ReadsInput (Run limits seed) = ⊤
+ReadsInput (Run limits seed workers) = ⊤
 ReadsInput Check = ⊤
 ReadsInput Show = ⊤
 ReadsInput Code = ⊤
@@ -43,7 +42,7 @@ ReadsInput (Trial n limits seed) = ⊥
 
 -- what its input is to be
 abbrev pub contents_of : Task → Contents
-contents_of (Run limits seed) = Alone
+contents_of (Run limits seed workers) = Alone
 contents_of Check = Alone
 contents_of Show = Alone
 contents_of Code = Alone
@@ -53,7 +52,7 @@ contents_of (Trial n limits seed) = Alone
 
 -- the clock may be asked for it
 abbrev pub AsksClock : Task → Type 0
-AsksClock (Run limits seed) = ⊤
+AsksClock (Run limits seed workers) = ⊤
 AsksClock Check = ⊥
 AsksClock Show = ⊥
 AsksClock Code = ⊥
@@ -69,12 +68,16 @@ IsBudget budget = budget ≤ 100000000
 abbrev pub AreLimits : Limits → Type 0
 AreLimits limits = (limits.turns ≤ 1000000) × IsBudget limits.budget
 
+-- with up to 64 workers, and without any on one thread
+abbrev pub AreWorkers : ℕ → Type 0
+AreWorkers workers = workers ≤ 64
+
 -- a ring has 2 to 200 stations
 abbrev pub AreStations : ℕ → Type 0
 AreStations n = (2 ≤ n) × (n ≤ 200)
 
 abbrev pub IsInRange : Task → Type 0
-IsInRange (Run limits seed) = AreLimits limits
+IsInRange (Run limits seed workers) = AreLimits limits × AreWorkers workers
 IsInRange Check = ⊤
 IsInRange Show = ⊤
 IsInRange Code = ⊤

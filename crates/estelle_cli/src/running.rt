@@ -16,7 +16,7 @@ use spec_accept::Checked;
 use std::alloc::{AllocError, Global};
 
 /// The chooser of a run.
-fn chooser_by(seed: Option<u64>) -> AnyChooser
+pub(crate) fn chooser_by(seed: Option<u64>) -> AnyChooser
     ensures { result ≡ chooser_by seed }
 {
     match seed {
@@ -26,7 +26,7 @@ fn chooser_by(seed: Option<u64>) -> AnyChooser
 }
 
 /// Runs an accepted specification to its end, and gives the clock back.
-pub fn executed<C: Clock>(
+pub(crate) fn executed<C: Clock>(
     alloc: Global,
     checked: &Checked,
     limits: Limits,

@@ -11,10 +11,12 @@ use std::alloc::{AllocError, Global};
 /// What is done.
 #[derive(Clone, Copy, Debug, PartialEq, Eq)]
 pub enum Task {
-    /// The input is run, and the trace of its run is written. Choices are those of the seed, or the first candidates.
+    /// The input is run, and the trace of its run is written. Choices are those of the seed, or the first candidates, and of the order
+    /// in which workers get their turns, where there are any.
     Run {
         limits: Limits,
         seed: Option<u64>,
+        workers: u32,
     },
     /// The rules of the input are judged.
     Check,
@@ -54,6 +56,7 @@ fn task_of(settings: Settings) -> Task
         Command::Run => Task::Run {
             limits: limits_of(settings),
             seed: settings.seed,
+            workers: settings.workers,
         },
         Command::Check => Task::Check,
         Command::Show => Task::Show,

@@ -2,12 +2,14 @@
 //! the process ends. `replay` runs in a thread of its own, with room for the deepest calls of a text.
 #![tactic(auto)]
 
-use estelle_cli::{Status, estelle_plain};
+use board_workers::FreeGate;
+use estelle_cli::{Status, estelle};
 use outside::{MachineClock, StdSink, StdSource, write_all};
 use std::alloc::AllocError;
 use std::io::ErrorKind;
 use std::process::ExitCode;
-use std::thread::Builder;
+use std::sync::Wait;
+use std::thread::{Builder, Threads};
 use std::{env, io};
 
 /// Bytes of stack. 200 calls, each behind 200 levels of a text, were seen to take 80 MB of it on trees.
@@ -29,7 +31,11 @@ fn words(rt: &HostRuntime) -> io::Result<Vec<String>> {
     Ok(words)
 }
 
-fn run(rt: &HostRuntime, words: &[String]) -> Result<Status, AllocError> {
+fn run<R: Threads + Wait + Sync>(
+    rt: &HostRuntime,
+    threads: &R,
+    words: &[String],
+) -> Result<Status, AllocError> {
     let mut texts = Vec::new(rt.alloc());
     for word in words {
         texts.push(word.as_str())?;
@@ -38,7 +44,16 @@ fn run(rt: &HostRuntime, words: &[String]) -> Result<Status, AllocError> {
     let mut out = StdSink::new(rt.stdout());
     let mut err = StdSink::new(rt.stderr());
     let clock = MachineClock::new(rt);
-    let (status, _) = estelle_plain(rt.alloc(), &texts, &mut source, &mut out, &mut err, clock);
+    let (status, _) = estelle(
+        threads,
+        rt.alloc(),
+        &texts,
+        &mut source,
+        &mut out,
+        &mut err,
+        clock,
+        &FreeGate,
+    );
     Ok(status)
 }
 
@@ -57,8 +72,8 @@ fn are_of_replay(words: &[String]) -> bool {
     }
 }
 
-fn answer(rt: &HostRuntime, words: &[String]) -> Status {
-    match run(rt, words) {
+fn answer<R: Threads + Wait + Sync>(rt: &HostRuntime, threads: &R, words: &[String]) -> Status {
+    match run(rt, threads, words) {
         Ok(status) => status,
         Err(_) => no_memory(rt),
     }
@@ -70,13 +85,13 @@ fn main(rt: HostRuntime) -> ExitCode {
             if are_of_replay(&words) {
                 match Builder::new()
                     .stack_size(STACK)
-                    .spawn(&rt, move || answer(&rt, &words))
+                    .spawn(&rt, move || answer(&rt, &rt, &words))
                 {
                     Ok(thread) => thread.join(&rt),
                     Err(_) => no_memory(&rt),
                 }
             } else {
-                answer(&rt, &words)
+                answer(&rt, &rt, &words)
             }
         }
         Err(_) => no_memory(&rt),

@@ -203,6 +203,7 @@ const ASKING: [(&[&str], Task); 11] = [
                 budget: 1_000_000,
             },
             seed: None,
+            workers: 0,
         },
     ),
     (
@@ -213,6 +214,7 @@ const ASKING: [(&[&str], Task); 11] = [
                 budget: 5,
             },
             seed: None,
+            workers: 0,
         },
     ),
     (
@@ -223,9 +225,9 @@ const ASKING: [(&[&str], Task); 11] = [
                 budget: 1_000_000,
             },
             seed: Some(18446744073709551615),
+            workers: 0,
         },
     ),
-    // On one thread there are no workers.
     (
         &["run", "--workers=2"],
         Task::Run {
@@ -234,6 +236,7 @@ const ASKING: [(&[&str], Task); 11] = [
                 budget: 1_000_000,
             },
             seed: None,
+            workers: 2,
         },
     ),
     (&["check"], Task::Check),

@@ -1,11 +1,13 @@
 use Rattle.std.specs.Io.KnownBytes.{IsAtEnd}
 use Rattle.outside.specs.Counts.{Rose}
-use Rattle.estelle_cli.proofs.Traces.{written_trace, written_cause, always}
+use Rattle.estelle_cli.specs.Answers.{Always}
+use Rattle.estelle_cli.proofs.Traces.{stopped_executed, written_trace, written_cause, always}
 use Rattle.estelle_cli.proofs.program.traced.Goals as goal
 
 pub returns-in-Ok-clause-trace : goal.returns-in-Ok-clause-trace
-returns-in-Ok-clause-trace g c =
-    written_trace c.args.limits c.args.seed _ _ c.in-Ok.checked c.executed-ran.result.0 c.written.result c.in-Ok.ensures.found c.executed-ran.ensures.stopped c.written.ensures.trace
+returns-in-Ok-clause-trace g c = λ workers.
+    written_trace Always c.args.limits c.args.seed _ workers _ c.in-Ok.checked c.executed-ran.result.0 c.written.result c.in-Ok.ensures.found
+    (stopped_executed Always c.args.limits c.args.seed _ workers _ c.executed-ran.result.0 c.executed-ran.ensures.stopped) c.written.ensures.trace
 
 pub returns-in-Ok-clause-by_clock : goal.returns-in-Ok-clause-by_clock
 returns-in-Ok-clause-by_clock g c =

@@ -1,7 +1,6 @@
 use Rattle.outside.specs.Choices.{any_drawn}
 use Rattle.run_counts.proofs.Within.{scheduled_outputs}
 use Rattle.estelle_cli.proofs.Ranges.{has_room_for_outputs}
-use Rattle.estelle_cli.proofs.Traces.{stopped_tried}
 use Rattle.estelle_cli.proofs.trial.trial_line.Goals as goal
 
 pub counts_line-requires : goal.counts_line-requires
