@@ -25,15 +25,16 @@ cat >"$folder/refuse.c" <<'END'
 extern void *__libc_malloc(size_t size);
 extern void *__libc_realloc(void *block, size_t size);
 
+/* The first request comes before there are threads. */
 static int is_refused(void) {
-    static unsigned long left;
+    static long left;
     static int is_read;
     if (!is_read) {
         const char *text = getenv("REFUSED");
-        left = text ? strtoul(text, 0, 10) : 0;
+        left = text ? strtol(text, 0, 10) : 0;
         is_read = 1;
     }
-    return left > 0 && --left == 0 && write(9, "x", 1) == 1;
+    return __atomic_fetch_sub(&left, 1, __ATOMIC_SEQ_CST) == 1 && write(9, "x", 1) == 1;
 }
 
 void *malloc(size_t size) { return is_refused() ? 0 : __libc_malloc(size); }
@@ -55,13 +56,22 @@ call() {
     REFUSED=$refused LD_PRELOAD=$folder/refuse.so "$program" "$@" <"$folder/input" >"$folder/out" 2>"$folder/err" 9>"$folder/told"
 }
 
+# What puts the lines of an output in order, where workers write them in any.
+order=cat
+
+# is_whole: the last call wrote what it writes where nothing is refused
+is_whole() {
+    $order "$folder/out" >"$folder/now"
+    cmp -s "$folder/now" "$folder/whole.out" && cmp -s "$folder/err" "$folder/whole.err"
+}
+
 # refuse NAME WORD..: each request of this run in turn
 refuse() {
     name=$1
     shift
     call 0 "$@"
     whole=$?
-    mv "$folder/out" "$folder/whole.out"
+    $order "$folder/out" >"$folder/whole.out"
     mv "$folder/err" "$folder/whole.err"
     number=1
     wants=0
@@ -71,7 +81,7 @@ refuse() {
         [ -s "$folder/told" ] || break
         if [ "$status" -eq 6 ] && [ ! -s "$folder/out" ] && cmp -s "$folder/err" "$folder/line"; then
             wants=$((wants + 1))
-        elif [ "$status" -ne "$whole" ] || ! cmp -s "$folder/out" "$folder/whole.out" || ! cmp -s "$folder/err" "$folder/whole.err"; then
+        elif [ "$status" -ne "$whole" ] || ! is_whole; then
             failed=$((failed + 1))
             echo "FAILED: $name, request $number: status $status (wanted 6 or $whole), err '$(head -c 200 "$folder/err")'"
         fi
@@ -99,6 +109,9 @@ example counter run
 example release run
 example alternating_bit run --turns=8
 example sort run --turns=8
+order=sort
+example primes run --turns=8 --workers=2
+order=cat
 "$program" run <"$top/examples/counter.est" >"$folder/trace"
 cat "$top/examples/counter.est" "$folder/trace" >"$folder/input"
 refuse 'replay of counter' replay

@@ -42,7 +42,6 @@ body_code code
 trace_replay replay
 estelle_words clap
 estelle_words --name=N
-estelle_words --workers
 estelle_cli run
 estelle_cli check
 estelle_cli show

@@ -59,13 +59,11 @@ pub fn write_all<'b, 'a, R: Wait>(rt: &R, hand: Hand<'b, Log<'a>>, count: u64) -
 }
 
 /// The two passes of a board, taken out of their list.
-pub fn take_two<'a>(
-    board: &Board<Log<'a>>,
-    passes: &mut Vec<Pass<Log<'a>>>,
-) -> (Pass<Log<'a>>, Pass<Log<'a>>)
+pub fn take_two<V: Recorded>(board: &Board<V>, passes: &mut Vec<Pass<V>>) -> (Pass<V>, Pass<V>)
     requires { AreAllOf board.now passes.old.items × (map number_of passes.old.items ≡ 1 ∷ 2 ∷ []) }
     ensures board { IsOf board.now result.0 × IsOf board.now result.1 × IsIdle result.0 × IsIdle result.1 }
     ensures numbers { (number_of result.0 ≡ 1) × (number_of result.1 ≡ 2) }
+    ensures both { passes.old.items ≡ result.0 ∷ result.1 ∷ [] }
     ensures rest { (passes.new.items ≡ []) × (2 ≤ vec_capacity passes.new) }
 {
     let second = passes.pop().unwrap();
@@ -74,16 +72,16 @@ pub fn take_two<'a>(
 }
 
 /// Closes a board with its two passes, which come back to their list.
-pub fn close_two<'a>(
-    board: Board<Log<'a>>,
-    mut passes: Vec<Pass<Log<'a>>>,
-    first: Pass<Log<'a>>,
-    second: Pass<Log<'a>>,
-) -> Log<'a>
+pub fn close_two<V: Recorded>(
+    board: Board<V>,
+    mut passes: Vec<Pass<V>>,
+    first: Pass<V>,
+    second: Pass<V>,
+) -> V
     requires board { IsOf board first × IsOf board second × IsIdle first × IsIdle second }
     requires all { (number_of first ≡ 1) × (number_of second ≡ 2) × (passes_of board ≡ 2) }
     requires rest { (passes.items ≡ []) × (2 ≤ vec_capacity passes) }
-    ensures title { result.title.now ≡ (first_of board.entry).title.now }
+    ensures base { V.base result ≡ V.base (first_of board) }
 {
     passes.push_reserved(first);
     passes.push_reserved(second);

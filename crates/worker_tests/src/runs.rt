@@ -42,7 +42,13 @@ fn lines_with(text: &[u8], start: &[u8]) -> usize {
 #[test]
 fn worked_texts_by_workers(rt: HostRuntime) -> Result<(), Fail> {
     for worked in &WORKED {
-        let Ok(plain) = call(&rt, rt.alloc(), &["run", "--turns=100"], worked.text.as_bytes(), &FreeGate) else {
+        let Ok(plain) = call(
+            &rt,
+            rt.alloc(),
+            &["run", "--turns=100"],
+            worked.text.as_bytes(),
+            &FreeGate,
+        ) else {
             return Err(Fail::new("memory"));
         };
         for number in ["1", "2", "3", "4"] {

@@ -5,7 +5,7 @@ use Rattle.board_tests.proofs.Numbers.{both}
 use Rattle.board_tests.proofs.writing.close_two.Goals as goal
 
 pub close-requires : goal.close-requires
-close-requires c = let all = c.requires.all in
+close-requires g c = let all = c.requires.all in
     let two : c.push_reserved-2.new.self.items ≡ c.args.first ∷ c.args.second ∷ [] = search rules in
     record {
       of_board = search rules;
