@@ -10,7 +10,7 @@ ghost use Rattle.board_runner.specs.Turns.{IsToCommit};
 ghost use Rattle.board_workers.specs.Jobs.{IsSamePass, HasJob, HasWork};
 
 use crate::gate::Gate;
-use crate::news::News;
+use crate::news::{News, Waits};
 use crate::turns::{ask, give, hand_in};
 use board_runner::{RunBoard, RunPass, Work};
 use board_threads::Labour;
@@ -32,19 +32,15 @@ pub(crate) struct Crew<'p, 'q, 'g, G> {
     pub(crate) alloc: Global,
 }
 
-// How often in a row a worker meets others on its way to a turn before it rests: then bodies are so short that turns are what is wanted, and
-// more workers only make them dearer.
-const CROWDS: u32 = 3;
+// How many units a short block has at most. It takes no longer than a turn, so that turns are what is wanted, and another worker only makes
+// them dearer.
+const SHORT: u32 = 16;
 
-/// What a worker was told in its last turn, and how much news there was before it.
+/// What a worker was told in its last turn, and what it waits for if that is nothing to do.
 #[derive(Drop)]
 struct Told {
     work: Work,
-    heard: u64,
-    /// How often in a row it met others on its way to a turn.
-    crowds: u32,
-    /// Whether it waits for more news first.
-    rests: bool,
+    waits: Waits,
 }
 
 impl<G: Gate> Crew<'_, '_, '_, G> {
@@ -68,27 +64,20 @@ impl<G: Gate> Crew<'_, '_, '_, G> {
         board: &RunBoard<'a, C, H>,
         pass: &mut RunPass<'a, C, H>,
         done: Done,
-        crowds: u32,
     ) -> Option<Told>
         requires free { IsFree board.now pass.old }
         requires its { IsToCommit (own pass.old) done }
         ensures same { IsSamePass pass.old pass.new }
         ensures has { IfSome result (λ told. HasWork (own pass.new) told.work) }
     {
-        let heard = self.news.heard();
-        let work = hand_in(rt, self.alloc, board, pass, done);
-        self.news.go();
-        Some(Told {
-            work: work?,
-            heard,
-            crowds,
-            rests: false,
-        })
+        let waits = self.news.before_idling();
+        let work = hand_in(rt, self.alloc, board, pass, done)?;
+        Some(Told { work, waits })
     }
 
     // Commits a firing, and rests, unless the run has ended. There is no answer for want of memory.
     //
-    // Who rests has told one who sleeps, if there is one, who then asks; else others are awake, and will have a turn behind this one.
+    // Where all others rest too, one is awake that does not, and has a turn yet. One that found this firing under way hears the bell.
     fn rest_behind<'a, C: Clock, H: Chooser + Drop, R: Wait>(
         &self,
         rt: &R,
@@ -101,18 +90,20 @@ impl<G: Gate> Crew<'_, '_, '_, G> {
         ensures same { IsSamePass pass.old pass.new }
         ensures has { IfSome result (λ told. HasWork (own pass.new) told.work) }
     {
-        let committed = give(rt, self.alloc, board, pass, done);
-        self.news.go();
-        let rests = match committed? {
-            Committed::Fired => true,
-            Committed::Faulted => false,
-            Committed::Late(_) => false,
+        let waits = self.news.before_resting();
+        let waits = match give(rt, self.alloc, board, pass, done)? {
+            Committed::Fired => waits,
+            Committed::Faulted => Waits::Nothing,
+            Committed::Late(_) => Waits::Nothing,
         };
+        self.news.hand_over();
+        match waits {
+            Waits::Nothing => self.news.wake(),
+            waits => self.news.wait_for(rt, waits),
+        }
         Some(Told {
             work: Work::Moved,
-            heard: self.news.hand_over(),
-            crowds: 0,
-            rests,
+            waits: Waits::Nothing,
         })
     }
 
@@ -123,7 +114,6 @@ impl<G: Gate> Crew<'_, '_, '_, G> {
         board: &RunBoard<'a, C, H>,
         pass: &mut RunPass<'a, C, H>,
         job: Job,
-        crowds: u32,
     ) -> Option<Told>
         requires free { IsFree board.now pass.old }
         requires code { self.now.code.now ≡ subject_of (own pass.old).base }
@@ -133,16 +123,13 @@ impl<G: Gate> Crew<'_, '_, '_, G> {
     {
         // What else is pending is for another.
         self.news.call();
+        let budget = job.budget;
         let done = self.compute(rt, job)?;
-        let crowds = if self.news.come() {
-            crowds.saturating_add(1)
-        } else {
-            0
-        };
-        if crowds < CROWDS {
-            self.go_on_behind(rt, board, pass, done, crowds)
-        } else {
+        let is_short = budget.saturating_sub(done.left) <= SHORT;
+        if self.news.rests_behind(is_short) {
             self.rest_behind(rt, board, pass, done)
+        } else {
+            self.go_on_behind(rt, board, pass, done)
         }
     }
 
@@ -152,22 +139,14 @@ impl<G: Gate> Crew<'_, '_, '_, G> {
         rt: &R,
         board: &RunBoard<'a, C, H>,
         pass: &mut RunPass<'a, C, H>,
-        crowds: u32,
     ) -> Option<Told>
         requires { IsFree board.now pass.old }
         ensures same { IsSamePass pass.old pass.new }
         ensures has { IfSome result (λ told. HasWork (own pass.new) told.work) }
     {
-        let heard = self.news.heard();
-        let _crowded = self.news.come();
-        let work = ask(rt, self.alloc, board, pass);
-        self.news.go();
-        Some(Told {
-            work: work?,
-            heard,
-            crowds,
-            rests: false,
-        })
+        let waits = self.news.before_idling();
+        let work = ask(rt, self.alloc, board, pass)?;
+        Some(Told { work, waits })
     }
 
     // Where there is nothing, memory was missing: the others are told to stop.
@@ -197,24 +176,18 @@ impl<G: Gate> Crew<'_, '_, '_, G> {
         if self.news.has_failed() {
             return None;
         }
-        let Told {
-            work,
-            heard,
-            crowds,
-            rests,
-        } = told;
-        if rests {
-            self.news.wait_past(rt, heard);
-        }
+        let Told { work, waits } = told;
         match work {
-            Work::Job(job) => self.or_give_up(self.perform(rt, board, pass, job, crowds)),
-            Work::Moved => self.or_give_up(self.inquire(rt, board, pass, crowds)),
-            Work::Idle(_) => Some(Told {
-                work: Work::Moved,
-                heard,
-                crowds: 0,
-                rests: true,
-            }),
+            Work::Job(job) => self.or_give_up(self.perform(rt, board, pass, job)),
+            Work::Moved => self.or_give_up(self.inquire(rt, board, pass)),
+            Work::Idle(_) => {
+                self.news.leave();
+                self.news.wait_for(rt, waits);
+                Some(Told {
+                    work: Work::Moved,
+                    waits: Waits::Nothing,
+                })
+            }
             Work::Ended(_) => {
                 self.news.tell();
                 None
@@ -232,11 +205,10 @@ impl<'a, C: Clock, H: Chooser + Drop, G: Gate> Labour<World<'a, C, H>> for Crew<
         board: &Board<World<'a, C, H>>,
         pass: &mut Pass<World<'a, C, H>>,
     ) {
+        self.news.wake();
         let mut told = Told {
             work: Work::Moved,
-            heard: 0,
-            crowds: 0,
-            rests: false,
+            waits: Waits::Nothing,
         };
         for _ in rt.forever() {
             match self.go_on(rt, board, pass, told) {
